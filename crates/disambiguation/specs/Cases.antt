@@ -1,0 +1,94 @@
+-- Document 01's marked cases as one table of what is given and what is answered. Assumes nothing.
+use Prim.Native.Nat.{ℕ}
+use mathlib.Core.Path.{_≡_}
+use mathlib.Core.List.{List, [], _∷_, _++_}
+use mathlib.Core.Option.{Option, some}
+use Rattle.expression.specs.Refusal.{accepted, dead, double, noRow, noTree}
+use Rattle.expression.specs.Token.{class}
+use Rattle.expression.specs.Tree.{Tree, yield, recordOf}
+use Rattle.expression.specs.Decode.{treeOf}
+use Rattle.expression.specs.Checks.{rowNumber, recordNumber}
+use Rattle.disambiguation.specs.Rules.{Rule, priority, left, right, R}
+use Rattle.disambiguation.specs.Conflicts.{conflictCount, ConflictFreeTree}
+use Rattle.disambiguation.specs.SheetChecks.{rulesOf, sheetNumber}
+use Rattle.disambiguation.specs.Repair.{repair}
+
+-- n and the rule bytes
+pub record Sheet : Type 0 where
+  pub n : ℕ
+  pub bytes : List ℕ
+
+pub data Case : Type 0 where
+  -- a row and the record of its conflict-free tree
+  built : Sheet → List ℕ → List ℕ → Case
+  -- a record and the record that repair makes of it
+  repaired : Sheet → List ℕ → List ℕ → Case
+  -- a record and its conflict count
+  counted : Sheet → List ℕ → ℕ → Case
+  -- a row, a record, a sheet, and its number
+  row : Sheet → List ℕ → ℕ → Case
+  tree : Sheet → List ℕ → ℕ → Case
+  sheet : Sheet → ℕ → Case
+
+abbrev rules : Sheet → List Rule
+rules s = rulesOf (s .bytes)
+
+-- t is the tree that the record is of
+abbrev Records : Sheet → List ℕ → Tree → Type 0
+Records s bytes t = (recordNumber (s .n) bytes ≡ accepted) × (treeOf (class (s .n)) bytes ≡ some t)
+
+-- What a line of the table claims.
+abbrev pub Holds : Case → Type 0
+Holds (built s tokens answer) =
+    (rowNumber (s .n) tokens ≡ accepted) × ((t : Tree) × Records s answer t × ConflictFreeTree (s .n) (rules s) tokens t)
+Holds (repaired s bytes answer) =
+    (t : Tree) × (u : Tree) × Records s bytes t × Records s answer u × ConflictFreeTree (s .n) (rules s) (yield t) u × (repair (R (rules s)) t ≡ u)
+Holds (counted s bytes number) = (t : Tree) × Records s bytes t × (conflictCount (rules s) t ≡ number)
+Holds (row s tokens number) = rowNumber (s .n) tokens ≡ number
+Holds (tree s bytes number) = recordNumber (s .n) bytes ≡ number
+Holds (sheet s number) = sheetNumber (s .n) (s .bytes) ≡ number
+
+-- Sheet A: two operators, 01 over 00, each left with itself.
+abbrev pub sheetA : Sheet
+sheetA = record { n = 2; bytes = priority ∷ 1 ∷ 0 ∷ left ∷ 1 ∷ 1 ∷ left ∷ 0 ∷ 0 ∷ [] }
+
+-- n = 1 without rules, and with 00 left and right of itself
+abbrev pub undecided : Sheet
+undecided = record { n = 1; bytes = [] }
+
+abbrev pub excluded : Sheet
+excluded = record { n = 1; bytes = left ∷ 0 ∷ 0 ∷ right ∷ 0 ∷ 0 ∷ [] }
+
+abbrev pub empty : Sheet
+empty = record { n = 0; bytes = [] }
+
+-- n = 3, each left with itself, 00 over 01, 01 over 02, 02 over 00
+abbrev pub round : Sheet
+round = record {
+  n = 3;
+  bytes =
+      left ∷ 0 ∷ 0 ∷ left ∷ 1 ∷ 1 ∷ left ∷ 2 ∷ 2
+      ∷ priority ∷ 0 ∷ 1 ∷ priority ∷ 1 ∷ 2 ∷ priority ∷ 2 ∷ 0 ∷ [];
+}
+
+-- The cases 1 to 12.
+abbrev pub table : List Case
+table =
+    built sheetA (0x80 ∷ []) (0x80 ∷ [])
+    ∷ built sheetA (0x80 ∷ 0 ∷ 0x81 ∷ 1 ∷ 0x82 ∷ []) (0 ∷ 0x80 ∷ 1 ∷ 0x81 ∷ 0x82 ∷ [])
+    ∷ built sheetA (0x80 ∷ 1 ∷ 0x81 ∷ 0 ∷ 0x82 ∷ []) (0 ∷ 1 ∷ 0x80 ∷ 0x81 ∷ 0x82 ∷ [])
+    ∷ built sheetA (0x80 ∷ 0 ∷ 0x81 ∷ 0 ∷ 0x82 ∷ []) (0 ∷ 0 ∷ 0x80 ∷ 0x81 ∷ 0x82 ∷ [])
+    ∷ built sheetA (0x20 ∷ 0x80 ∷ 0 ∷ 0x81 ∷ 0x21 ∷ 1 ∷ 0x82 ∷ []) (1 ∷ 0x20 ∷ 0 ∷ 0x80 ∷ 0x81 ∷ 0x82 ∷ [])
+    ∷ repaired sheetA (1 ∷ 0 ∷ 0x80 ∷ 0x81 ∷ 0x82 ∷ []) (0 ∷ 0x80 ∷ 1 ∷ 0x81 ∷ 0x82 ∷ [])
+    ∷ counted sheetA (1 ∷ 0 ∷ 0x80 ∷ 0x81 ∷ 0x82 ∷ []) 1
+    ∷ row sheetA [] noRow
+    ∷ row sheetA (0x80 ∷ 0x81 ∷ []) noRow
+    ∷ row sheetA (0x20 ∷ 0x21 ∷ []) noRow
+    ∷ tree sheetA [] noTree
+    ∷ tree sheetA (0 ∷ 0x80 ∷ []) noTree
+    ∷ tree sheetA (0x80 ∷ 0x81 ∷ []) noTree
+    ∷ sheet undecided double
+    ∷ sheet excluded dead
+    ∷ sheet empty accepted
+    ∷ sheet round double
+    ∷ []

@@ -1,0 +1,26 @@
+-- The conflict count of a tree, and a row's conflict-free trees. Assumes nothing.
+use Prim.Native.Nat.{ℕ, _+_}
+use mathlib.Core.Path.{_≡_}
+use mathlib.Core.Bool.{Bool}
+use mathlib.Core.List.{List}
+use Rattle.expression.specs.Lists.{count}
+use Rattle.expression.specs.Token.{class}
+use Rattle.expression.specs.Tree.{Tree, reading, bracket, binary, yield, Over}
+use Rattle.disambiguation.specs.Rules.{Rule, L, R}
+use Rattle.disambiguation.specs.Edges.{seenFromRight, seenFromLeft}
+
+-- The number of pairs of a node and a side that show an excluded pattern, where L and R say which are excluded.
+abbrev pub conflicts : (ℕ → ℕ → Bool) → (ℕ → ℕ → Bool) → Tree → ℕ
+conflicts L R (reading a) = 0
+conflicts L R (bracket t) = conflicts L R t
+conflicts L R (binary o l r) = count (L o) (seenFromRight l) + count (R o) (seenFromLeft r) + (conflicts L R l + conflicts L R r)
+
+-- the conflict count under a sheet's rules
+abbrev pub conflictCount : List Rule → Tree → ℕ
+conflictCount rules = conflicts (L rules) (R rules)
+
+-- A row's conflict-free tree under a sheet: a tree over its n operators, with that yield and conflict count 0.
+pub record ConflictFreeTree (n : ℕ) (rules : List Rule) (row : List ℕ) (t : Tree) : Type 0 where
+  pub over : Over (class n) t
+  pub yields : yield t ≡ row
+  pub free : conflictCount rules t ≡ 0

@@ -1,0 +1,9 @@
+pub mod Rules
+pub mod Edges
+pub mod Conflicts
+pub mod ExactlyOne
+pub mod Below
+pub mod Verdict
+pub mod SheetChecks
+pub mod Repair
+pub mod Cases

@@ -1,0 +1,33 @@
+-- The verdict on a sheet's rules, computed. Operator a stands left of b in a row: R(a,b) makes a close before b, and L(b,a) makes a yield to b. Assumes nothing.
+use Prim.Native.Nat.{ℕ}
+use mathlib.Core.Bool.{Bool, true, false, not, _&&_, _||_, cond}
+use mathlib.Core.List.{List, [], _∷_}
+use Rattle.expression.specs.Refusal.{Check, first, dead, double}
+use Rattle.disambiguation.specs.Rules.{Rule, L, R}
+use Rattle.disambiguation.specs.Below.{allBelow, allPairs}
+
+-- For relations L and R over the operators below n.
+module _ (n : ℕ) (L R : ℕ → ℕ → Bool) where
+  -- no pair is excluded both ways
+  unfoldable pub safe : Bool
+  safe = allPairs n (λ a b. not (R a b && L b a))
+
+  -- every pair is excluded one way at least
+  unfoldable pub total : Bool
+  total = allPairs n (λ a b. R a b || L b a)
+
+-- all that p holds of below n, q holds of
+unfoldable pub within : ℕ → (ℕ → Bool) → (ℕ → Bool) → Bool
+within n p q = allBelow n (λ c. not (p c) || q c)
+
+-- for each pair, what one of them closes before, the other does too: b's if a closes before b, else a's
+unfoldable pub level : ℕ → (ℕ → ℕ → Bool) → Bool
+level n R = allPairs n (λ a b. cond (R a b) (within n (R b) (R a)) (within n (R a) (R b)))
+
+-- 4 and 5, in this order
+abbrev pub ruleChecks : ℕ → (ℕ → ℕ → Bool) → (ℕ → ℕ → Bool) → List Check
+ruleChecks n L R = (not (safe n L R), dead) ∷ (not (total n L R && level n R), double) ∷ []
+
+-- The number of a sheet for its rules: 4, 5 or 0.
+unfoldable pub verdict : ℕ → List Rule → ℕ
+verdict n rules = first (ruleChecks n (L rules) (R rules))

@@ -1,0 +1,9 @@
+pub mod Lists
+pub mod Limits
+pub mod Refusal
+pub mod Token
+pub mod Tree
+pub mod Grammar
+pub mod RowTest
+pub mod Decode
+pub mod Checks

@@ -1,0 +1,23 @@
+-- The lengths and counts that document 01 fixes, each named once. Assumes nothing.
+use Prim.Native.Nat.{ℕ, _*_}
+
+-- a sheet's operators: the count n is 0 to 32
+abbrev pub mostOperators : ℕ
+mostOperators = 32
+
+-- a sheet's rules, and their bytes
+abbrev pub mostRules : ℕ
+mostRules = 2048
+
+abbrev pub bytesOfRule : ℕ
+bytesOfRule = 3
+
+abbrev pub mostRuleBytes : ℕ
+mostRuleBytes = bytesOfRule * mostRules
+
+-- a row's tokens, and a record's bytes
+abbrev pub mostTokens : ℕ
+mostTokens = 255
+
+abbrev pub mostRecordBytes : ℕ
+mostRecordBytes = 255

@@ -1,0 +1,43 @@
+-- The numbers of document 01's table of turned-down calls, and "the first that applies". Assumes nothing.
+use Prim.Native.Nat.{ℕ}
+use mathlib.Core.Bool.{Bool, cond}
+use mathlib.Core.List.{List, [], _∷_}
+
+-- success
+abbrev pub accepted : ℕ
+accepted = 0
+
+abbrev pub oversize : ℕ
+oversize = 1
+
+abbrev pub torn : ℕ
+torn = 2
+
+abbrev pub stranger : ℕ
+stranger = 3
+
+abbrev pub dead : ℕ
+dead = 4
+
+abbrev pub double : ℕ
+double = 5
+
+-- document 01's "no row"
+abbrev pub noRow : ℕ
+noRow = 6
+
+-- document 01's "no tree"
+abbrev pub noTree : ℕ
+noTree = 7
+
+abbrev pub short : ℕ
+short = 10
+
+-- One line of a call's list: whether it applies, and its number.
+abbrev pub Check : Type 0
+Check = Bool × ℕ
+
+-- Document 01's "the first that applies, from left to right"; 0 where none applies.
+abbrev pub first : List Check → ℕ
+first [] = accepted
+first (c ∷ cs) = cond (c .0) (c .1) (first cs)

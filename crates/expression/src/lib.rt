@@ -1,0 +1,1 @@
+// Tokens, trees, records and rows: definitions in specs/, theorems in proofs/. No function.
