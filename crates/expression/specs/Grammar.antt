@@ -4,20 +4,21 @@ use mathlib.Core.Path.{_≡_}
 use mathlib.Core.List.{List, [], _∷_, _++_}
 use Rattle.expression.specs.Token.{Class, Infix, Reading, opening, closing, class}
 
+-- Each constructor ends with what the tokens are.
 mutual
   -- An operand is a reading, or 20, expression, 21.
   pub data Operand (k : ℕ → Class) : List ℕ → Type 0 where
-    single : {c : ℕ} → k c ≡ Reading → Operand k (c ∷ [])
-    bracketed : {tokens : List ℕ} → Expression k tokens → Operand k (opening ∷ tokens ++ (closing ∷ []))
+    single : {tokens : List ℕ} (c : ℕ) → k c ≡ Reading → tokens ≡ c ∷ [] → Operand k tokens
+    bracketed : {tokens : List ℕ} (inner : List ℕ) → Expression k inner → tokens ≡ opening ∷ inner ++ (closing ∷ []) → Operand k tokens
 
   -- An expression is an operand, then any number of operator and operand.
   pub data Expression (k : ℕ → Class) : List ℕ → Type 0 where
-    operand-then : {tokens rest : List ℕ} → Operand k tokens → Tail k rest → Expression k (tokens ++ rest)
+    operand-then : {tokens : List ℕ} (head rest : List ℕ) → Operand k head → Tail k rest → tokens ≡ head ++ rest → Expression k tokens
 
   -- any number of operator and operand
   pub data Tail (k : ℕ → Class) : List ℕ → Type 0 where
-    end : Tail k []
-    operator-then : {o : ℕ} {tokens rest : List ℕ} → k o ≡ Infix → Operand k tokens → Tail k rest → Tail k (o ∷ tokens ++ rest)
+    end : {tokens : List ℕ} → tokens ≡ [] → Tail k tokens
+    operator-then : {tokens : List ℕ} (o : ℕ) (head rest : List ℕ) → k o ≡ Infix → Operand k head → Tail k rest → tokens ≡ o ∷ head ++ rest → Tail k tokens
 
 -- A row over the operators of a sheet with n of them: a list of tokens that is one expression.
 abbrev pub Row : ℕ → List ℕ → Type 0

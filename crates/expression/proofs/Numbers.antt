@@ -1,0 +1,103 @@
+-- When a row and a record are accepted, in the terms of rows and trees. Assumes nothing.
+use Prim.Native.Nat.{ℕ, _≤_}
+use native.Mathlib.Omega.{arith}
+use mathlib.Core.Path.{_≡_, refl, ap, sym, _∙_}
+use mathlib.Core.Bool.{Bool, true, false, cond, true≢false}
+use mathlib.Core.Logic.{_↔_}
+use mathlib.Core.Option.{Option, none, some}
+use mathlib.Core.List.{List, [], _∷_, _++_}
+use lib.ListN.{length}
+use borrow.Author.Tests.{ltb-false, le-ltb, not-false}
+use Rattle.expression.specs.Lists.{All}
+use Rattle.expression.specs.Limits.{mostTokens, mostRecordBytes}
+use Rattle.expression.specs.Refusal.{Check, first, accepted}
+use Rattle.expression.specs.Token.{class}
+use Rattle.expression.specs.Tree.{Tree, yield, recordOf, Over}
+use Rattle.expression.specs.Grammar.{Row}
+use Rattle.expression.specs.RowTest.{isRow}
+use Rattle.expression.specs.Decode.{treeOf}
+use Rattle.expression.specs.Checks.{isNone, rowTokens, rowChecks, recordChecks, rowNumber, recordNumber}
+use Rattle.expression.proofs.Classes.{brackets}
+use Rattle.expression.proofs.RecordsAndTrees.{treeOf-record, record-treeOf}
+use Rattle.expression.proofs.RowTestDecides.{isRow-exactly-if-row}
+use Rattle.expression.proofs.Strangers.{row-has-no-stranger, record-has-no-stranger}
+
+-- no number of the list is 0
+abbrev Numbered : List Check → Type 0
+Numbered cs = All (λ c. c .1 ≡ accepted → ⊥) cs
+
+-- none of the checks applies
+abbrev pub Passed : List Check → Type 0
+Passed cs = All (λ c. c .0 ≡ false) cs
+
+pub first-passed : (cs : List Check) → Passed cs → first cs ≡ accepted
+first-passed [] h = refl
+first-passed (c ∷ cs) h = rw (h .0) (first-passed cs (h .1))
+
+pub passed-first : (cs : List Check) → Numbered cs → first cs ≡ accepted → Passed cs
+passed-first [] n e = tt
+passed-first (c ∷ cs) n e = go (c .0) refl (passed-first cs (n .1)) e
+  where
+    go : (b : Bool) → c .0 ≡ b → (first cs ≡ accepted → Passed cs) → cond b (c .1) (first cs) ≡ accepted → Passed (c ∷ cs)
+    go true h f e = absurd (n .0 e)
+    go false h f e = (h, f e)
+
+-- a list and what comes after it
+pub first-append : (cs ds : List Check) → Passed cs → first (cs ++ ds) ≡ first ds
+first-append [] ds h = refl
+first-append (c ∷ cs) ds h = rw (h .0) (first-append cs ds (h .1))
+
+module _ (n : ℕ) where
+  row-numbered : (tokens : List ℕ) → Numbered (rowChecks n tokens)
+  row-numbered tokens = (λ e. omega arith, (λ e. omega arith, (λ e. omega arith, tt)))
+
+  record-numbered : (bytes : List ℕ) → Numbered (recordChecks n bytes)
+  record-numbered bytes = (λ e. omega arith, (λ e. omega arith, (λ e. omega arith, (λ e. omega arith, tt))))
+
+  -- A row is accepted exactly if it is within the length and is a row over the n operators.
+  pub row-accepted : (tokens : List ℕ) → (rowNumber n tokens ≡ accepted) ↔ ((length tokens ≤ mostTokens) × Row n tokens)
+  unfolding rowNumber
+  row-accepted tokens = (
+    λ e.
+        let (a, (b, (c, _))) = passed-first (rowChecks n tokens) (row-numbered tokens) e in
+        (ltb-false mostTokens (length tokens) a, isRow-exactly-if-row n tokens .0 (not-false (isRow (class n) tokens) c)),
+    λ h.
+        let e = isRow-exactly-if-row n tokens .1 (h .1) in
+        first-passed (rowChecks n tokens) (le-ltb mostTokens (length tokens) (h .0), (row-has-no-stranger (class n) tokens e, (rw e, tt))),
+  )
+
+  -- The bytes are the record of t, a tree over the n operators, and it and its row are within the lengths.
+  pub record Recorded (bytes : List ℕ) (t : Tree) : Type 0 where
+    pub over : Over (class n) t
+    pub recorded : recordOf t ≡ bytes
+    pub bytes-fit : length bytes ≤ mostRecordBytes
+    pub tokens-fit : length (yield t) ≤ mostTokens
+
+  is-some : (o : Option Tree) → isNone o ≡ false → (t : Tree) × (o ≡ some t)
+  is-some none e = absurd (true≢false e)
+  is-some (some t) e = (t, refl)
+
+  -- A record is accepted exactly if it is so recorded of some tree.
+  pub record-accepted : (bytes : List ℕ) → (recordNumber n bytes ≡ accepted) ↔ ((t : Tree) × Recorded bytes t)
+  unfolding recordNumber
+  record-accepted bytes = (
+    λ e.
+        let (a, (b, (c, (d, _)))) = passed-first (recordChecks n bytes) (record-numbered bytes) e in
+        let (t, q) = is-some (treeOf (class n) bytes) c in
+        let (r, h) = record-treeOf (class n) (brackets n) bytes t q in (
+          t,
+          record {
+            over = h;
+            recorded = r;
+            bytes-fit = ltb-false mostRecordBytes (length bytes) a;
+            tokens-fit = rw (ap rowTokens q) at (ltb-false mostTokens (rowTokens (treeOf (class n) bytes)) d);
+          },
+        ),
+    λ h.
+        let (t, r) = h in
+        let q = ap (treeOf (class n)) (sym (r .recorded)) ∙ treeOf-record (class n) (brackets n) t (r .over) in
+        first-passed (recordChecks n bytes) (
+          le-ltb mostRecordBytes (length bytes) (r .bytes-fit),
+          (record-has-no-stranger (class n) bytes t q, (rw q, (rw q (le-ltb mostTokens (length (yield t)) (r .tokens-fit)), tt))),
+        ),
+  )
