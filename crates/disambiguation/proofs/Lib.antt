@@ -1,1 +1,12 @@
+pub mod Free
+pub mod Conditions
+pub mod LeftToRight
+pub mod Follows
+pub mod Unique
+pub mod Insertion
+pub mod FewOperators
+pub mod Converse
+pub mod BelowLaws
+pub mod TestsDecide
+pub mod VerdictDecides
 pub mod Cases

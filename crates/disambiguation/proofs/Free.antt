@@ -1,0 +1,69 @@
+-- Conflict-free as a statement, node by node, and what is known of edges. Assumes nothing.
+use Prim.Native.Nat.{ℕ}
+use native.Mathlib.Omega.{arith}
+use mathlib.Core.Path.{_≡_, refl, ap, sym, _∙_}
+use mathlib.Core.Bool.{Bool, true, false}
+use mathlib.Core.List.{List, [], _∷_}
+use Rattle.expression.specs.Lists.{one, count, All}
+use Rattle.expression.specs.Token.{Class}
+use Rattle.expression.specs.Tree.{Tree, reading, bracket, binary, Over}
+use Rattle.disambiguation.specs.Edges.{rightEdge, leftEdge, seenFromRight, seenFromLeft}
+use Rattle.disambiguation.specs.Conflicts.{conflicts}
+
+pub is-false : (b : Bool) → (b ≡ true → ⊥) → b ≡ false
+is-false true h = absurd (h refl)
+is-false false h = refl
+
+pub is-true : (b : Bool) → (b ≡ false → ⊥) → b ≡ true
+is-true true h = refl
+is-true false h = absurd (h refl)
+
+-- what holds of every number holds of those in a list; and one by one from two lists of facts
+pub all : {P : ℕ → Type 0} → ((x : ℕ) → P x) → (xs : List ℕ) → All P xs
+all f [] = tt
+all f (x ∷ xs) = (f x, all f xs)
+
+pub all-map : {P Q S : ℕ → Type 0} → ((x : ℕ) → P x → Q x → S x) → (xs : List ℕ) → All P xs → All Q xs → All S xs
+all-map f [] h g = tt
+all-map f (x ∷ xs) h g = (f x (h .0) (g .0), all-map f xs (h .1) (g .1))
+
+-- p holds of none of them
+abbrev pub None : (ℕ → Bool) → List ℕ → Type 0
+None p xs = All (λ x. p x ≡ false) xs
+
+one-zero : (b : Bool) → one b ≡ 0 → b ≡ false
+one-zero true h = absurd (omega arith)
+one-zero false h = refl
+
+none-of-count : (p : ℕ → Bool) (xs : List ℕ) → count p xs ≡ 0 → None p xs
+none-of-count p [] h = tt
+none-of-count p (x ∷ xs) h = (one-zero (p x) (omega arith), none-of-count p xs (omega arith))
+
+count-of-none : (p : ℕ → Bool) (xs : List ℕ) → None p xs → count p xs ≡ 0
+count-of-none p [] h = refl
+count-of-none p (x ∷ xs) h = rw (h .0, count-of-none p xs (h .1))
+
+module _ (L R : ℕ → ℕ → Bool) where
+  -- no node shows an excluded pattern on either side
+  abbrev pub Free : Tree → Type 0
+  Free (reading a) = Unit {0}
+  Free (bracket t) = Free t
+  Free (binary o l r) = None (L o) (seenFromRight l) × None (R o) (seenFromLeft r) × Free l × Free r
+
+  pub free-of-count : (t : Tree) → conflicts L R t ≡ 0 → Free t
+  free-of-count (reading a) h = tt
+  free-of-count (bracket t) h = free-of-count t h
+  free-of-count (binary o l r) h =
+      (none-of-count (L o) (seenFromRight l) (omega arith), none-of-count (R o) (seenFromLeft r) (omega arith), free-of-count l (omega arith), free-of-count r (omega arith))
+
+  pub count-of-free : (t : Tree) → Free t → conflicts L R t ≡ 0
+  count-of-free (reading a) h = refl
+  count-of-free (bracket t) h = count-of-free t h
+  count-of-free (binary o l r) h =
+      rw (count-of-none (L o) (seenFromRight l) (h .0), count-of-none (R o) (seenFromLeft r) (h .1), count-of-free l (h .2), count-of-free r (h .3))
+
+-- what is seen of an edge is on the edge
+pub seen-on-edge : (P : ℕ → Type 0) (t : Tree) → All P (rightEdge t) → All P (seenFromRight t)
+seen-on-edge P (reading a) h = tt
+seen-on-edge P (bracket t) h = tt
+seen-on-edge P (binary o l r) h = (h .0, tt)
