@@ -1,5 +1,8 @@
--- Document 01's marked cases hold of the definitions, by computation. Assumes nothing.
+-- Document 01's marked cases, and the cases against misreadings, hold of the definitions, by computation. Assumes nothing.
+use Prim.Native.Nat.{ℕ}
+use native.Mathlib.Omega.{arith}
 use mathlib.Core.Path.{_≡_, refl}
+use mathlib.Core.List.{List, [], _∷_}
 use Rattle.expression.specs.Lists.{All}
 use Rattle.expression.specs.Token.{class}
 use Rattle.expression.specs.Tree.{Tree, reading, bracket, binary}
@@ -8,43 +11,94 @@ use Rattle.expression.specs.Decode.{treeOf}
 use Rattle.expression.specs.Checks.{rowNumber, recordNumber}
 use Rattle.disambiguation.specs.Rules.{L, R}
 use Rattle.disambiguation.specs.Below.{allBelow}
+use Rattle.disambiguation.specs.Conflicts.{ConflictFreeTree}
 use Rattle.disambiguation.specs.Verdict.{safe, total, within, level}
-use Rattle.disambiguation.specs.SheetChecks.{sheetNumber}
-use Rattle.disambiguation.specs.Cases.{Case, built, Holds, Sheet, sheetA, table}
+use Rattle.disambiguation.specs.SheetChecks.{rulesOf, sheetNumber}
+use Rattle.disambiguation.specs.ExactlyOne.{HasTwo}
+use Rattle.disambiguation.specs.Cases.{Case, Holds, Sheet, sheetA, round, table}
+use Rattle.disambiguation.specs.Misreadings.{misreadings}
+
+abbrev w : Tree
+w = reading 0x80
 
 abbrev x : Tree
-x = reading 0x80
+x = reading 0x81
 
 abbrev y : Tree
-y = reading 0x81
+y = reading 0x82
 
 abbrev z : Tree
-z = reading 0x82
+z = reading 0x83
+
+-- a line and the lines after it
+infixr 10 _next_
+abbrev _next_ : {A B : Type 0} → A → B → A × B
+a next b = (a, b)
 
 pub cases-hold : All Holds table
 unfolding class isRow treeOf rowNumber recordNumber L R allBelow safe total within level sheetNumber
-cases-hold = (
-  (refl, (x, (refl, refl), record { over = refl; yields = refl; free = refl })),
-  (
-    (refl, (binary 0 x (binary 1 y z), (refl, refl), record { over = (refl, refl, (refl, refl, refl)); yields = refl; free = refl })),
-    (
-      (refl, (binary 0 (binary 1 x y) z, (refl, refl), record { over = (refl, (refl, refl, refl), refl); yields = refl; free = refl })),
-      (
-        (refl, (binary 0 (binary 0 x y) z, (refl, refl), record { over = (refl, (refl, refl, refl), refl); yields = refl; free = refl })),
-        (
-          (refl, (binary 1 (bracket (binary 0 x y)) z, (refl, refl), record { over = (refl, (refl, refl, refl), refl); yields = refl; free = refl })),
-          (
-            (binary 1 (binary 0 x y) z, binary 0 x (binary 1 y z), (refl, refl), (refl, refl), record { over = (refl, refl, (refl, refl, refl)); yields = refl; free = refl }, refl),
-            (
-              (binary 1 (binary 0 x y) z, (refl, refl), refl),
-              (
-                refl,
-                (refl, (refl, (refl, (refl, (refl, (refl, (refl, (refl, (refl, tt))))))))),
-              ),
-            ),
-          ),
-        ),
-      ),
-    ),
-  ),
+cases-hold =
+    (refl, (w, (refl, refl), record { over = refl; yields = refl; free = refl }))
+    next (refl, (binary 0 w (binary 1 x y), (refl, refl), record { over = (refl, refl, (refl, refl, refl)); yields = refl; free = refl }))
+    next (refl, (binary 0 (binary 1 w x) y, (refl, refl), record { over = (refl, (refl, refl, refl), refl); yields = refl; free = refl }))
+    next (refl, (binary 0 (binary 0 w x) y, (refl, refl), record { over = (refl, (refl, refl, refl), refl); yields = refl; free = refl }))
+    next (refl, (binary 1 (bracket (binary 0 w x)) y, (refl, refl), record { over = (refl, (refl, refl, refl), refl); yields = refl; free = refl }))
+    next (
+      binary 1 (binary 0 w x) y,
+      binary 0 w (binary 1 x y),
+      (refl, refl),
+      (refl, refl),
+      record { over = (refl, refl, (refl, refl, refl)); yields = refl; free = refl },
+      refl,
+    )
+    next (binary 1 (binary 0 w x) y, (refl, refl), refl)
+    next refl next refl next refl
+    next refl next refl next refl
+    next refl next refl next refl next refl
+    next tt
+
+pub misreadings-hold : All Holds misreadings
+unfolding class isRow treeOf rowNumber recordNumber L R allBelow safe total within level sheetNumber
+misreadings-hold =
+    (binary 0 w (binary 1 x y), (refl, refl), refl)
+    next (binary 0 (binary 1 w x) y, (refl, refl), refl)
+    next (binary 1 w (binary 0 x y), (refl, refl), refl)
+    next (binary 1 (binary 0 w x) y, (refl, refl), refl)
+    next (binary 0 (binary 1 w x) y, (refl, refl), refl)
+    next (binary 0 w (binary 1 x y), (refl, refl), refl)
+    next (binary 1 w (binary 0 x y), (refl, refl), refl)
+    next (binary 0 (binary 1 w x) y, (refl, refl), refl)
+    next (binary 0 w (binary 1 x y), (refl, refl), refl)
+    next (binary 0 (binary 1 w x) (binary 1 y z), (refl, refl), refl)
+    next (binary 1 (binary 0 w x) (binary 0 y z), (refl, refl), refl)
+    next refl next refl next refl
+    next (binary 1 (bracket (binary 0 w x)) y, (refl, refl), refl)
+    next (
+      binary 1 (bracket (binary 0 w x)) y,
+      binary 1 (bracket (binary 0 w x)) y,
+      (refl, refl),
+      (refl, refl),
+      record { over = (refl, (refl, refl, refl), refl); yields = refl; free = refl },
+      refl,
+    )
+    next (binary 0 (binary 1 (binary 0 w x) y) z, (refl, refl), refl)
+    next (
+      binary 1 (binary 1 (binary 0 w x) y) z,
+      binary 0 w (binary 1 (binary 1 x y) z),
+      (refl, refl),
+      (refl, refl),
+      record { over = (refl, refl, (refl, (refl, refl, refl), refl)); yields = refl; free = refl },
+      refl,
+    )
+    next tt
+
+-- Case 12 settles every pair, yet this row has two trees.
+pub round-has-two : HasTwo (round .n) (rulesOf (round .bytes)) (0x80 ∷ 0 ∷ 0x81 ∷ 1 ∷ 0x82 ∷ 2 ∷ 0x83 ∷ [])
+unfolding class L R
+round-has-two = (
+  binary 2 (binary 1 (binary 0 w x) y) z,
+  binary 0 w (binary 2 (binary 1 x y) z),
+  record { over = (refl, (refl, (refl, refl, refl), refl), refl); yields = refl; free = refl },
+  record { over = (refl, refl, (refl, (refl, refl, refl), refl)); yields = refl; free = refl },
+  λ e. let clash : _≡_ {A = ℕ} 0 1 = cc in omega arith,
 )

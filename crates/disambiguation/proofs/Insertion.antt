@@ -42,7 +42,7 @@ module _ (closes : ℕ → ℕ → Bool) where
     over-insert l o (binary p m r) hl ho h = by-cond (Over k) (closes o p) (λ e. (h .0, over-insert l o m hl ho (h .1), h .2)) (λ e. (ho, hl, h))
 
     mutual
-      over-insertAll : (t : Tree) (o : ℕ) (u : Tree) → Over k t → k o ≡ Infix → Over k u → Over k (insertAll closes t o u)
+      pub over-insertAll : (t : Tree) (o : ℕ) (u : Tree) → Over k t → k o ≡ Infix → Over k u → Over k (insertAll closes t o u)
       over-insertAll (reading a) o u ht ho hu = over-insert (reading a) o u ht ho hu
       over-insertAll (bracket t) o u ht ho hu = over-insert (bracket (repair closes t)) o u (over-repair t ht) ho hu
       over-insertAll (binary p l r) o u ht ho hu = over-insertAll l p (insertAll closes r o u) (ht .1) (ht .0) (over-insertAll r o u (ht .2) ho hu)

@@ -9,4 +9,7 @@ pub mod Converse
 pub mod BelowLaws
 pub mod TestsDecide
 pub mod VerdictDecides
+pub mod SheetNumbers
+pub mod Agreement
+pub mod Accepted
 pub mod Cases

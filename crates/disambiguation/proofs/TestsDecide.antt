@@ -22,7 +22,7 @@ not-both true true e p q = false≢true e
 not-both true false e p q = false≢true q
 not-both false b e p q = false≢true p
 
-neither : (a b : Bool) → (a || b) ≡ false → (a ≡ false) × (b ≡ false)
+pub neither : (a b : Bool) → (a || b) ≡ false → (a ≡ false) × (b ≡ false)
 neither true b e = absurd (true≢false e)
 neither false b e = (refl, e)
 
@@ -49,7 +49,7 @@ module _ (n : ℕ) where
   takes-below : (b : ℕ) → takes (class n b) ≡ true → b < n
   takes-below = operator-below n takes refl refl refl refl
 
-  infix-below : (b : ℕ) → class n b ≡ Infix → b < n
+  pub infix-below : (b : ℕ) → class n b ≡ Infix → b < n
   infix-below b h = waits-below b (ap waits h)
 
   module _ (L R : ℕ → ℕ → Bool) where

@@ -7,3 +7,4 @@ pub mod Verdict
 pub mod SheetChecks
 pub mod Repair
 pub mod Cases
+pub mod Misreadings

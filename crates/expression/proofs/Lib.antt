@@ -6,3 +6,4 @@ pub mod RowTestDecides
 pub mod Lengths
 pub mod Strangers
 pub mod Numbers
+pub mod Examples

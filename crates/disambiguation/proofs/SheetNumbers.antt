@@ -1,0 +1,40 @@
+-- The number of a sheet in bytes: in order it is the verdict on its rules, and so 4, 5 and 0 exactly if. Assumes nothing.
+use Prim.Native.Nat.{ℕ, _≤_}
+use mathlib.Core.Path.{_≡_, refl, ap, sym, _∙_}
+use mathlib.Core.Bool.{Bool, true, false, _||_, true≢false}
+use mathlib.Core.Logic.{_↔_}
+use mathlib.Core.List.{List}
+use lib.Dec.{ltb}
+use lib.ListN.{length}
+use borrow.Author.Tests.{ltb-false}
+use Rattle.expression.specs.Limits.{mostOperators, mostRuleBytes}
+use Rattle.expression.specs.Refusal.{accepted, dead, double}
+use Rattle.expression.proofs.Numbers.{Passed, first-append}
+use Rattle.disambiguation.specs.Rules.{Rule, L, R}
+use Rattle.disambiguation.specs.ExactlyOne.{SomeRowHasNone, EveryRowHasOne, SomeRowHasTwo, EveryRowHasExactlyOne}
+use Rattle.disambiguation.specs.Verdict.{ruleChecks, verdict}
+use Rattle.disambiguation.specs.SheetChecks.{rulesOf, orderChecks, sheetNumber}
+use Rattle.disambiguation.proofs.TestsDecide.{neither}
+use Rattle.disambiguation.proofs.VerdictDecides.{dead-exactly-if, double-exactly-if, accepted-exactly-if}
+
+module _ (n : ℕ) (bytes : List ℕ) where
+  -- A sheet's bytes are in order if 1, 2 and 3 don't apply.
+  abbrev pub InOrder : Type 0
+  InOrder = Passed (orderChecks n bytes)
+
+  module _ (order : InOrder) where
+    pub operators-fit : n ≤ mostOperators
+    operators-fit = ltb-false mostOperators n ((neither (ltb mostOperators n) (ltb mostRuleBytes (length bytes)) (order .0)) .0)
+
+    pub sheetNumber-verdict : sheetNumber n bytes ≡ verdict n (rulesOf bytes)
+    unfolding sheetNumber verdict
+    sheetNumber-verdict = first-append (orderChecks n bytes) (ruleChecks n (L (rulesOf bytes)) (R (rulesOf bytes))) order
+
+    pub sheet-dead-exactly-if : (sheetNumber n bytes ≡ dead) ↔ SomeRowHasNone n (rulesOf bytes)
+    sheet-dead-exactly-if = rw sheetNumber-verdict (dead-exactly-if n (rulesOf bytes) operators-fit)
+
+    pub sheet-double-exactly-if : (sheetNumber n bytes ≡ double) ↔ (EveryRowHasOne n (rulesOf bytes) × SomeRowHasTwo n (rulesOf bytes))
+    sheet-double-exactly-if = rw sheetNumber-verdict (double-exactly-if n (rulesOf bytes) operators-fit)
+
+    pub sheet-accepted-exactly-if : (sheetNumber n bytes ≡ accepted) ↔ EveryRowHasExactlyOne n (rulesOf bytes)
+    sheet-accepted-exactly-if = rw sheetNumber-verdict (accepted-exactly-if n (rulesOf bytes) operators-fit)
