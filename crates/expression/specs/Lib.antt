@@ -1,9 +1,11 @@
 pub mod Lists
 pub mod Limits
 pub mod Refusal
+pub mod Lent
 pub mod Token
 pub mod Tree
 pub mod Grammar
 pub mod RowTest
 pub mod Decode
 pub mod Checks
+pub mod Operand
