@@ -1,0 +1,164 @@
+-- What each way through the reading of rules gives, from what is known on it. Assumes nothing.
+use mathlib.Core.Path.{_≡_, refl, sym, ap, _∙_}
+use mathlib.Core.Bool.{Bool, true, false, not, _&&_, _||_, cond, false≢true, or-true}
+use mathlib.Core.List.{List, [], _∷_}
+use Prim.Native.Nat.{ℕ, zero, suc, _+_, _*_, _%_, _^_, _<_, _≤_}
+use native.Mathlib.Numerals.{add-one, add-two, add-three}
+use native.Mathlib.Omega.{arith}
+use borrow.Author.Tests.{lt-ltb, le-ltb, eq-eqb, ne-eqb, ltb-true}
+use borrow.Author.Needs.{needs}
+use mir.Val.{Fits}
+use mir.Syntax.{w64}
+use lib.Bits.{bitOr}
+use lib.Dec.{eqb, ltb}
+use lib.ListN.{length, getD, drop, set, length-drop}
+use lib.Seq.{drop-cons}
+use Rattle.expression.specs.Lists.{any}
+use Rattle.disambiguation.specs.Rules.{Rule, rule, priority, left, right}
+use Rattle.disambiguation.specs.SheetChecks.{rulesOf, strangeRule}
+use Rattle.sheet.specs.Marking.{marked, marksR, marksL, marksAll, Takes, Reads}
+use Rattle.sheet.proofs.Bits.{one-shifted}
+
+-- ---- is_strange
+module _ (n k a b : ℕ) where
+  pub kind-low : k < 1 → true ≡ strangeRule n (rule k a b)
+  kind-low h = simp (lt-ltb k 1 h)
+
+  pub kind-high : 1 ≤ k → 3 < k → true ≡ strangeRule n (rule k a b)
+  kind-high l h = simp (le-ltb k 1 l, lt-ltb 3 k h)
+
+  pub first-strange : 1 ≤ k → k ≤ 3 → n ≤ a → true ≡ strangeRule n (rule k a b)
+  first-strange l h p = simp (le-ltb k 1 l, le-ltb 3 k h, le-ltb a n p)
+
+  pub second-strange : 1 ≤ k → k ≤ 3 → a < n → n ≤ b → true ≡ strangeRule n (rule k a b)
+  second-strange l h p q = simp (le-ltb k 1 l, le-ltb 3 k h, lt-ltb a n p, le-ltb b n q)
+
+  pub in-order : 1 ≤ k → k ≤ 3 → a < n → b < n → false ≡ strangeRule n (rule k a b)
+  in-order l h p q = simp (le-ltb k 1 l, le-ltb 3 k h, lt-ltb a n p, lt-ltb b n q)
+
+pub ruleset strange-ways = (kind-low, kind-high, first-strange, second-strange, in-order, needs)
+
+-- ---- excludes
+pub by-priority : (k side : ℕ) → k ≡ 1 → true ≡ (eqb k priority || eqb k side)
+by-priority k side e = simp (eq-eqb k 1 e)
+
+pub by-side : (k side : ℕ) → (k ≡ 1 → ⊥) → eqb k side ≡ (eqb k priority || eqb k side)
+by-side k side e = simp (ne-eqb k 1 e)
+
+pub ruleset excludes-ways = (by-priority, by-side, needs)
+
+-- ---- mark
+pub mark-on : (t : List ℕ) (a b : ℕ) (on : Bool) → b < 32 → on ≡ true → set t a (bitOr (getD t a 0) ((1 * 2 ^ b) % 2 ^ 32)) ≡ marked t a b on
+unfolding marked
+mark-on t a b on h e = simp (e, one-shifted b 32 h)
+
+pub mark-off : (t : List ℕ) (a b : ℕ) (on : Bool) → on ≡ false → t ≡ marked t a b on
+unfolding marked
+mark-off t a b on e = simp e
+
+pub ruleset mark-ways = (mark-on, mark-off, needs)
+
+-- ---- take_rule
+last-two : (p q x y : Bool) → (p || q || x || y) ≡ false → (x ≡ false) × (y ≡ false)
+last-two p q true true e = absurd (false≢true (sym e ∙ simp or-true))
+last-two p q true false e = absurd (false≢true (sym e ∙ simp or-true))
+last-two p q false true e = absurd (false≢true (sym e ∙ simp or-true))
+last-two p q false false e = (refl, refl)
+
+ltb-from : (a n : ℕ) → not (ltb a n) ≡ false → a < n
+ltb-from a n e = ltb-true a n (go (ltb a n) e)
+  where
+    go : (p : Bool) → not p ≡ false → p ≡ true
+    go true e = refl
+    go false e = absurd (false≢true (sym e))
+
+module _ {r : Bool} (n k a b : ℕ) (few : n ≤ 32) (s : r ≡ strangeRule n (rule k a b)) (not-strange : r ≡ false) where
+  pub first-below : a < 32
+  first-below =
+      let e = last-two (ltb k 1) (ltb 3 k) (not (ltb a n)) (not (ltb b n)) (sym s ∙ not-strange) in
+      let h : a < n = ltb-from a n (e .0) in omega arith
+
+  pub second-below : b < 32
+  second-below =
+      let e = last-two (ltb k 1) (ltb 3 k) (not (ltb a n)) (not (ltb b n)) (sym s ∙ not-strange) in
+      let h : b < n = ltb-from b n (e .1) in omega arith
+
+pub take-strange : {r : Bool} (n k a b : ℕ) (t u : List ℕ) → r ≡ strangeRule n (rule k a b) → r ≡ true → Takes n (rule k a b) t u t u true
+take-strange n k a b t u s e = record {
+  strange = sym e ∙ s;
+  excludes-right = λ f. absurd (false≢true (sym f));
+  excludes-left = λ f. absurd (false≢true (sym f));
+}
+
+pub take-marked : {r p q : Bool} (n k a b : ℕ) (t u t′ u′ : List ℕ) → r ≡ strangeRule n (rule k a b) → r ≡ false
+    → p ≡ (eqb k priority || eqb k left) → t′ ≡ marked t a b p → q ≡ (eqb k priority || eqb k right) → u′ ≡ marked u b a q
+    → Takes n (rule k a b) t u t′ u′ false
+unfolding marksR marksL
+take-marked n k a b t u t′ u′ s e p m q w = record {
+  strange = sym e ∙ s;
+  excludes-right = λ f. m ∙ ap (marked t a b) p;
+  excludes-left = λ f. w ∙ ap (marked u b a) q;
+}
+
+pub ruleset take-ways = (first-below, second-below, take-strange, take-marked, needs)
+
+-- ---- read
+-- What is left of the bytes at a place says the rest.
+pub record Left (n : ℕ) (bytes t u : List ℕ) (i : ℕ) (t′ u′ : List ℕ) : Type 0 where
+  pub strange : any (strangeRule n) (rulesOf bytes) ≡ any (strangeRule n) (rulesOf (drop i bytes))
+  pub excludes-right : marksAll marksR (rulesOf bytes) t ≡ marksAll marksR (rulesOf (drop i bytes)) t′
+  pub excludes-left : marksAll marksL (rulesOf bytes) u ≡ marksAll marksL (rulesOf (drop i bytes)) u′
+
+abbrev ruleAt : List ℕ → ℕ → Rule
+ruleAt bytes i = rule (getD bytes i 0) (getD bytes (i + 1) 0) (getD bytes (i + 2) 0)
+
+rules-more : (bytes : List ℕ) (i : ℕ) → i + 3 ≤ length bytes → rulesOf (drop i bytes) ≡ ruleAt bytes i ∷ rulesOf (drop (i + 3) bytes)
+rules-more bytes i h =
+    let d : drop i bytes ≡ getD bytes i 0 ∷ getD bytes (i + 1) 0 ∷ getD bytes (i + 2) 0 ∷ drop (i + 3) bytes =
+    drop-cons bytes i 0 (omega arith)
+    ∙ rw (add-one, add-two, add-three, drop-cons bytes (suc i) 0 (omega arith), drop-cons bytes (suc (suc i)) 0 (omega arith)) refl in
+    ap rulesOf d
+
+rules-none : (bytes : List ℕ) (i : ℕ) → length bytes < i + 3 → rulesOf (drop i bytes) ≡ []
+rules-none bytes i h = short (drop i bytes) (rw length-drop (omega arith))
+  where
+    short : (s : List ℕ) → length s < 3 → rulesOf s ≡ []
+    short [] l = refl
+    short (x ∷ []) l = refl
+    short (x ∷ y ∷ []) l = refl
+    short (x ∷ y ∷ z ∷ s) l = absurd (omega arith)
+
+pub left-all : (n : ℕ) (bytes t u : List ℕ) → Left n bytes t u 0 t u
+left-all n bytes t u = record { strange = refl; excludes-right = refl; excludes-left = refl }
+
+pub left-more : {r : Bool} (n : ℕ) (bytes t u t₁ u₁ t₂ u₂ : List ℕ) (i : ℕ) → i + 3 ≤ length bytes → Left n bytes t u i t₁ u₁
+    → Takes n (ruleAt bytes i) t₁ u₁ t₂ u₂ r → r ≡ false → Left n bytes t u (i + 3) t₂ u₂
+unfolding marksAll
+left-more n bytes t u t₁ u₁ t₂ u₂ i h l k e = record {
+  strange = l .strange ∙ ap (any (strangeRule n)) (rules-more bytes i h) ∙ ap (λ (p : Bool). p || any (strangeRule n) (rulesOf (drop (i + 3) bytes))) (sym (k .strange) ∙ e);
+  excludes-right =
+      l .excludes-right ∙ ap (λ (rs : List Rule). marksAll marksR rs t₁) (rules-more bytes i h)
+      ∙ ap (marksAll marksR (rulesOf (drop (i + 3) bytes))) (sym (k .excludes-right e));
+  excludes-left =
+      l .excludes-left ∙ ap (λ (rs : List Rule). marksAll marksL rs u₁) (rules-more bytes i h)
+      ∙ ap (marksAll marksL (rulesOf (drop (i + 3) bytes))) (sym (k .excludes-left e));
+}
+
+pub left-strange : {r : Bool} (n : ℕ) (bytes t u t₁ u₁ t₂ u₂ : List ℕ) (i : ℕ) → i + 3 ≤ length bytes → Left n bytes t u i t₁ u₁
+    → Takes n (ruleAt bytes i) t₁ u₁ t₂ u₂ r → r ≡ true → Reads n bytes t u t₂ u₂ true
+left-strange n bytes t u t₁ u₁ t₂ u₂ i h l k e = record {
+  strange =
+      sym (l .strange ∙ ap (any (strangeRule n)) (rules-more bytes i h) ∙ ap (λ (p : Bool). p || any (strangeRule n) (rulesOf (drop (i + 3) bytes))) (sym (k .strange) ∙ e));
+  excludes-right = λ f. absurd (false≢true (sym f));
+  excludes-left = λ f. absurd (false≢true (sym f));
+}
+
+pub left-none : (n : ℕ) (bytes t u t₁ u₁ : List ℕ) (i : ℕ) → length bytes < i + 3 → Left n bytes t u i t₁ u₁ → Reads n bytes t u t₁ u₁ false
+unfolding marksAll
+left-none n bytes t u t₁ u₁ i h l = record {
+  strange = sym (l .strange ∙ ap (any (strangeRule n)) (rules-none bytes i h));
+  excludes-right = λ f. sym (l .excludes-right ∙ ap (λ (rs : List Rule). marksAll marksR rs t₁) (rules-none bytes i h));
+  excludes-left = λ f. sym (l .excludes-left ∙ ap (λ (rs : List Rule). marksAll marksL rs u₁) (rules-none bytes i h));
+}
+
+pub ruleset read-ways = (left-all, left-more, left-strange, left-none, needs)

@@ -1,0 +1,70 @@
+-- Operations on words under a mask decide the tests of sets, and these the tests of a relation. Assumes nothing.
+use mathlib.Core.Path.{_≡_, refl, sym, ap, ap₂, _∙_}
+use mathlib.Core.Bool.{Bool, true, false, not, _&&_, _||_}
+use mathlib.Core.List.{List}
+use Prim.Native.Nat.{ℕ, _-_, _^_, _<_, _≤_}
+use native.Mathlib.Nat.{lt-of-lt-of-le}
+use borrow.Author.Tests.{lt-ltb}
+use lib.Bits.{bitAnd, bitOr, or-lt}
+use lib.Dec.{eqb}
+use lib.ListN.{getD}
+use Rattle.disambiguation.specs.Verdict.{within}
+use Rattle.sheet.specs.Relation.{bitOf, closesIn, turned}
+use Rattle.sheet.specs.Tests.{noneInBoth, eachInOne, safeFor, totalFor}
+use Rattle.sheet.proofs.Below.{all-same}
+use Rattle.sheet.proofs.Bits.{bit-and, bit-or, bit-not, masked-clear}
+
+not-not : (p : Bool) → not (not p) ≡ p
+not-not true = refl
+not-not false = refl
+
+not-but : (p q : Bool) → not (p && not q) ≡ (not p || q)
+not-but true q = not-not q
+not-but false q = refl
+
+-- no bit below n in both words
+pub both-masked : (n x y : ℕ) → eqb (bitAnd (bitAnd x y) (2 ^ n - 1)) 0 ≡ noneInBoth n (bitOf x) (bitOf y)
+unfolding noneInBoth
+both-masked n x y = masked-clear n (bitAnd x y) ∙ all-same _ _ n (λ c l. ap not (bit-and x y c))
+
+-- In words of w bits.
+module _ (w n x y : ℕ) (fits : n ≤ w) where
+  -- each bit below n in one of the words
+  pub one-masked : x < 2 ^ w → y < 2 ^ w → eqb (bitAnd ((2 ^ w - 1) - bitOr x y) (2 ^ n - 1)) 0 ≡ eachInOne n (bitOf x) (bitOf y)
+  unfolding eachInOne
+  one-masked hx hy =
+      masked-clear n ((2 ^ w - 1) - bitOr x y)
+      ∙ all-same _ _ n
+      (λ c l. ap not (bit-not w (bitOr x y) c (or-lt w x y hx hy) (lt-of-lt-of-le l fits) ∙ ap not (bit-or x y c)) ∙ not-not (bitOf x c || bitOf y c))
+
+  -- each bit below n of x in y
+  pub within-masked : y < 2 ^ w → eqb (bitAnd (bitAnd x ((2 ^ w - 1) - y)) (2 ^ n - 1)) 0 ≡ within n (bitOf x) (bitOf y)
+  unfolding within
+  within-masked hy =
+      masked-clear n (bitAnd x ((2 ^ w - 1) - y))
+      ∙ all-same _ _ n
+      (λ c l. ap not (bit-and x ((2 ^ w - 1) - y) c ∙ ap (λ (p : Bool). bitOf x c && p) (bit-not w y c hy (lt-of-lt-of-le l fits))) ∙ not-but (bitOf x c) (bitOf y c))
+
+-- the relation at two operators is a bit
+pub closes-bit : (t : List ℕ) (a b : ℕ) → a < 32 → b < 32 → closesIn t a b ≡ bitOf (getD t a 0) b
+unfolding closesIn
+closes-bit t a b h k = rw (lt-ltb a 32 h, lt-ltb b 32 k)
+
+-- The tests of a relation, of the words of one operator or two.
+module _ (n : ℕ) (t u : List ℕ) (few : n ≤ 32) (a : ℕ) (h : a < n) where
+  bits : (t : List ℕ) (b : ℕ) → b < n → bitOf (getD t a 0) b ≡ closesIn t a b
+  bits t b l = sym (closes-bit t a b (lt-of-lt-of-le h few) (lt-of-lt-of-le l few))
+
+  pub safe-by-words : noneInBoth n (bitOf (getD t a 0)) (bitOf (getD u a 0)) ≡ safeFor n (turned (closesIn u)) (closesIn t) a
+  unfolding safeFor noneInBoth
+  safe-by-words = all-same _ _ n (λ b l. ap₂ (λ (p q : Bool). not (p && q)) (bits t b l) (bits u b l))
+
+  pub total-by-words : eachInOne n (bitOf (getD t a 0)) (bitOf (getD u a 0)) ≡ totalFor n (turned (closesIn u)) (closesIn t) a
+  unfolding totalFor eachInOne
+  total-by-words = all-same _ _ n (λ b l. ap₂ (λ (p q : Bool). p || q) (bits t b l) (bits u b l))
+
+pub within-by-words : (n : ℕ) (t : List ℕ) (a b : ℕ) → n ≤ 32 → a < n → b < n
+    → within n (bitOf (getD t a 0)) (bitOf (getD t b 0)) ≡ within n (closesIn t a) (closesIn t b)
+unfolding within
+within-by-words n t a b few ha hb =
+    all-same _ _ n (λ c l. ap₂ (λ (p q : Bool). not p || q) (bits n t t few a ha t c l) (bits n t t few b hb t c l))

@@ -1,0 +1,14 @@
+use Rattle.sheet.proofs.Testing.{closes-before-ways}
+use Rattle.sheet.proofs.closes_before.Statement.{statement}
+use Rattle.sheet.proofs.closes_before.Tie as tie
+
+pub closes-before-spec : {M : Type 1} → statement M
+closes-before-spec =
+    tie.close
+    (tie.spec
+    (λ c. search closes-before-ways)
+    (λ c. search closes-before-ways)
+    (λ c. search closes-before-ways)
+    (λ c. search closes-before-ways)
+    (λ c κs. search closes-before-ways)
+    (λ c. search closes-before-ways))

@@ -1,0 +1,13 @@
+use Rattle.sheet.proofs.Reading.{strange-ways}
+use Rattle.sheet.proofs.rules.is_strange.Statement.{statement}
+use Rattle.sheet.proofs.rules.is_strange.Tie as tie
+
+pub is-strange-spec : {M : Type 1} → statement M
+is-strange-spec =
+    tie.close
+    (tie.spec
+    (λ c. search strange-ways)
+    (λ c. search strange-ways)
+    (λ c. search strange-ways)
+    (λ c. search strange-ways)
+    (λ c. search strange-ways))

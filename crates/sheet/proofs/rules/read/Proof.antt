@@ -1,0 +1,33 @@
+use Prim.Native.Nat.{_-_, _≤_}
+use lib.ListN.{length}
+use Rattle.sheet.proofs.Reading.{Left}
+use native.Mathlib.Omega.{arith}
+use Rattle.sheet.proofs.Reading.{read-ways}
+use Rattle.sheet.proofs.rules.read.Statement.{statement}
+use Rattle.sheet.proofs.rules.read.Tie as tie
+
+abbrev Inv-loop : tie.InvT-loop
+Inv-loop n rules closes₀ yields₀ i₀ closes yields i = (i ≤ length rules) × Left n rules closes₀ yields₀ i closes yields
+
+abbrev μ-loop : tie.MeasureT-loop
+μ-loop n rules closes₀ yields₀ i₀ closes yields i = length rules - i
+
+pub read-spec : {M : Type 1} → statement M
+read-spec =
+    tie.close
+    (tie.spec
+    Inv-loop
+    μ-loop
+    (λ c. (omega arith, search read-ways))
+    (λ c. omega arith)
+    (λ c. omega arith)
+    (λ c. omega arith)
+    (λ c. omega arith)
+    (λ c. omega arith)
+    (λ c. omega arith)
+    (λ c κs. search read-ways)
+    (λ c. search read-ways)
+    (λ c. omega arith)
+    (λ c. omega arith)
+    (λ c. (omega arith, search (read-ways, c .if1 .left, c .before .take-rule .ensures, c .before .before .before .before .before .before .before .loop-test .taken, c .before .before .before .before .before .before .before .before .loop .inv .1)))
+    (λ c. search read-ways))

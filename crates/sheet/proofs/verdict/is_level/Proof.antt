@@ -1,0 +1,30 @@
+use mathlib.Core.Path.{_≡_}
+use mathlib.Core.Bool.{true}
+use Prim.Native.Nat.{_-_, _≤_}
+use Rattle.disambiguation.specs.Below.{allBelow}
+use Rattle.sheet.specs.Relation.{closesIn}
+use Rattle.sheet.specs.Tests.{levelFor}
+use native.Mathlib.Omega.{arith}
+use Rattle.sheet.proofs.Testing.{level-ways}
+use Rattle.sheet.proofs.verdict.is_level.Statement.{statement}
+use Rattle.sheet.proofs.verdict.is_level.Tie as tie
+
+abbrev Inv-loop : tie.InvT-loop
+Inv-loop n relation a₀ a = (a ≤ n) × (allBelow a (levelFor n (closesIn relation)) ≡ true)
+
+abbrev μ-loop : tie.MeasureT-loop
+μ-loop n relation a₀ a = n - a
+
+pub is-level-spec : {M : Type 1} → statement M
+is-level-spec =
+    tie.close
+    (tie.spec
+    Inv-loop
+    μ-loop
+    (λ c. (omega arith, search level-ways))
+    (λ c κs. search level-ways)
+    (λ c. search level-ways)
+    (λ c. omega arith)
+    (λ c. omega arith)
+    (λ c. (omega arith, search level-ways))
+    (λ c. search level-ways))

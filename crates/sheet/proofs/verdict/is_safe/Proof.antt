@@ -1,0 +1,34 @@
+use mathlib.Core.Path.{_≡_}
+use mathlib.Core.Bool.{true}
+use Prim.Native.Nat.{_-_, _≤_}
+use Rattle.disambiguation.specs.Below.{allBelow}
+use Rattle.sheet.specs.Relation.{closesIn, turned}
+use Rattle.sheet.specs.Tests.{safeFor}
+use native.Mathlib.Omega.{arith}
+use Rattle.sheet.proofs.Testing.{safe-ways}
+use Rattle.sheet.proofs.verdict.is_safe.Statement.{statement}
+use Rattle.sheet.proofs.verdict.is_safe.Tie as tie
+
+abbrev Inv-loop : tie.InvT-loop
+Inv-loop n closes yields a₀ a = (a ≤ n) × (allBelow a (safeFor n (turned (closesIn yields)) (closesIn closes)) ≡ true)
+
+abbrev μ-loop : tie.MeasureT-loop
+μ-loop n closes yields a₀ a = n - a
+
+pub is-safe-spec : {M : Type 1} → statement M
+is-safe-spec =
+    tie.close
+    (tie.spec
+    Inv-loop
+    μ-loop
+    (λ c. (omega arith, search safe-ways))
+    (λ c. omega arith)
+    (λ c. omega arith)
+    (λ c. omega arith)
+    (λ c. omega arith)
+    (λ c κs. search safe-ways)
+    (λ c. search safe-ways)
+    (λ c. omega arith)
+    (λ c. omega arith)
+    (λ c. (omega arith, search safe-ways))
+    (λ c. search safe-ways))

@@ -1,0 +1,34 @@
+use mathlib.Core.Path.{_≡_}
+use mathlib.Core.Bool.{true}
+use Prim.Native.Nat.{_-_, _≤_}
+use Rattle.disambiguation.specs.Below.{allBelow}
+use Rattle.sheet.specs.Relation.{closesIn, turned}
+use Rattle.sheet.specs.Tests.{totalFor}
+use native.Mathlib.Omega.{arith}
+use Rattle.sheet.proofs.Testing.{total-ways}
+use Rattle.sheet.proofs.verdict.is_total.Statement.{statement}
+use Rattle.sheet.proofs.verdict.is_total.Tie as tie
+
+abbrev Inv-loop : tie.InvT-loop
+Inv-loop n closes yields a₀ a = (a ≤ n) × (allBelow a (totalFor n (turned (closesIn yields)) (closesIn closes)) ≡ true)
+
+abbrev μ-loop : tie.MeasureT-loop
+μ-loop n closes yields a₀ a = n - a
+
+pub is-total-spec : {M : Type 1} → statement M
+is-total-spec =
+    tie.close
+    (tie.spec
+    Inv-loop
+    μ-loop
+    (λ c. (omega arith, search total-ways))
+    (λ c. omega arith)
+    (λ c. omega arith)
+    (λ c. omega arith)
+    (λ c. omega arith)
+    (λ c κs. search total-ways)
+    (λ c. search total-ways)
+    (λ c. omega arith)
+    (λ c. omega arith)
+    (λ c. (omega arith, search total-ways))
+    (λ c. search total-ways))

@@ -1,0 +1,23 @@
+use Rattle.sheet.proofs.Testing.{pair-ways}
+use Rattle.sheet.proofs.verdict.pair_level.Statement.{statement}
+use Rattle.sheet.proofs.verdict.pair_level.Tie as tie
+
+pub pair-level-spec : {M : Type 1} → statement M
+pair-level-spec =
+    tie.close
+    (tie.spec
+    (λ c. search pair-ways)
+    (λ c. search pair-ways)
+    (λ c κs. search pair-ways)
+    (λ c. search pair-ways)
+    (λ c. search pair-ways)
+    (λ c. search pair-ways)
+    (λ c. search pair-ways)
+    (λ c κs. search pair-ways)
+    (λ c. search pair-ways)
+    (λ c. search pair-ways)
+    (λ c. search pair-ways)
+    (λ c. search pair-ways)
+    (λ c. search pair-ways)
+    (λ c κs. search pair-ways)
+    (λ c. search pair-ways))

@@ -1,0 +1,30 @@
+use mathlib.Core.Path.{_≡_}
+use mathlib.Core.Bool.{true}
+use Prim.Native.Nat.{_-_, _≤_}
+use Rattle.disambiguation.specs.Below.{allBelow}
+use Rattle.sheet.specs.Relation.{closesIn}
+use Rattle.sheet.specs.Tests.{levelPair}
+use native.Mathlib.Omega.{arith}
+use Rattle.sheet.proofs.Testing.{row-ways}
+use Rattle.sheet.proofs.verdict.row_level.Statement.{statement}
+use Rattle.sheet.proofs.verdict.row_level.Tie as tie
+
+abbrev Inv-loop : tie.InvT-loop
+Inv-loop n relation a b₀ b = (b ≤ n) × (allBelow b (levelPair n (closesIn relation) a) ≡ true)
+
+abbrev μ-loop : tie.MeasureT-loop
+μ-loop n relation a b₀ b = n - b
+
+pub row-level-spec : {M : Type 1} → statement M
+row-level-spec =
+    tie.close
+    (tie.spec
+    Inv-loop
+    μ-loop
+    (λ c. (omega arith, search row-ways))
+    (λ c κs. search row-ways)
+    (λ c. search row-ways)
+    (λ c. omega arith)
+    (λ c. omega arith)
+    (λ c. (omega arith, search row-ways))
+    (λ c. search row-ways))

@@ -1,0 +1,16 @@
+use Rattle.sheet.proofs.Testing.{number-ways}
+use Rattle.sheet.proofs.verdict.rules_number.Statement.{statement}
+use Rattle.sheet.proofs.verdict.rules_number.Tie as tie
+
+pub rules-number-spec : {M : Type 1} → statement M
+rules-number-spec =
+    tie.close
+    (tie.spec
+    (λ c. search number-ways)
+    (λ c. search number-ways)
+    (λ c. search number-ways)
+    (λ c. search number-ways)
+    (λ c. search number-ways)
+    (λ c. search number-ways)
+    (λ c. search number-ways)
+    (λ c. search number-ways))

@@ -1,0 +1,10 @@
+use Rattle.sheet.proofs.Testing.{word-ways}
+use Rattle.sheet.proofs.words.apart.Statement.{statement}
+use Rattle.sheet.proofs.words.apart.Tie as tie
+
+pub apart-spec : {M : Type 1} → statement M
+apart-spec =
+    tie.close
+    (tie.spec
+    (λ c κs. search word-ways)
+    (λ c. search word-ways))

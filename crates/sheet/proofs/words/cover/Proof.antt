@@ -1,0 +1,10 @@
+use Rattle.sheet.proofs.Testing.{word-ways}
+use Rattle.sheet.proofs.words.cover.Statement.{statement}
+use Rattle.sheet.proofs.words.cover.Tie as tie
+
+pub cover-spec : {M : Type 1} → statement M
+cover-spec =
+    tie.close
+    (tie.spec
+    (λ c κs. search word-ways)
+    (λ c. search word-ways))

@@ -1,0 +1,11 @@
+use Rattle.sheet.proofs.Testing.{word-ways}
+use Rattle.sheet.proofs.words.has.Statement.{statement}
+use Rattle.sheet.proofs.words.has.Tie as tie
+
+pub has-spec : {M : Type 1} → statement M
+has-spec =
+    tie.close
+    (tie.spec
+    (λ c. search word-ways)
+    (λ c. search word-ways)
+    (λ c. search word-ways))

@@ -1,0 +1,10 @@
+use Rattle.sheet.proofs.Testing.{word-ways}
+use Rattle.sheet.proofs.words.inside.Statement.{statement}
+use Rattle.sheet.proofs.words.inside.Tie as tie
+
+pub inside-spec : {M : Type 1} → statement M
+inside-spec =
+    tie.close
+    (tie.spec
+    (λ c κs. search word-ways)
+    (λ c. search word-ways))

@@ -1,0 +1,4 @@
+pub mod Relation
+pub mod Marking
+pub mod Tests
+pub mod Loading

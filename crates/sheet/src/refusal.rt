@@ -1,0 +1,12 @@
+// The numbers of document 01's table of turned-down calls, as in the specification's `Refusal`.
+pub const ACCEPTED: u8 = 0;
+
+pub const OVERSIZE: u8 = 1;
+
+pub const TORN: u8 = 2;
+
+pub const STRANGER: u8 = 3;
+
+pub const DEAD: u8 = 4;
+
+pub const DOUBLE: u8 = 5;

@@ -1,0 +1,90 @@
+// Rules in bytes, marked in two tables: bit b of word a of `closes` for R(a,b), of `yields` for L(b,a).
+ghost use mathlib.Core.Path.{_≡_};
+ghost use mathlib.Core.Bool.{Bool, true, _||_};
+ghost use Prim.Native.Nat.{ℕ, _≤_, _<_};
+ghost use lib.Dec.{eqb};
+ghost use Rattle.disambiguation.specs.Rules.{rule, priority};
+ghost use Rattle.disambiguation.specs.SheetChecks.{strangeRule};
+ghost use Rattle.sheet.specs.Marking.{marked, Takes, Reads};
+
+// The kinds of rules: a over b, a left b, a right b.
+const PRIORITY: u8 = 1;
+
+const LEFT: u8 = 2;
+
+const RIGHT: u8 = 3;
+
+// The kind is not one of the three, or an operator is not below n.
+fn is_strange(n: u8, kind: u8, first: u8, second: u8) -> bool
+    ensures { λ r. ⌜ r ≡ strangeRule n (rule kind first second) ⌝ }
+{
+    if kind < PRIORITY {
+        return true;
+    }
+    if RIGHT < kind {
+        return true;
+    }
+    if n <= first {
+        return true;
+    }
+    if n <= second {
+        return true;
+    }
+    false
+}
+
+// A rule of the kind excludes the pattern of the side: priority excludes both.
+fn excludes(kind: u8, side: u8) -> bool
+    ensures { λ r. ⌜ r ≡ (eqb kind priority || eqb kind side) ⌝ }
+{
+    if kind == PRIORITY {
+        return true;
+    }
+    kind == side
+}
+
+// Puts the pair in, if on.
+fn mark(table: &mut [u32; 32], a: u8, b: u8, on: bool)
+    requires { ⌜ (a < 32) × (b < 32) ⌝ }
+    ensures { λ _. ⌜ now (table .exit) ≡ marked (now (table .entry)) a b on ⌝ }
+{
+    if on {
+        let at = a as usize;
+        table[at] = table[at] | (1u32 << b);
+    }
+}
+
+// Marks one rule, or says that it is strange and marks nothing.
+fn take_rule(
+    n: u8,
+    kind: u8,
+    first: u8,
+    second: u8,
+    closes: &mut [u32; 32],
+    yields: &mut [u32; 32],
+) -> bool
+    requires { ⌜ n ≤ 32 ⌝ }
+    ensures { λ r. ⌜ Takes n (rule kind first second) (now (closes .entry)) (now (yields .entry)) (now (closes .exit)) (now (yields .exit)) r ⌝ }
+{
+    if is_strange(n, kind, first, second) {
+        return true;
+    }
+    mark(closes, first, second, excludes(kind, LEFT));
+    mark(yields, second, first, excludes(kind, RIGHT));
+    false
+}
+
+// Marks the rules, up to the first strange one; says whether there is one.
+pub fn read(n: u8, rules: &[u8], closes: &mut [u32; 32], yields: &mut [u32; 32]) -> bool
+    requires { ⌜ n ≤ 32 ⌝ }
+    ensures { λ r. ⌜ Reads n (now (rules .entry)) (now (closes .entry)) (now (yields .entry)) (now (closes .exit)) (now (yields .exit)) r ⌝ }
+{
+    let mut i = 0;
+    while i + 3 <= rules.len() {
+        if take_rule(n, rules[i], rules[i + 1], rules[i + 2], closes, yields) {
+            return true;
+        }
+        i += 3;
+    }
+    false
+}

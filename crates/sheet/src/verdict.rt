@@ -1,0 +1,101 @@
+// The tests of a sheet's relations: safe, total, level. Each is n or n * n operations on words.
+ghost use mathlib.Core.Path.{_≡_};
+ghost use mathlib.Core.Bool.{Bool};
+ghost use Prim.Native.Nat.{ℕ, _≤_, _<_};
+ghost use Rattle.disambiguation.specs.Verdict.{safe, total, level};
+ghost use Rattle.sheet.specs.Relation.{closesIn, turned};
+ghost use Rattle.sheet.specs.Loading.{rulesNumber};
+ghost use Rattle.sheet.specs.Tests.{levelPair, levelFor};
+use crate::refusal;
+use crate::words;
+
+// No pair is excluded both ways.
+fn is_safe(n: usize, closes: &[u32; 32], yields: &[u32; 32]) -> bool
+    requires { ⌜ n ≤ 32 ⌝ }
+    ensures { λ r. ⌜ r ≡ safe n (turned (closesIn (now (yields .entry)))) (closesIn (now (closes .entry))) ⌝ }
+{
+    let mut a = 0;
+    while a < n {
+        if !words::apart(n, closes[a], yields[a]) {
+            return false;
+        }
+        a += 1;
+    }
+    true
+}
+
+// Every pair is excluded one way at least.
+fn is_total(n: usize, closes: &[u32; 32], yields: &[u32; 32]) -> bool
+    requires { ⌜ n ≤ 32 ⌝ }
+    ensures { λ r. ⌜ r ≡ total n (turned (closesIn (now (yields .entry)))) (closesIn (now (closes .entry))) ⌝ }
+{
+    let mut a = 0;
+    while a < n {
+        if !words::cover(n, closes[a], yields[a]) {
+            return false;
+        }
+        a += 1;
+    }
+    true
+}
+
+// What one of a and b closes before, the other does too: b's if a closes before b, else a's.
+fn pair_level(n: usize, relation: &[u32; 32], a: usize, b: usize) -> bool
+    requires { ⌜ (n ≤ 32) × (a < n) × (b < n) ⌝ }
+    ensures { λ r. ⌜ r ≡ levelPair n (closesIn (now (relation .entry))) a b ⌝ }
+{
+    if words::has(relation[a], b) {
+        return words::inside(n, relation[b], relation[a]);
+    }
+    words::inside(n, relation[a], relation[b])
+}
+
+// The same for a and each b.
+fn row_level(n: usize, relation: &[u32; 32], a: usize) -> bool
+    requires { ⌜ (n ≤ 32) × (a < n) ⌝ }
+    ensures { λ r. ⌜ r ≡ levelFor n (closesIn (now (relation .entry))) a ⌝ }
+{
+    let mut b = 0;
+    while b < n {
+        if !pair_level(n, relation, a, b) {
+            return false;
+        }
+        b += 1;
+    }
+    true
+}
+
+// The same for each a.
+fn is_level(n: usize, relation: &[u32; 32]) -> bool
+    requires { ⌜ n ≤ 32 ⌝ }
+    ensures { λ r. ⌜ r ≡ level n (closesIn (now (relation .entry))) ⌝ }
+{
+    let mut a = 0;
+    while a < n {
+        if !row_level(n, relation, a) {
+            return false;
+        }
+        a += 1;
+    }
+    true
+}
+
+// Numbers 3, 4 and 5, or 0.
+pub fn rules_number(strange: bool, n: usize, closes: &[u32; 32], yields: &[u32; 32]) -> u8
+    requires { ⌜ n ≤ 32 ⌝ }
+    ensures { λ r. ⌜ r ≡ rulesNumber strange n (turned (closesIn (now (yields .entry)))) (closesIn (now (closes .entry))) ⌝ }
+{
+    if strange {
+        return refusal::STRANGER;
+    }
+    if !is_safe(n, closes, yields) {
+        return refusal::DEAD;
+    }
+    if !is_total(n, closes, yields) {
+        return refusal::DOUBLE;
+    }
+    if !is_level(n, closes) {
+        return refusal::DOUBLE;
+    }
+    refusal::ACCEPTED
+}

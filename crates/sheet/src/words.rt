@@ -1,0 +1,47 @@
+// A word as a set of operators: bit c is set where operator c is in the set. Two sets are compared below n alone, by a mask.
+ghost use mathlib.Core.Path.{_≡_};
+ghost use mathlib.Core.Bool.{Bool};
+ghost use Prim.Native.Nat.{ℕ, _≤_, _<_, _^_, _-_};
+ghost use Rattle.disambiguation.specs.Verdict.{within};
+ghost use Rattle.sheet.specs.Relation.{bitOf};
+ghost use Rattle.sheet.specs.Tests.{noneInBoth, eachInOne};
+
+// The set of all below n.
+fn mask(n: usize) -> u32
+    requires { ⌜ n ≤ 32 ⌝ }
+    ensures { λ r. ⌜ r ≡ 2 ^ n - 1 ⌝ }
+{
+    ((1u64 << n) - 1) as u32
+}
+
+// Operator c is in the set.
+pub fn has(x: u32, c: usize) -> bool
+    requires { ⌜ c < 32 ⌝ }
+    ensures { λ r. ⌜ r ≡ bitOf x c ⌝ }
+{
+    (x >> c) & 1 == 1
+}
+
+// None is in both sets.
+pub fn apart(n: usize, x: u32, y: u32) -> bool
+    requires { ⌜ n ≤ 32 ⌝ }
+    ensures { λ r. ⌜ r ≡ noneInBoth n (bitOf x) (bitOf y) ⌝ }
+{
+    x & y & mask(n) == 0
+}
+
+// Each is in one of the sets at least.
+pub fn cover(n: usize, x: u32, y: u32) -> bool
+    requires { ⌜ n ≤ 32 ⌝ }
+    ensures { λ r. ⌜ r ≡ eachInOne n (bitOf x) (bitOf y) ⌝ }
+{
+    !(x | y) & mask(n) == 0
+}
+
+// Each of the first set is in the second.
+pub fn inside(n: usize, x: u32, y: u32) -> bool
+    requires { ⌜ n ≤ 32 ⌝ }
+    ensures { λ r. ⌜ r ≡ within n (bitOf x) (bitOf y) ⌝ }
+{
+    x & !y & mask(n) == 0
+}
