@@ -2,7 +2,9 @@ pub mod Below
 pub mod Bits
 pub mod WordTests
 pub mod Marks
+pub mod Orderly
 pub mod Reading
 pub mod Testing
 pub mod Verdicts
 pub mod Loading
+pub mod Laws

@@ -1,11 +1,12 @@
 -- What each way through the reading of rules gives, from what is known on it. Assumes nothing.
 use mathlib.Core.Path.{_≡_, refl, sym, ap, _∙_}
-use mathlib.Core.Bool.{Bool, true, false, not, _&&_, _||_, cond, false≢true, or-true}
+use mathlib.Core.Bool.{Bool, true, false, not, _&&_, _||_, cond, false≢true}
 use mathlib.Core.List.{List, [], _∷_}
 use Prim.Native.Nat.{ℕ, zero, suc, _+_, _*_, _%_, _^_, _<_, _≤_}
+use native.Mathlib.Nat.{lt-of-lt-of-le}
 use native.Mathlib.Numerals.{add-one, add-two, add-three}
 use native.Mathlib.Omega.{arith}
-use borrow.Author.Tests.{lt-ltb, le-ltb, eq-eqb, ne-eqb, ltb-true}
+use borrow.Author.Tests.{lt-ltb, le-ltb, eq-eqb, ne-eqb}
 use borrow.Author.Needs.{needs}
 use mir.Val.{Fits}
 use mir.Syntax.{w64}
@@ -18,6 +19,7 @@ use Rattle.disambiguation.specs.Rules.{Rule, rule, priority, left, right}
 use Rattle.disambiguation.specs.SheetChecks.{rulesOf, strangeRule}
 use Rattle.sheet.specs.Marking.{marked, marksR, marksL, marksAll, Takes, Reads}
 use Rattle.sheet.proofs.Bits.{one-shifted}
+use Rattle.sheet.proofs.Orderly.{first-operator, second-operator}
 
 -- ---- is_strange
 module _ (n k a b : ℕ) where
@@ -59,29 +61,12 @@ mark-off t a b on e = simp e
 pub ruleset mark-ways = (mark-on, mark-off, needs)
 
 -- ---- take_rule
-last-two : (p q x y : Bool) → (p || q || x || y) ≡ false → (x ≡ false) × (y ≡ false)
-last-two p q true true e = absurd (false≢true (sym e ∙ simp or-true))
-last-two p q true false e = absurd (false≢true (sym e ∙ simp or-true))
-last-two p q false true e = absurd (false≢true (sym e ∙ simp or-true))
-last-two p q false false e = (refl, refl)
-
-ltb-from : (a n : ℕ) → not (ltb a n) ≡ false → a < n
-ltb-from a n e = ltb-true a n (go (ltb a n) e)
-  where
-    go : (p : Bool) → not p ≡ false → p ≡ true
-    go true e = refl
-    go false e = absurd (false≢true (sym e))
-
 module _ {r : Bool} (n k a b : ℕ) (few : n ≤ 32) (s : r ≡ strangeRule n (rule k a b)) (not-strange : r ≡ false) where
   pub first-below : a < 32
-  first-below =
-      let e = last-two (ltb k 1) (ltb 3 k) (not (ltb a n)) (not (ltb b n)) (sym s ∙ not-strange) in
-      let h : a < n = ltb-from a n (e .0) in omega arith
+  first-below = lt-of-lt-of-le (first-operator n (rule k a b) (sym s ∙ not-strange)) few
 
   pub second-below : b < 32
-  second-below =
-      let e = last-two (ltb k 1) (ltb 3 k) (not (ltb a n)) (not (ltb b n)) (sym s ∙ not-strange) in
-      let h : b < n = ltb-from b n (e .1) in omega arith
+  second-below = lt-of-lt-of-le (second-operator n (rule k a b) (sym s ∙ not-strange)) few
 
 pub take-strange : {r : Bool} (n k a b : ℕ) (t u : List ℕ) → r ≡ strangeRule n (rule k a b) → r ≡ true → Takes n (rule k a b) t u t u true
 take-strange n k a b t u s e = record {

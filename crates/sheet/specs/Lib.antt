@@ -2,3 +2,4 @@ pub mod Relation
 pub mod Marking
 pub mod Tests
 pub mod Loading
+pub mod InForce

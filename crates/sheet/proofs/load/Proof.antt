@@ -1,3 +1,4 @@
+-- `sheet::load` meets its contract. Assumes nothing.
 use Rattle.sheet.proofs.Loading.{load-ways}
 use Rattle.sheet.proofs.load.Statement.{statement}
 use Rattle.sheet.proofs.load.Tie as tie

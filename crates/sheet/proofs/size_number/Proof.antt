@@ -1,3 +1,4 @@
+-- `sheet::size_number` meets its contract. Assumes nothing.
 use Rattle.sheet.proofs.Loading.{size-ways}
 use Rattle.sheet.proofs.size_number.Statement.{statement}
 use Rattle.sheet.proofs.size_number.Tie as tie

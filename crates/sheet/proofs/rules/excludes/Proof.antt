@@ -1,3 +1,4 @@
+-- `sheet::rules::excludes` meets its contract. Assumes nothing.
 use Rattle.sheet.proofs.Reading.{excludes-ways}
 use Rattle.sheet.proofs.rules.excludes.Statement.{statement}
 use Rattle.sheet.proofs.rules.excludes.Tie as tie

@@ -1,3 +1,4 @@
+-- `sheet::rules::is_strange` meets its contract. Assumes nothing.
 use Rattle.sheet.proofs.Reading.{strange-ways}
 use Rattle.sheet.proofs.rules.is_strange.Statement.{statement}
 use Rattle.sheet.proofs.rules.is_strange.Tie as tie

@@ -1,3 +1,4 @@
+-- `sheet::rules::mark` meets its contract. Assumes nothing.
 use Rattle.sheet.proofs.Reading.{mark-ways}
 use Rattle.sheet.proofs.rules.mark.Statement.{statement}
 use Rattle.sheet.proofs.rules.mark.Tie as tie

@@ -1,3 +1,4 @@
+-- `sheet::rules::read` meets its contract; in its loop, the rules before the place are marked, and none of them is strange. Assumes nothing.
 use Prim.Native.Nat.{_-_, _≤_}
 use lib.ListN.{length}
 use Rattle.sheet.proofs.Reading.{Left}
@@ -29,5 +30,5 @@ read-spec =
     (λ c. search read-ways)
     (λ c. omega arith)
     (λ c. omega arith)
-    (λ c. (omega arith, search (read-ways, c .if1 .left, c .before .take-rule .ensures, c .before .before .before .before .before .before .before .loop-test .taken, c .before .before .before .before .before .before .before .before .loop .inv .1)))
+    (λ c. (omega arith, search (read-ways, c .before .take-rule .ensures)))
     (λ c. search read-ways))

@@ -1,3 +1,4 @@
+-- `sheet::rules::take_rule` meets its contract. Assumes nothing.
 use Rattle.sheet.proofs.Reading.{take-ways}
 use Rattle.sheet.proofs.rules.take_rule.Statement.{statement}
 use Rattle.sheet.proofs.rules.take_rule.Tie as tie

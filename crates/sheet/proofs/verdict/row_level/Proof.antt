@@ -1,3 +1,4 @@
+-- `sheet::verdict::row_level` meets its contract; in its loop, a is level with every operator before b. Assumes nothing.
 use mathlib.Core.Path.{_≡_}
 use mathlib.Core.Bool.{true}
 use Prim.Native.Nat.{_-_, _≤_}

@@ -1,3 +1,4 @@
+-- `sheet::verdict::rules_number` meets its contract. Assumes nothing.
 use Rattle.sheet.proofs.Testing.{number-ways}
 use Rattle.sheet.proofs.verdict.rules_number.Statement.{statement}
 use Rattle.sheet.proofs.verdict.rules_number.Tie as tie

@@ -1,3 +1,4 @@
+-- `sheet::words::apart` meets its contract. Assumes nothing.
 use Rattle.sheet.proofs.Testing.{word-ways}
 use Rattle.sheet.proofs.words.apart.Statement.{statement}
 use Rattle.sheet.proofs.words.apart.Tie as tie

@@ -1,3 +1,4 @@
+-- `sheet::words::cover` meets its contract. Assumes nothing.
 use Rattle.sheet.proofs.Testing.{word-ways}
 use Rattle.sheet.proofs.words.cover.Statement.{statement}
 use Rattle.sheet.proofs.words.cover.Tie as tie

@@ -1,3 +1,4 @@
+-- `sheet::words::has` meets its contract. Assumes nothing.
 use Rattle.sheet.proofs.Testing.{word-ways}
 use Rattle.sheet.proofs.words.has.Statement.{statement}
 use Rattle.sheet.proofs.words.has.Tie as tie

@@ -1,3 +1,4 @@
+-- `sheet::words::inside` meets its contract. Assumes nothing.
 use Rattle.sheet.proofs.Testing.{word-ways}
 use Rattle.sheet.proofs.words.inside.Statement.{statement}
 use Rattle.sheet.proofs.words.inside.Tie as tie

@@ -1,3 +1,4 @@
+-- `sheet::words::mask` meets its contract. Assumes nothing.
 use Rattle.sheet.proofs.Testing.{mask-ways}
 use Rattle.sheet.proofs.words.mask.Statement.{statement}
 use Rattle.sheet.proofs.words.mask.Tie as tie

@@ -1,0 +1,146 @@
+-- What callers know of a sheet: its relation by the excluded patterns, never by bits. Assumes nothing.
+use mathlib.Core.Path.{_≡_, refl, sym, ap, ap₂, _∙_, subst, fun-ext}
+use mathlib.Core.Bool.{Bool, true, false, not, _&&_, _||_, cond, false≢true}
+use mathlib.Core.List.{List, [], _∷_}
+use Prim.Native.Nat.{ℕ, _+_, _%_, _<_, _≤_}
+use native.Mathlib.Decide.{decLt}
+use native.Mathlib.Omega.{arith}
+use borrow.Author.Tests.{ltb-true, ltb-false}
+use lib.Dec.{eqb, ltb}
+use lib.ListN.{length}
+use Rattle.expression.specs.Lists.{any, count, one}
+use Rattle.expression.specs.Limits.{mostRuleBytes, bytesOfRule}
+use Rattle.expression.specs.Refusal.{accepted, oversize, torn, stranger}
+use Rattle.expression.specs.Token.{Infix, Opening, Closing, Reading, Meaningless, opening, closing, firstReading, lastReading, class}
+use Rattle.expression.specs.Tree.{Tree, reading, bracket, binary, Over}
+use Rattle.disambiguation.specs.Rules.{Rule, L, R}
+use Rattle.disambiguation.specs.Edges.{seenFromLeft, seenFromRight}
+use Rattle.disambiguation.specs.Conflicts.{conflicts, conflictCount}
+use Rattle.disambiguation.specs.Below.{allBelow}
+use Rattle.disambiguation.specs.Verdict.{safe, total, within, level, verdict}
+use Rattle.disambiguation.specs.SheetChecks.{rulesOf, strangeRule, sheetNumber}
+use Rattle.sheet.specs.Relation.{bitOf, closesIn, closes, fresh}
+use Rattle.sheet.specs.Loading.{sizeNumber, rulesNumber, Loads}
+use Rattle.sheet.specs.InForce.{InForce}
+use Rattle.sheet.specs.declared.Sheet.{Sheet}
+use Rattle.sheet.specs.declared.Loaded.{Loaded}
+use Rattle.sheet.proofs.Marks.{closes-blank}
+use Rattle.sheet.proofs.Orderly.{R-below}
+
+-- ---- the relation of a sheet and of its lent words
+pub closes-lent : (s : Sheet) (a b : ℕ) → closes s a b ≡ closesIn (s .closes) a b
+unfolding closes
+closes-lent s a b = refl
+
+-- no operator is 32 or more
+both-below : (p q : Bool) (r : Bool) → (p && (q && r)) ≡ true → (p ≡ true) × (q ≡ true)
+both-below true true r e = (refl, refl)
+both-below true false r e = absurd (false≢true e)
+both-below false q r e = absurd (false≢true e)
+
+pub closes-below : (s : Sheet) (a b : ℕ) → closes s a b ≡ true → (a < 32) × (b < 32)
+unfolding closes closesIn
+closes-below s a b e =
+    let k = both-below (ltb a 32) (ltb b 32) _ e in
+    (ltb-true a 32 (k .0), ltb-true b 32 (k .1))
+
+as-false : (p : Bool) → (p ≡ true → ⊥) → p ≡ false
+as-false true h = absurd (h refl)
+as-false false h = refl
+
+pub closes-beyond : (s : Sheet) (a b : ℕ) → ((a < 32) × (b < 32) → ⊥) → closes s a b ≡ false
+closes-beyond s a b h = as-false (closes s a b) (λ e. h (closes-below s a b e))
+
+pub closes-fresh : (a b : ℕ) → closes fresh a b ≡ false
+unfolding closes
+closes-fresh a b = as-false (closesIn (fresh .closes) a b) (λ e. let k = closes-below fresh a b e in false≢true (sym (closes-blank a b (k .0) (k .1)) ∙ e))
+
+-- ---- the sheet in force
+-- what number 0 says of n and the bytes
+pub record Accepted (n : ℕ) (bytes : List ℕ) : Type 0 where
+  pub few : n ≤ 32
+  pub plain : any (strangeRule n) (rulesOf bytes) ≡ false
+  pub accepts : verdict n (rulesOf bytes) ≡ accepted
+
+pub accepted-by : (n : ℕ) (bytes : List ℕ) → sheetNumber n bytes ≡ accepted → Accepted n bytes
+unfolding sheetNumber verdict
+accepted-by n bytes e = go (ltb 32 n) (ltb mostRuleBytes (length bytes)) (not (eqb (length bytes % bytesOfRule) 0)) (any (strangeRule n) (rulesOf bytes)) _ refl refl refl e
+  where
+    go : (p q t s : Bool) (v : ℕ) → ltb 32 n ≡ p → any (strangeRule n) (rulesOf bytes) ≡ s → verdict n (rulesOf bytes) ≡ v
+        → cond (p || q) oversize (cond t torn (cond s stranger v)) ≡ accepted → Accepted n bytes
+    go true q t s v a b c z = absurd (omega arith)
+    go false true t s v a b c z = absurd (omega arith)
+    go false false true s v a b c z = absurd (omega arith)
+    go false false false true v a b c z = absurd (omega arith)
+    go false false false false v a b c z = record { few = ltb-false 32 n a; plain = b; accepts = c ∙ z }
+
+-- a load that is accepted
+pub loaded-in-force : (old : Sheet) (n : ℕ) (bytes : List ℕ) (r : Loaded) → Loads old n bytes r → sheetNumber n bytes ≡ accepted
+    → InForce (r .sheet) n (rulesOf bytes)
+loaded-in-force old n bytes r l z =
+    let k = accepted-by n bytes z in
+    record { few = k .few; operators = l .operators z; accepts = k .accepts; right = λ a b. at a b (decLt a 32) (decLt b 32); left = l .opposite z }
+  where
+    beyond : (a b : ℕ) → ((a < 32) × (b < 32) → ⊥) → closes (r .sheet) a b ≡ R (rulesOf bytes) a b
+    beyond a b h =
+        let k = accepted-by n bytes z in
+        let f = k .few in
+        closes-beyond (r .sheet) a b h
+        ∙ sym (as-false (R (rulesOf bytes) a b) (λ e. let m = R-below n (rulesOf bytes) a b (k .plain) e in h (omega arith, omega arith)))
+
+    at : (a b : ℕ) → Dec (a < 32) → Dec (b < 32) → closes (r .sheet) a b ≡ R (rulesOf bytes) a b
+    at a b (yes p) (yes q) = l .relation z a b p q
+    at a b (yes p) (no q) = beyond a b (λ h. q (h .1))
+    at a b (no p) q = beyond a b (λ h. p (h .0))
+
+-- a load that is refused
+pub kept-in-force : (old : Sheet) (n m : ℕ) (bytes : List ℕ) (rules : List Rule) (r : Loaded) → Loads old n bytes r → (sheetNumber n bytes ≡ accepted → ⊥)
+    → InForce old m rules → InForce (r .sheet) m rules
+kept-in-force old n m bytes rules r l h k = subst (λ (s : Sheet). InForce s m rules) (sym (l .kept h)) k
+
+-- before any load
+pub fresh-in-force : InForce fresh 0 []
+unfolding verdict safe total level allBelow R
+fresh-in-force = record { few = omega arith; operators = refl; accepts = refl; right = closes-fresh; left = λ a b h. absurd (omega arith) }
+
+-- ---- what the relation decides
+-- an operator of a tree over the sheet's operators
+infix-below : (n o : ℕ) → class n o ≡ Infix → o < n
+unfolding class
+infix-below n o e = go (ltb o 32) (ltb o n) (eqb o opening) (eqb o closing) (ltb o firstReading) (ltb lastReading o) refl e
+  where
+    go : (p q x y z w : Bool) → ltb o n ≡ q
+        → cond p (cond q Infix Meaningless) (cond x Opening (cond y Closing (cond z Meaningless (cond w Meaningless Reading)))) ≡ Infix → o < n
+    go true true x y z w a f = ltb-true o n a
+    go true false x y z w a f = let c : _≡_ {A = ℕ} 0 1 = cc in absurd (omega arith)
+    go false q true y z w a f = let c : _≡_ {A = ℕ} 0 1 = cc in absurd (omega arith)
+    go false q false true z w a f = let c : _≡_ {A = ℕ} 0 1 = cc in absurd (omega arith)
+    go false q false false true w a f = let c : _≡_ {A = ℕ} 0 1 = cc in absurd (omega arith)
+    go false q false false false true a f = let c : _≡_ {A = ℕ} 0 1 = cc in absurd (omega arith)
+    go false q false false false false a f = let c : _≡_ {A = ℕ} 0 1 = cc in absurd (omega arith)
+
+module _ (s : Sheet) (n : ℕ) (rules : List Rule) (k : InForce s n rules) where
+  -- as functions: whatever is made of R is made of the relation
+  pub closes-is-R : closes s ≡ R rules
+  closes-is-R = fun-ext (λ a. fun-ext (λ b. k .right a b))
+
+  -- the left patterns, for operators of the sheet
+  pub yields-is-L : (a b : ℕ) → a < n → b < n → L rules b a ≡ not (closes s a b)
+  yields-is-L = k .left
+
+  seen-right : (o : ℕ) (t : Tree) → o < n → Over (class n) t → count (L rules o) (seenFromRight t) ≡ count (λ p. not (closes s p o)) (seenFromRight t)
+  seen-right o (reading x) h w = refl
+  seen-right o (bracket t) h w = refl
+  seen-right o (binary p l r) h w = ap (λ (q : Bool). one q + 0) (k .left p o (infix-below n p (w .0)) h)
+
+  seen-left : (o : ℕ) (t : Tree) → count (R rules o) (seenFromLeft t) ≡ count (closes s o) (seenFromLeft t)
+  seen-left o t = ap (λ (q : ℕ → Bool). count q (seenFromLeft t)) (fun-ext (λ p. sym (k .right o p)))
+
+  -- the conflict count of a tree over the sheet's operators needs only the relation
+  pub count-by-relation : (t : Tree) → Over (class n) t → conflictCount rules t ≡ conflicts (λ b a. not (closes s a b)) (closes s) t
+  count-by-relation (reading x) w = refl
+  count-by-relation (bracket t) w = count-by-relation t w
+  count-by-relation (binary o l r) w =
+      ap₂ (λ (x y : ℕ). x + y)
+      (ap₂ (λ (x y : ℕ). x + y) (seen-right o l (infix-below n o (w .0)) (w .1)) (seen-left o r))
+      (ap₂ (λ (x y : ℕ). x + y) (count-by-relation l (w .1)) (count-by-relation r (w .2)))

@@ -1,0 +1,46 @@
+// The longest sheets: 32 operators, each over those after it and left with itself, each pair said four times or twice.
+ghost use Prim.Native.Nat.{_<_};
+use crate::show;
+
+// A rule for operators a and b.
+fn put(rules: &mut [u8; 6147], i: usize, a: u8, b: u8)
+    requires { ⌜ i < 2049 ⌝ }
+{
+    let at = 3 * i;
+    if a == b {
+        rules[at] = 2;
+    } else {
+        rules[at] = 1;
+    }
+    if a < b {
+        rules[at + 1] = a;
+        rules[at + 2] = b;
+    } else {
+        rules[at + 1] = b;
+        rules[at + 2] = a;
+    }
+}
+
+fn fill(rules: &mut [u8; 6147]) {
+    let mut i = 0;
+    while i < 2049 {
+        put(rules, i, (i / 32 % 32) as u8, (i % 32) as u8);
+        i += 1;
+    }
+}
+
+pub fn cases(old: sheet::Sheet) -> sheet::Sheet {
+    let mut rules = [0u8; 6147];
+    fill(&mut rules);
+    let s = show::load(old, b"32 operators, no rules", 32, b"");
+    let s = show::load(
+        s,
+        b"32 operators, all pairs but the last",
+        32,
+        &rules[0..3069],
+    );
+    let s = show::load(s, b"6,144 rule bytes", 32, &rules[0..6144]);
+    let s = show::load(s, b"6,145 rule bytes", 32, &rules[0..6145]);
+    let s = show::load(s, b"6,147 rule bytes", 32, &rules[0..6147]);
+    show::load(s, b"all pairs of 32 operators", 32, &rules[0..3072])
+}
