@@ -35,7 +35,7 @@ module _ (k : ℕ → Class) where
   advance-strange (done d) c e = strange-done (k c) d e
   advance-strange wrong c e = refl
 
-  scan-wrong : (tokens : List ℕ) → scan k wrong tokens ≡ wrong
+  pub scan-wrong : (tokens : List ℕ) → scan k wrong tokens ≡ wrong
   scan-wrong [] = refl
   scan-wrong (c ∷ cs) = scan-wrong cs
 

@@ -1,3 +1,6 @@
 pub mod Edges
 pub mod BuildInvariant
 pub mod BuildsTree
+pub mod TokenWays
+pub mod ReaderWays
+pub mod RowWays

@@ -1,1 +1,2 @@
-// Rows into trees.
+// Rows: their checks, and building them into the records of their trees.
+pub mod row;

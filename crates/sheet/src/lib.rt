@@ -8,6 +8,7 @@ ghost use Rattle.sheet.specs.Loading.{Loads, sizeNumber};
 pub mod limits;
 pub mod refusal;
 mod rules;
+pub mod token;
 mod verdict;
 mod words;
 

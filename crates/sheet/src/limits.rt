@@ -1,6 +1,10 @@
-// The counts that document 01 fixes for a sheet, as in the specification's `Limits`.
+// The counts and lengths that document 01 fixes, as in the specification's `Limits`.
 pub const MOST_OPERATORS: u8 = 32;
 
 pub const MOST_RULE_BYTES: usize = 6144;
 
 pub const BYTES_OF_RULE: usize = 3;
+
+pub const MOST_TOKENS: usize = 255;
+
+pub const MOST_RECORD_BYTES: usize = 255;

@@ -10,3 +10,9 @@ pub const STRANGER: u8 = 3;
 pub const DEAD: u8 = 4;
 
 pub const DOUBLE: u8 = 5;
+
+pub const NO_ROW: u8 = 6;
+
+pub const NO_TREE: u8 = 7;
+
+pub const SHORT: u8 = 10;

@@ -1,0 +1,241 @@
+-- What each way through the readers of expressions and operands gives, from what is known on it. Assumes nothing.
+use mathlib.Core.Path.{_≡_, refl, sym, ap, _∙_}
+use mathlib.Core.Bool.{Bool, true, false, cond, true≢false, false≢true}
+use mathlib.Core.List.{List, [], _∷_}
+use Prim.Native.Nat.{ℕ, zero, suc, _+_, _*_, _-_, _^_, _<_, _≤_}
+use native.Mathlib.Omega.{arith}
+use native.Mathlib.Decide.{decLt}
+use native.Mathlib.Numerals.{add-one}
+use mir.Val.{Fits}
+use mir.Syntax.{w64}
+use lib.Dec.{ltb}
+use lib.ListN.{length, getD, drop, drop-of-length-le, length-drop}
+use lib.Seq.{drop-cons}
+use borrow.Author.Tests.{lt-ltb, le-ltb}
+use borrow.Author.Needs.{needs}
+use Rattle.expression.specs.Token.{Class, class}
+use Rattle.expression.specs.Token as token
+use Rattle.expression.specs.RowTest.{Progress, due, done, wrong, whereDue, whereDone, closed, complete, advance, scan}
+use Rattle.expression.proofs.Strangers.{scan-wrong}
+use Rattle.parser.specs.Rows.{tokenOf, tokenAt, isOperator, isClosing, Passes, ReadsOperand, Stops, ReadsExpression}
+use Rattle.parser.specs.declared.row.Token.{Token}
+use Rattle.parser.specs.declared.row.Token.the-variants.{Operator, Opening, Closing, Reading, Other, End}
+use Rattle.parser.specs.declared.row.Reach.{Reach}
+use Rattle.parser.specs.declared.row.Reach.the-variants.{At, Refused}
+
+-- the class that a token is of; none past the row's end
+abbrev pub Is : Token → Class → Type 0
+Is Operator x = x ≡ token.Infix
+Is Opening x = x ≡ token.Opening
+Is Closing x = x ≡ token.Closing
+Is Reading x = x ≡ token.Reading
+Is Other x = x ≡ token.Meaningless
+Is End x = ⊥
+
+is-class : (x : Class) → Is (tokenOf x) x
+is-class token.Infix = refl
+is-class token.Opening = refl
+is-class token.Closing = refl
+is-class token.Reading = refl
+is-class token.Meaningless = refl
+
+module _ (n : ℕ) (row : List ℕ) where
+  -- What stands at a place: a token of its class before the rest of the row, or the end.
+  abbrev pub Found : ℕ → Token → Type 0
+  Found at t = (at < length row) × Is t (class n (getD row at 0)) × (drop at row ≡ getD row at 0 ∷ drop (at + 1) row)
+
+  abbrev pub There : ℕ → Token → Type 0
+  There at Operator = Found at Operator
+  There at Opening = Found at Opening
+  There at Closing = Found at Closing
+  There at Reading = Found at Reading
+  There at Other = Found at Other
+  There at End = drop at row ≡ []
+
+  found-there : (at : ℕ) (t : Token) → Found at t → There at t
+  found-there at Operator f = f
+  found-there at Opening f = f
+  found-there at Closing f = f
+  found-there at Reading f = f
+  found-there at Other f = f
+  found-there at End f = absurd (f .1)
+
+  pub there : (at : ℕ) → There at (tokenAt n row at)
+  unfolding tokenAt
+  there at = go (decLt at (length row))
+    where
+      past : length row ≤ at → drop at row ≡ []
+      past h = drop-of-length-le row h
+
+      go : Dec (at < length row) → There at (cond (ltb at (length row)) (tokenOf (class n (getD row at 0))) End)
+      go (yes h) = rw (lt-ltb at (length row) h) (found-there at (tokenOf (class n (getD row at 0))) (h, is-class (class n (getD row at 0)), rw (drop-cons row at 0 h, add-one)))
+      go (no h) = rw (le-ltb at (length row) (omega arith)) (past (omega arith))
+
+  there-is : (at : ℕ) {t u : Token} → t ≡ tokenAt n row at → t ≡ u → There at u
+  there-is at e f = rw (sym e ∙ f) at (there at)
+
+  -- the scan over the token at a place
+  scan-found : (at : ℕ) (t : Token) → Found at t → (p : Progress) → scan (class n) p (drop at row) ≡ scan (class n) (advance (class n) p (getD row at 0)) (drop (at + 1) row)
+  scan-found at t f p = ap (scan (class n) p) (f .2)
+
+  -- a token where none such may stand
+  goes-wrong : (at : ℕ) (t : Token) → Found at t → (p : Progress) → advance (class n) p (getD row at 0) ≡ wrong → complete (scan (class n) p (drop at row)) ≡ false
+  goes-wrong at t f p h =
+      ap complete (scan-found at t f p ∙ ap (λ q. scan (class n) q (drop (at + 1) row)) h ∙ scan-wrong (class n) (drop (at + 1) row))
+
+  -- inside a bracket, a row goes on with an operator or a closing bracket
+  open-ends : (at : ℕ) (t : Token) → There at t → isOperator t ≡ false → isClosing t ≡ false → (d : ℕ) → complete (scan (class n) (done (suc d)) (drop at row)) ≡ false
+  open-ends at Operator f o c d = absurd (true≢false o)
+  open-ends at Opening f o c d = goes-wrong at Opening f (done (suc d)) (ap (λ x. whereDone x (suc d)) (f .1))
+  open-ends at Closing f o c d = absurd (true≢false c)
+  open-ends at Reading f o c d = goes-wrong at Reading f (done (suc d)) (ap (λ x. whereDone x (suc d)) (f .1))
+  open-ends at Other f o c d = goes-wrong at Other f (done (suc d)) (ap (λ x. whereDone x (suc d)) (f .1))
+  open-ends at End f o c d = rw f
+
+  -- outside of brackets it ends, or goes on with an operator
+  pub row-ends : (at : ℕ) (t : Token) → There at t → isOperator t ≡ false → at < length row → complete (scan (class n) (done 0) (drop at row)) ≡ false
+  row-ends at Operator f o h = absurd (true≢false o)
+  row-ends at Opening f o h = goes-wrong at Opening f (done 0) (ap (λ x. whereDone x 0) (f .1))
+  row-ends at Closing f o h = goes-wrong at Closing f (done 0) (ap (λ x. whereDone x 0) (f .1))
+  row-ends at Reading f o h = goes-wrong at Reading f (done 0) (ap (λ x. whereDone x 0) (f .1))
+  row-ends at Other f o h = goes-wrong at Other f (done 0) (ap (λ x. whereDone x 0) (f .1))
+  row-ends at End f o h = absurd (omega (arith, length-drop at row, ap length f))
+
+  closing-there : (at : ℕ) (t : Token) → There at t → isClosing t ≡ true → Found at Closing
+  closing-there at Operator f c = absurd (false≢true c)
+  closing-there at Opening f c = absurd (false≢true c)
+  closing-there at Closing f c = f
+  closing-there at Reading f c = absurd (false≢true c)
+  closing-there at Other f c = absurd (false≢true c)
+  closing-there at End f c = absurd (false≢true c)
+
+  operator-there : (at : ℕ) (t : Token) → There at t → isOperator t ≡ true → Found at Operator
+  operator-there at Operator f c = f
+  operator-there at Opening f c = absurd (false≢true c)
+  operator-there at Closing f c = absurd (false≢true c)
+  operator-there at Reading f c = absurd (false≢true c)
+  operator-there at Other f c = absurd (false≢true c)
+  operator-there at End f c = absurd (false≢true c)
+
+  module _ (at : ℕ) where
+    refuses : ((d : ℕ) → complete (scan (class n) (due d) (drop at row)) ≡ false) → ReadsOperand n row at (Refused 6)
+    refuses f = record { passes = (refl, f) }
+
+    module _ {t : Token} (e : t ≡ tokenAt n row at) where
+      pub operand-reading : t ≡ Reading → ReadsOperand n row at (At (at + 1))
+      operand-reading f =
+          let g = there-is at e f in
+          record { passes = (omega arith, omega (arith, g .0), λ d. scan-found at Reading g (due d) ∙ ap (λ x. scan (class n) (whereDue x d) (drop (at + 1) row)) (g .1)) }
+
+      pub operand-operator : t ≡ Operator → ReadsOperand n row at (Refused 6)
+      operand-operator f = let g = there-is at e f in refuses (λ d. goes-wrong at Operator g (due d) (ap (λ x. whereDue x d) (g .1)))
+
+      pub operand-closing : t ≡ Closing → ReadsOperand n row at (Refused 6)
+      operand-closing f = let g = there-is at e f in refuses (λ d. goes-wrong at Closing g (due d) (ap (λ x. whereDue x d) (g .1)))
+
+      pub operand-other : t ≡ Other → ReadsOperand n row at (Refused 6)
+      operand-other f = let g = there-is at e f in refuses (λ d. goes-wrong at Other g (due d) (ap (λ x. whereDue x d) (g .1)))
+
+      pub operand-end : t ≡ End → ReadsOperand n row at (Refused 6)
+      operand-end f = let g = there-is at e f in refuses (λ d. rw g)
+
+      -- into the bracket
+      enters : (g : Found at Opening) (d : ℕ) → scan (class n) (due d) (drop at row) ≡ scan (class n) (due (suc d)) (drop (at + 1) row)
+      enters g d = scan-found at Opening g (due d) ∙ ap (λ x. scan (class n) (whereDue x d) (drop (at + 1) row)) (g .1)
+
+      pub operand-inner-refused : t ≡ Opening → {r : Reach} {m : ℕ} → ReadsExpression n row (at + 1) r → r ≡ Refused m → ReadsOperand n row at (Refused 6)
+      operand-inner-refused f h q =
+          let g = there-is at e f in
+          let p = rw q at (h .passes) in
+          refuses (λ d. ap complete (enters g d) ∙ p .1 (suc d))
+
+      pub operand-closed : t ≡ Opening → {r : Reach} {next : ℕ} {b : Bool} → ReadsExpression n row (at + 1) r → r ≡ At next
+          → b ≡ isClosing (tokenAt n row next) → b ≡ true → ReadsOperand n row at (At (next + 1))
+      operand-closed f {next = next} h q c v =
+          let g = there-is at e f in
+          let p = rw q at (h .passes) in
+          let k = closing-there next (tokenAt n row next) (there next) (sym c ∙ v) in
+          record {
+            passes = (
+              omega (arith, p .0),
+              omega (arith, k .0),
+              λ d. enters g d ∙ p .2 (suc d) ∙ scan-found next Closing k (done (suc d)) ∙ ap (λ x. scan (class n) (whereDone x (suc d)) (drop (next + 1) row)) (k .1),
+            );
+          }
+
+      pub operand-unclosed : t ≡ Opening → {r : Reach} {next : ℕ} {b : Bool} → ReadsExpression n row (at + 1) r → r ≡ At next
+          → b ≡ isClosing (tokenAt n row next) → b ≡ false → ReadsOperand n row at (Refused 6)
+      operand-unclosed f {next = next} h q c v =
+          let g = there-is at e f in
+          let p = rw q at (h .passes) in
+          let s = rw q at (h .stops) in
+          refuses (λ d. ap complete (enters g d ∙ p .2 (suc d)) ∙ open-ends next (tokenAt n row next) (there next) s (sym c ∙ v) d)
+
+      pub opening-fits : length row < 2 ^ 64 → t ≡ Opening → Fits w64 (at + 1)
+      opening-fits l f = let g = there-is at e f in omega (arith, g .0)
+
+      pub reading-fits : length row < 2 ^ 64 → t ≡ Reading → Fits w64 (at + 1)
+      reading-fits l f = let g = there-is at e f in omega (arith, g .0)
+
+      pub opening-falls : {m : ℕ} → 2 * (length row - at) ≡ m → t ≡ Opening → 2 * (length row - (at + 1)) + 1 < m
+      opening-falls q f = let g = there-is at e f in omega (arith, g .0)
+
+    -- after an operand
+    module _ {r : Reach} (h : ReadsOperand n row at r) where
+      pub expression-refused : {m : ℕ} → r ≡ Refused m → ReadsExpression n row at (Refused 6)
+      expression-refused q = let p = rw q at (h .passes) in record { passes = (refl, p .1); stops = tt }
+
+      pub expression-stops : {next : ℕ} {b : Bool} → r ≡ At next → b ≡ isOperator (tokenAt n row next) → b ≡ false → ReadsExpression n row at (At next)
+      expression-stops q c v = record { passes = rw q at (h .passes); stops = sym c ∙ v }
+
+      -- past an operator that follows
+      further : {next : ℕ} {b : Bool} → r ≡ At next → b ≡ isOperator (tokenAt n row next) → b ≡ true
+          → (at < next) × (next < length row) × ((d : ℕ) → scan (class n) (due d) (drop at row) ≡ scan (class n) (due d) (drop (next + 1) row))
+      further {next} q c v =
+          let p = rw q at (h .passes) in
+          let k = operator-there next (tokenAt n row next) (there next) (sym c ∙ v) in
+          (p .0, k .0, λ d. p .2 d ∙ scan-found next Operator k (done d) ∙ ap (λ x. scan (class n) (whereDone x d) (drop (next + 1) row)) (k .1))
+
+      more : {next : ℕ} {b : Bool} → r ≡ At next → b ≡ isOperator (tokenAt n row next) → b ≡ true → (x : Reach) → Passes n row (next + 1) x → Passes n row at x
+      more q c v (At to) p = let f = further q c v in (omega (arith, f .0, p .0), p .1, λ d. f .2 d ∙ p .2 d)
+      more q c v (Refused m) p = let f = further q c v in (p .0, λ d. ap complete (f .2 d) ∙ p .1 d)
+
+      stops-more : (next : ℕ) (x : Reach) → Stops n row (next + 1) x → Stops n row at x
+      stops-more next (At to) s = s
+      stops-more next (Refused m) s = s
+
+      pub expression-more : {next : ℕ} {b : Bool} {x : Reach} → r ≡ At next → b ≡ isOperator (tokenAt n row next) → b ≡ true
+          → ReadsExpression n row (next + 1) x → ReadsExpression n row at x
+      expression-more {next} {x = x} q c v k = record { passes = more q c v x (k .passes); stops = stops-more next x (k .stops) }
+
+      pub operator-fits : {next : ℕ} {b : Bool} → length row < 2 ^ 64 → r ≡ At next → b ≡ isOperator (tokenAt n row next) → b ≡ true → Fits w64 (next + 1)
+      operator-fits l q c v = let f = further q c v in omega (arith, f .1)
+
+      pub operator-falls : {m next : ℕ} {b : Bool} → 2 * (length row - at) + 1 ≡ m → r ≡ At next → b ≡ isOperator (tokenAt n row next) → b ≡ true
+          → 2 * (length row - (next + 1)) + 1 < m
+      operator-falls l q c v = let f = further q c v in omega (arith, f .0, f .1)
+
+    pub closing-fits : {r : Reach} {next : ℕ} {b : Bool} → length row < 2 ^ 64 → ReadsExpression n row (at + 1) r → r ≡ At next
+        → b ≡ isClosing (tokenAt n row next) → b ≡ true → Fits w64 (next + 1)
+    closing-fits {next = next} l h q c v = let k = closing-there next (tokenAt n row next) (there next) (sym c ∙ v) in omega (arith, k .0)
+
+pub ruleset reader-ways = (
+  operand-reading,
+  operand-operator,
+  operand-closing,
+  operand-other,
+  operand-end,
+  operand-inner-refused,
+  operand-closed,
+  operand-unclosed,
+  opening-fits,
+  reading-fits,
+  opening-falls,
+  expression-refused,
+  expression-stops,
+  expression-more,
+  operator-fits,
+  operator-falls,
+  closing-fits,
+  needs,
+)

@@ -1,0 +1,69 @@
+-- The tokens of a row by place, and what the readers of operands and expressions find. Assumes nothing.
+use Prim.Native.Nat.{ℕ, _≤_, _<_}
+use mathlib.Core.Path.{_≡_}
+use mathlib.Core.Bool.{Bool, true, false, cond}
+use mathlib.Core.List.{List}
+use lib.Dec.{ltb}
+use lib.ListN.{length, getD, drop}
+use Rattle.expression.specs.Refusal.{noRow}
+use Rattle.expression.specs.Token.{Class, Infix, class}
+use Rattle.expression.specs.Token as token
+use Rattle.expression.specs.Lists.{any}
+use Rattle.expression.specs.Checks.{strangeInRow}
+use Rattle.expression.specs.RowTest.{Progress, due, done, complete, scan}
+use Rattle.parser.specs.declared.row.Token.{Token}
+use Rattle.parser.specs.declared.row.Token.the-variants.{Operator, Opening, Closing, Reading, Other, End}
+use Rattle.parser.specs.declared.row.Reach.{Reach}
+use Rattle.parser.specs.declared.row.Reach.the-variants.{At, Refused}
+
+-- the token of a class
+abbrev pub tokenOf : Class → Token
+tokenOf token.Infix = Operator
+tokenOf token.Opening = Opening
+tokenOf token.Closing = Closing
+tokenOf token.Reading = Reading
+tokenOf token.Meaningless = Other
+
+-- the token at a place
+unfoldable pub tokenAt : ℕ → List ℕ → ℕ → Token
+tokenAt n row at = cond (ltb at (length row)) (tokenOf (class n (getD row at 0))) End
+
+abbrev pub isOperator : Token → Bool
+isOperator Operator = true
+isOperator Opening = false
+isOperator Closing = false
+isOperator Reading = false
+isOperator Other = false
+isOperator End = false
+
+abbrev pub isClosing : Token → Bool
+isClosing Operator = false
+isClosing Opening = false
+isClosing Closing = true
+isClosing Reading = false
+isClosing Other = false
+isClosing End = false
+
+module _ (n : ℕ) (row : List ℕ) (at : ℕ) where
+  -- The rest of the row is passed from a place where an operand is due to one where it has been read; or no row goes on so.
+  abbrev pub Passes : Reach → Type 0
+  Passes (At next) = (at < next) × (next ≤ length row) × ((d : ℕ) → scan (class n) (due d) (drop at row) ≡ scan (class n) (done d) (drop next row))
+  Passes (Refused number) = (number ≡ noRow) × ((d : ℕ) → complete (scan (class n) (due d) (drop at row)) ≡ false)
+
+  -- What a reader of operands finds.
+  pub record ReadsOperand (r : Reach) : Type 0 where
+    pub passes : Passes r
+
+  -- No operator stands where an expression ends.
+  abbrev pub Stops : Reach → Type 0
+  Stops (At next) = isOperator (tokenAt n row next) ≡ false
+  Stops (Refused number) = Unit {0}
+
+  -- What a reader of expressions finds: it goes on as far as it can.
+  pub record ReadsExpression (r : Reach) : Type 0 where
+    pub passes : Passes r
+    pub stops : Stops r
+
+-- some token is strange
+unfoldable pub hasStranger : ℕ → List ℕ → Bool
+hasStranger n tokens = any (λ c. strangeInRow (class n c)) tokens
