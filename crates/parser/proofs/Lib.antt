@@ -4,3 +4,5 @@ pub mod BuildsTree
 pub mod TokenWays
 pub mod ReaderWays
 pub mod RowWays
+pub mod SettleWays
+pub mod TakeWays
