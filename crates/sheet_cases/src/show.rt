@@ -1,13 +1,17 @@
 // A load and its line: the case, its number, then the count of operators in force and a group of digits for each of them,
 // with 1 where it closes before the operator of that place.
+fn digit(on: bool) {
+    if on {
+        io::write_all(1, b"1");
+    } else {
+        io::write_all(1, b"0");
+    }
+}
+
 fn row(relation: &[u32; 32], n: u8, a: u8) {
     let mut b: u8 = 0;
     while b < n {
-        if sheet::closes_before(relation, a, b) {
-            io::write_all(1, b"1");
-        } else {
-            io::write_all(1, b"0");
-        }
+        digit(sheet::closes_before(relation, a, b));
         b += 1;
     }
 }

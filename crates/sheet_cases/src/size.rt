@@ -1,5 +1,5 @@
 // The longest sheets: 32 operators, each over those after it and left with itself, each pair said four times or twice.
-ghost use Prim.Native.Nat.{_<_};
+ghost use Prim.Native.Nat.{_<_, _≤_};
 use crate::show;
 
 // A rule for operators a and b.
@@ -29,18 +29,20 @@ fn fill(rules: &mut [u8; 6147]) {
     }
 }
 
+// Loads 32 operators with the bytes before an end.
+fn load_front(old: sheet::Sheet, name: &[u8], rules: [u8; 6147], end: usize) -> sheet::Sheet
+    requires { ⌜ end ≤ 6147 ⌝ }
+{
+    show::load(old, name, 32, &rules[0..end])
+}
+
 pub fn cases(old: sheet::Sheet) -> sheet::Sheet {
     let mut rules = [0u8; 6147];
     fill(&mut rules);
-    let s = show::load(old, b"32 operators, no rules", 32, b"");
-    let s = show::load(
-        s,
-        b"32 operators, all pairs but the last",
-        32,
-        &rules[0..3069],
-    );
-    let s = show::load(s, b"6,144 rule bytes", 32, &rules[0..6144]);
-    let s = show::load(s, b"6,145 rule bytes", 32, &rules[0..6145]);
-    let s = show::load(s, b"6,147 rule bytes", 32, &rules[0..6147]);
-    show::load(s, b"all pairs of 32 operators", 32, &rules[0..3072])
+    let s = load_front(old, b"32 operators, no rules", rules, 0);
+    let s = load_front(s, b"32 operators, all pairs but the last", rules, 3069);
+    let s = load_front(s, b"6,144 rule bytes", rules, 6144);
+    let s = load_front(s, b"6,145 rule bytes", rules, 6145);
+    let s = load_front(s, b"6,147 rule bytes", rules, 6147);
+    load_front(s, b"all pairs of 32 operators", rules, 3072)
 }
