@@ -1,7 +1,7 @@
 -- The bits of a word under and, or, complement, shift and mask. Assumes nothing.
 use mathlib.Core.Path.{_≡_, refl, sym, ap, _∙_}
 use mathlib.Core.Bool.{Bool, true, false, not, _&&_, _||_, and-true, and-false}
-use Prim.Native.Nat.{ℕ, zero, suc, _+_, _-_, _*_, _/_, _%_, _^_, _<_, _≤_}
+use Prim.Native.Nat.{ℕ, zero, suc, _+_, _-_, _*_, _/_, _%_, _^_, _<_}
 use native.Mathlib.Nat.{mod-lt, zero-lt-suc, mod-eq-of-lt, one-mul, zero-mul, zero-add, div-self, div-eq-of-lt, zero-div, mul-mod-left, pow-suc, not-suc-le-zero, le-of-suc-le-suc, div-one, mod-one, div-add-mod'}
 use native.Mathlib.Omega.{arith}
 use native.Mathlib.Decide.{decLt, ℕ-discrete}

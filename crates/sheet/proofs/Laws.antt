@@ -1,7 +1,7 @@
 -- What callers know of a sheet: its relation by the excluded patterns, never by bits. Assumes nothing.
 use mathlib.Core.Path.{_≡_, refl, sym, ap, ap₂, _∙_, subst, fun-ext}
 use mathlib.Core.Bool.{Bool, true, false, not, _&&_, _||_, cond, false≢true}
-use mathlib.Core.List.{List, [], _∷_}
+use mathlib.Core.List.{List, []}
 use Prim.Native.Nat.{ℕ, _+_, _%_, _<_, _≤_}
 use native.Mathlib.Decide.{decLt}
 use native.Mathlib.Omega.{arith}
@@ -17,10 +17,10 @@ use Rattle.disambiguation.specs.Rules.{Rule, L, R}
 use Rattle.disambiguation.specs.Edges.{seenFromLeft, seenFromRight}
 use Rattle.disambiguation.specs.Conflicts.{conflicts, conflictCount}
 use Rattle.disambiguation.specs.Below.{allBelow}
-use Rattle.disambiguation.specs.Verdict.{safe, total, within, level, verdict}
+use Rattle.disambiguation.specs.Verdict.{safe, total, level, verdict}
 use Rattle.disambiguation.specs.SheetChecks.{rulesOf, strangeRule, sheetNumber}
-use Rattle.sheet.specs.Relation.{bitOf, closesIn, closes, fresh}
-use Rattle.sheet.specs.Loading.{sizeNumber, rulesNumber, Loads}
+use Rattle.sheet.specs.Relation.{closesIn, closes, fresh}
+use Rattle.sheet.specs.Loading.{Loads}
 use Rattle.sheet.specs.InForce.{InForce}
 use Rattle.sheet.specs.declared.Sheet.{Sheet}
 use Rattle.sheet.specs.declared.Loaded.{Loaded}
@@ -28,21 +28,25 @@ use Rattle.sheet.proofs.Marks.{closes-blank}
 use Rattle.sheet.proofs.Orderly.{R-below}
 
 -- ---- the relation of a sheet and of its lent words
-pub closes-lent : (s : Sheet) (a b : ℕ) → closes s a b ≡ closesIn (s .closes) a b
+pub closes-lent : (s : Sheet) → closes s ≡ closesIn (s .closes)
 unfolding closes
-closes-lent s a b = refl
+closes-lent s = refl
+
+both-true : (p q r : Bool) → (p && (q && r)) ≡ true → (p ≡ true) × (q ≡ true)
+both-true true true r e = (refl, refl)
+both-true true false r e = absurd (false≢true e)
+both-true false q r e = absurd (false≢true e)
 
 -- no operator is 32 or more
-both-below : (p q : Bool) (r : Bool) → (p && (q && r)) ≡ true → (p ≡ true) × (q ≡ true)
-both-below true true r e = (refl, refl)
-both-below true false r e = absurd (false≢true e)
-both-below false q r e = absurd (false≢true e)
+pub lent-below : (words : List ℕ) (a b : ℕ) → closesIn words a b ≡ true → (a < 32) × (b < 32)
+unfolding closesIn
+lent-below words a b e =
+    let k = both-true (ltb a 32) (ltb b 32) _ e in
+    (ltb-true a 32 (k .0), ltb-true b 32 (k .1))
 
 pub closes-below : (s : Sheet) (a b : ℕ) → closes s a b ≡ true → (a < 32) × (b < 32)
-unfolding closes closesIn
-closes-below s a b e =
-    let k = both-below (ltb a 32) (ltb b 32) _ e in
-    (ltb-true a 32 (k .0), ltb-true b 32 (k .1))
+unfolding closes
+closes-below s = lent-below (s .closes)
 
 as-false : (p : Bool) → (p ≡ true → ⊥) → p ≡ false
 as-false true h = absurd (h refl)
@@ -121,12 +125,8 @@ infix-below n o e = go (ltb o 32) (ltb o n) (eqb o opening) (eqb o closing) (ltb
 
 module _ (s : Sheet) (n : ℕ) (rules : List Rule) (k : InForce s n rules) where
   -- as functions: whatever is made of R is made of the relation
-  pub closes-is-R : closes s ≡ R rules
-  closes-is-R = fun-ext (λ a. fun-ext (λ b. k .right a b))
-
-  -- the left patterns, for operators of the sheet
-  pub yields-is-L : (a b : ℕ) → a < n → b < n → L rules b a ≡ not (closes s a b)
-  yields-is-L = k .left
+  pub relation-is-R : closes s ≡ R rules
+  relation-is-R = fun-ext (λ a. fun-ext (λ b. k .right a b))
 
   seen-right : (o : ℕ) (t : Tree) → o < n → Over (class n) t → count (L rules o) (seenFromRight t) ≡ count (λ p. not (closes s p o)) (seenFromRight t)
   seen-right o (reading x) h w = refl

@@ -1,7 +1,7 @@
 -- What each way through loading a sheet gives, from what is known on it. Assumes nothing.
 use mathlib.Core.Path.{_≡_, refl, sym, ap, _∙_}
-use mathlib.Core.Bool.{Bool, true, false, not, _&&_, _||_, cond, or-true}
-use mathlib.Core.List.{List, [], _∷_}
+use mathlib.Core.Bool.{Bool, true, false, not, _||_, cond}
+use mathlib.Core.List.{List}
 use Prim.Native.Nat.{ℕ, _%_, _<_, _≤_}
 use native.Mathlib.Nat.{lt-of-lt-of-le}
 use native.Mathlib.Omega.{arith}
@@ -14,10 +14,9 @@ use Rattle.expression.specs.Refusal.{accepted, oversize, torn, stranger}
 use Rattle.disambiguation.specs.Rules.{L, R}
 use Rattle.disambiguation.specs.SheetChecks.{rulesOf, strangeRule, sheetNumber}
 use Rattle.sheet.specs.Relation.{closes, closesIn, turned}
-use Rattle.sheet.specs.Marking.{marksR, marksL, marksAll, Reads}
+use Rattle.sheet.specs.Marking.{Reads}
 use Rattle.sheet.specs.Loading.{sizeNumber, rulesNumber, Loads}
 use Rattle.sheet.specs.declared.Sheet.{Sheet}
-use Rattle.sheet.specs.declared.Loaded.{Loaded}
 use Rattle.sheet.proofs.Marks.{blank, closes-is-R, closes-is-L}
 use Rattle.sheet.proofs.Verdicts.{number-same, accepts, opposite}
 

@@ -1,17 +1,15 @@
 -- What each way through the reading of rules gives, from what is known on it. Assumes nothing.
 use mathlib.Core.Path.{_≡_, refl, sym, ap, _∙_}
-use mathlib.Core.Bool.{Bool, true, false, not, _&&_, _||_, cond, false≢true}
+use mathlib.Core.Bool.{Bool, true, false, _||_, false≢true}
 use mathlib.Core.List.{List, [], _∷_}
-use Prim.Native.Nat.{ℕ, zero, suc, _+_, _*_, _%_, _^_, _<_, _≤_}
+use Prim.Native.Nat.{ℕ, suc, _+_, _*_, _%_, _^_, _<_, _≤_}
 use native.Mathlib.Nat.{lt-of-lt-of-le}
 use native.Mathlib.Numerals.{add-one, add-two, add-three}
 use native.Mathlib.Omega.{arith}
 use borrow.Author.Tests.{lt-ltb, le-ltb, eq-eqb, ne-eqb}
 use borrow.Author.Needs.{needs}
-use mir.Val.{Fits}
-use mir.Syntax.{w64}
 use lib.Bits.{bitOr}
-use lib.Dec.{eqb, ltb}
+use lib.Dec.{eqb}
 use lib.ListN.{length, getD, drop, set, length-drop}
 use lib.Seq.{drop-cons}
 use Rattle.expression.specs.Lists.{any}
@@ -88,8 +86,8 @@ take-marked n k a b t u t′ u′ s e p m q w = record {
 pub ruleset take-ways = (first-below, second-below, take-strange, take-marked, needs)
 
 -- ---- read
--- What is left of the bytes at a place says the rest.
-pub record Left (n : ℕ) (bytes t u : List ℕ) (i : ℕ) (t′ u′ : List ℕ) : Type 0 where
+-- At a place in the bytes, the rules that remain from there on decide the rest.
+pub record Remaining (n : ℕ) (bytes t u : List ℕ) (i : ℕ) (t′ u′ : List ℕ) : Type 0 where
   pub strange : any (strangeRule n) (rulesOf bytes) ≡ any (strangeRule n) (rulesOf (drop i bytes))
   pub excludes-right : marksAll marksR (rulesOf bytes) t ≡ marksAll marksR (rulesOf (drop i bytes)) t′
   pub excludes-left : marksAll marksL (rulesOf bytes) u ≡ marksAll marksL (rulesOf (drop i bytes)) u′
@@ -113,13 +111,13 @@ rules-none bytes i h = short (drop i bytes) (rw length-drop (omega arith))
     short (x ∷ y ∷ []) l = refl
     short (x ∷ y ∷ z ∷ s) l = absurd (omega arith)
 
-pub left-all : (n : ℕ) (bytes t u : List ℕ) → Left n bytes t u 0 t u
-left-all n bytes t u = record { strange = refl; excludes-right = refl; excludes-left = refl }
+pub remaining-all : (n : ℕ) (bytes t u : List ℕ) → Remaining n bytes t u 0 t u
+remaining-all n bytes t u = record { strange = refl; excludes-right = refl; excludes-left = refl }
 
-pub left-more : {r : Bool} (n : ℕ) (bytes t u t₁ u₁ t₂ u₂ : List ℕ) (i : ℕ) → i + 3 ≤ length bytes → Left n bytes t u i t₁ u₁
-    → Takes n (ruleAt bytes i) t₁ u₁ t₂ u₂ r → r ≡ false → Left n bytes t u (i + 3) t₂ u₂
+pub remaining-more : {r : Bool} (n : ℕ) (bytes t u t₁ u₁ t₂ u₂ : List ℕ) (i : ℕ) → i + 3 ≤ length bytes → Remaining n bytes t u i t₁ u₁
+    → Takes n (ruleAt bytes i) t₁ u₁ t₂ u₂ r → r ≡ false → Remaining n bytes t u (i + 3) t₂ u₂
 unfolding marksAll
-left-more n bytes t u t₁ u₁ t₂ u₂ i h l k e = record {
+remaining-more n bytes t u t₁ u₁ t₂ u₂ i h l k e = record {
   strange = l .strange ∙ ap (any (strangeRule n)) (rules-more bytes i h) ∙ ap (λ (p : Bool). p || any (strangeRule n) (rulesOf (drop (i + 3) bytes))) (sym (k .strange) ∙ e);
   excludes-right =
       l .excludes-right ∙ ap (λ (rs : List Rule). marksAll marksR rs t₁) (rules-more bytes i h)
@@ -129,21 +127,21 @@ left-more n bytes t u t₁ u₁ t₂ u₂ i h l k e = record {
       ∙ ap (marksAll marksL (rulesOf (drop (i + 3) bytes))) (sym (k .excludes-left e));
 }
 
-pub left-strange : {r : Bool} (n : ℕ) (bytes t u t₁ u₁ t₂ u₂ : List ℕ) (i : ℕ) → i + 3 ≤ length bytes → Left n bytes t u i t₁ u₁
+pub remaining-strange : {r : Bool} (n : ℕ) (bytes t u t₁ u₁ t₂ u₂ : List ℕ) (i : ℕ) → i + 3 ≤ length bytes → Remaining n bytes t u i t₁ u₁
     → Takes n (ruleAt bytes i) t₁ u₁ t₂ u₂ r → r ≡ true → Reads n bytes t u t₂ u₂ true
-left-strange n bytes t u t₁ u₁ t₂ u₂ i h l k e = record {
+remaining-strange n bytes t u t₁ u₁ t₂ u₂ i h l k e = record {
   strange =
       sym (l .strange ∙ ap (any (strangeRule n)) (rules-more bytes i h) ∙ ap (λ (p : Bool). p || any (strangeRule n) (rulesOf (drop (i + 3) bytes))) (sym (k .strange) ∙ e));
   excludes-right = λ f. absurd (false≢true (sym f));
   excludes-left = λ f. absurd (false≢true (sym f));
 }
 
-pub left-none : (n : ℕ) (bytes t u t₁ u₁ : List ℕ) (i : ℕ) → length bytes < i + 3 → Left n bytes t u i t₁ u₁ → Reads n bytes t u t₁ u₁ false
+pub remaining-none : (n : ℕ) (bytes t u t₁ u₁ : List ℕ) (i : ℕ) → length bytes < i + 3 → Remaining n bytes t u i t₁ u₁ → Reads n bytes t u t₁ u₁ false
 unfolding marksAll
-left-none n bytes t u t₁ u₁ i h l = record {
+remaining-none n bytes t u t₁ u₁ i h l = record {
   strange = sym (l .strange ∙ ap (any (strangeRule n)) (rules-none bytes i h));
   excludes-right = λ f. sym (l .excludes-right ∙ ap (λ (rs : List Rule). marksAll marksR rs t₁) (rules-none bytes i h));
   excludes-left = λ f. sym (l .excludes-left ∙ ap (λ (rs : List Rule). marksAll marksL rs u₁) (rules-none bytes i h));
 }
 
-pub ruleset read-ways = (left-all, left-more, left-strange, left-none, needs)
+pub ruleset read-ways = (remaining-all, remaining-more, remaining-strange, remaining-none, needs)

@@ -1,18 +1,18 @@
 -- What each way through the tests of a sheet's relations gives, from what is known on it. Assumes nothing.
-use mathlib.Core.Path.{_≡_, refl, sym, ap, _∙_}
-use mathlib.Core.Bool.{Bool, true, false, not, _&&_, _||_, cond}
+use mathlib.Core.Path.{_≡_, sym, ap, _∙_}
+use mathlib.Core.Bool.{Bool, true, false}
 use mathlib.Core.List.{List}
-use Prim.Native.Nat.{ℕ, zero, suc, _+_, _-_, _*_, _/_, _%_, _^_, _<_, _≤_}
-use native.Mathlib.Nat.{le-of-lt, lt-of-lt-of-le}
+use Prim.Native.Nat.{ℕ, _+_, _-_, _*_, _/_, _%_, _^_, _<_, _≤_}
+use native.Mathlib.Nat.{lt-of-lt-of-le}
 use native.Mathlib.Omega.{arith}
 use borrow.Author.Tests.{lt-ltb, le-ltb, not-true, not-false}
 use borrow.Author.Needs.{needs}
 use mir.Val.{Fits}
-use mir.Syntax.{w32, w64}
+use mir.Syntax.{w32}
 use lib.Bits.{bitAnd, bitOr}
-use lib.Dec.{eqb, ltb}
+use lib.Dec.{eqb}
 use lib.ListN.{getD}
-use lib.Pow.{pow-pos, pow-mono, pow-lt}
+use lib.Pow.{pow-pos, pow-mono}
 use Rattle.disambiguation.specs.Below.{allBelow}
 use Rattle.disambiguation.specs.Verdict.{safe, total, within, level}
 use Rattle.sheet.specs.Relation.{bitOf, closesIn, turned}

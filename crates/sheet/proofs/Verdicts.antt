@@ -1,10 +1,12 @@
 -- The verdict depends on the relations below n alone, and what an accepting one says of each pair. Assumes nothing.
-use mathlib.Core.Path.{_≡_, refl, sym, ap, ap₂, _∙_}
+use mathlib.Core.Path.{_≡_, refl, ap, ap₂, _∙_}
 use mathlib.Core.Bool.{Bool, true, false, not, _&&_, _||_, cond, false≢true}
+use mathlib.Core.List.{List}
 use Prim.Native.Nat.{ℕ, _<_}
 use native.Mathlib.Omega.{arith}
 use Rattle.expression.specs.Refusal.{accepted, stranger, dead, double}
-use Rattle.disambiguation.specs.Verdict.{safe, total, within, level}
+use Rattle.disambiguation.specs.Rules.{Rule, L, R}
+use Rattle.disambiguation.specs.Verdict.{safe, total, within, level, verdict}
 use Rattle.sheet.specs.Loading.{rulesNumber}
 use Rattle.sheet.proofs.Below.{all-same, all-at}
 
@@ -34,7 +36,7 @@ module _ (n : ℕ) (L L′ R R′ : ℕ → ℕ → Bool) (same-L : (a b : ℕ) 
   unfolding rulesNumber
   number-same strange = rw (safe-same, total-same, level-same)
 
--- What no number of the three says.
+-- What it says that none of 3, 4 and 5 applies.
 one-way : (p q : Bool) → not (p && q) ≡ true → (p || q) ≡ true → q ≡ not p
 one-way true true e f = absurd (false≢true e)
 one-way true false e f = refl
@@ -56,6 +58,10 @@ accepts strange n L R e = go strange (safe n L R) (total n L R) (level n R) refl
     go false true false l a b c z = absurd (omega arith)
     go false true true false a b c z = absurd (omega arith)
     go false true true true a b c z = record { is-safe = a; is-total = b; is-level = c }
+
+pub verdict-accepts : (n : ℕ) (rules : List Rule) → verdict n rules ≡ accepted → Accepts n (L rules) (R rules)
+unfolding verdict rulesNumber
+verdict-accepts n rules e = accepts false n (L rules) (R rules) e
 
 -- of each pair exactly one of R(a,b) and L(b,a) is excluded
 pub opposite : (n : ℕ) (L R : ℕ → ℕ → Bool) → Accepts n L R → (a b : ℕ) → a < n → b < n → L b a ≡ not (R a b)

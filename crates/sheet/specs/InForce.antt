@@ -14,7 +14,7 @@ pub record InForce (s : Sheet) (n : ℕ) (rules : List Rule) : Type 0 where
   -- a sheet has 32 operators at most, and s as many as were called for
   pub few : n ≤ mostOperators
   pub operators : s .n ≡ n
-  -- every row over them has exactly one conflict-free tree
+  -- neither 4 nor 5 applies
   pub accepts : verdict n rules ≡ accepted
   -- the relation decides both patterns: a closes before b exactly if R(a,b) is excluded, and else L(b,a) is
   pub right : (a b : ℕ) → closes s a b ≡ R rules a b

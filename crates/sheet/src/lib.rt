@@ -1,7 +1,6 @@
 // Operator sheets: rules in bytes, the relation that they give, and document 01's numbers 1 to 5.
 ghost use mathlib.Core.Path.{_≡_};
-ghost use mathlib.Core.Bool.{Bool};
-ghost use Prim.Native.Nat.{ℕ, _≤_, _<_};
+ghost use Prim.Native.Nat.{_<_};
 ghost use Rattle.sheet.specs.Relation.{closesIn, fresh};
 ghost use Rattle.sheet.specs.Loading.{Loads, sizeNumber};
 

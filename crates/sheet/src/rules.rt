@@ -1,11 +1,12 @@
 // Rules in bytes, marked in two tables: bit b of word a of `closes` for R(a,b), of `yields` for L(b,a).
 ghost use mathlib.Core.Path.{_≡_};
-ghost use mathlib.Core.Bool.{Bool, true, _||_};
-ghost use Prim.Native.Nat.{ℕ, _≤_, _<_};
+ghost use mathlib.Core.Bool.{_||_};
+ghost use Prim.Native.Nat.{_≤_, _<_};
 ghost use lib.Dec.{eqb};
 ghost use Rattle.disambiguation.specs.Rules.{rule, priority};
 ghost use Rattle.disambiguation.specs.SheetChecks.{strangeRule};
 ghost use Rattle.sheet.specs.Marking.{marked, Takes, Reads};
+use crate::limits;
 
 // The kinds of rules: a over b, a left b, a right b.
 const PRIORITY: u8 = 1;
@@ -80,11 +81,11 @@ pub fn read(n: u8, rules: &[u8], closes: &mut [u32; 32], yields: &mut [u32; 32])
     ensures { λ r. ⌜ Reads n (now (rules .entry)) (now (closes .entry)) (now (yields .entry)) (now (closes .exit)) (now (yields .exit)) r ⌝ }
 {
     let mut i = 0;
-    while i + 3 <= rules.len() {
+    while i + limits::BYTES_OF_RULE <= rules.len() {
         if take_rule(n, rules[i], rules[i + 1], rules[i + 2], closes, yields) {
             return true;
         }
-        i += 3;
+        i += limits::BYTES_OF_RULE;
     }
     false
 }

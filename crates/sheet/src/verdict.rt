@@ -1,7 +1,6 @@
 // The tests of a sheet's relations: safe, total, level. Each is n or n * n operations on words.
 ghost use mathlib.Core.Path.{_≡_};
-ghost use mathlib.Core.Bool.{Bool};
-ghost use Prim.Native.Nat.{ℕ, _≤_, _<_};
+ghost use Prim.Native.Nat.{_≤_, _<_};
 ghost use Rattle.disambiguation.specs.Verdict.{safe, total, level};
 ghost use Rattle.sheet.specs.Relation.{closesIn, turned};
 ghost use Rattle.sheet.specs.Loading.{rulesNumber};

@@ -1,7 +1,6 @@
 // A word as a set of operators: bit c is set where operator c is in the set. Two sets are compared below n alone, by a mask.
 ghost use mathlib.Core.Path.{_≡_};
-ghost use mathlib.Core.Bool.{Bool};
-ghost use Prim.Native.Nat.{ℕ, _≤_, _<_, _^_, _-_};
+ghost use Prim.Native.Nat.{_≤_, _<_, _^_, _-_};
 ghost use Rattle.disambiguation.specs.Verdict.{within};
 ghost use Rattle.sheet.specs.Relation.{bitOf};
 ghost use Rattle.sheet.specs.Tests.{noneInBoth, eachInOne};

@@ -1,12 +1,11 @@
-// Loads one sheet after the other and writes a line for each: its number, and the sheet then in force with its relation.
-mod good;
+// Loads sheets and writes a line for each: its number, and the sheet then in force with its relation.
 mod order;
 mod show;
 mod size;
+mod verdicts;
 
 fn main() {
-    let s = sheet::fresh_sheet();
-    let s = good::cases(s);
-    let s = order::cases(s);
-    size::cases(s);
+    verdicts::cases();
+    order::cases();
+    size::cases();
 }

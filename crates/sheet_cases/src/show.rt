@@ -25,16 +25,30 @@ fn rows(relation: &[u32; 32], n: u8) {
     }
 }
 
-pub fn load(old: sheet::Sheet, name: &[u8], n: u8, rules: &[u8]) -> sheet::Sheet {
-    let loaded = sheet::load(old, n, rules);
+// Sheet A is in force before each load, and after a refusal.
+fn after_sheet_a(n: u8, rules: &[u8]) -> sheet::Loaded {
+    let first = sheet::load(
+        sheet::fresh_sheet(),
+        2,
+        b"\x01\x01\x00\x02\x01\x01\x02\x00\x00",
+    );
+    let old = first.sheet;
+    sheet::load(old, n, rules)
+}
+
+fn in_force(s: sheet::Sheet) {
+    let relation = s.closes;
+    io::print_decimal(1, s.n as u64);
+    rows(&relation, s.n);
+    io::write_all(1, b"\n");
+}
+
+pub fn load(name: &[u8], n: u8, rules: &[u8]) {
+    let loaded = after_sheet_a(n, rules);
     let next = loaded.sheet;
     io::write_all(1, name);
     io::write_all(1, b": ");
     io::print_decimal(1, loaded.number as u64);
     io::write_all(1, b", then ");
-    io::print_decimal(1, next.n as u64);
-    let relation = next.closes;
-    rows(&relation, next.n);
-    io::write_all(1, b"\n");
-    next
+    in_force(next);
 }

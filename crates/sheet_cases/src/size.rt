@@ -30,19 +30,19 @@ fn fill(rules: &mut [u8; 6147]) {
 }
 
 // Loads 32 operators with the bytes before an end.
-fn load_front(old: sheet::Sheet, name: &[u8], rules: [u8; 6147], end: usize) -> sheet::Sheet
+fn load_front(name: &[u8], rules: [u8; 6147], end: usize)
     requires { ⌜ end ≤ 6147 ⌝ }
 {
-    show::load(old, name, 32, &rules[0..end])
+    show::load(name, 32, &rules[0..end]);
 }
 
-pub fn cases(old: sheet::Sheet) -> sheet::Sheet {
+pub fn cases() {
     let mut rules = [0u8; 6147];
     fill(&mut rules);
-    let s = load_front(old, b"32 operators, no rules", rules, 0);
-    let s = load_front(s, b"32 operators, all pairs but the last", rules, 3069);
-    let s = load_front(s, b"6,144 rule bytes", rules, 6144);
-    let s = load_front(s, b"6,145 rule bytes", rules, 6145);
-    let s = load_front(s, b"6,147 rule bytes", rules, 6147);
-    load_front(s, b"all pairs of 32 operators", rules, 3072)
+    load_front(b"32 operators, no rules", rules, 0);
+    load_front(b"all pairs but the last", rules, 3069);
+    load_front(b"all pairs", rules, 3072);
+    load_front(b"6,144 rule bytes", rules, 6144);
+    load_front(b"6,145 rule bytes", rules, 6145);
+    load_front(b"6,147 rule bytes", rules, 6147);
 }
