@@ -6,3 +6,4 @@ pub mod ReaderWays
 pub mod RowWays
 pub mod SettleWays
 pub mod TakeWays
+pub mod BuildWays

@@ -8,7 +8,7 @@ use lib.ListN.{length, drop}
 use Rattle.expression.specs.Lists.{one, count}
 use Rattle.expression.specs.Limits.{mostOperators, mostTokens}
 use Rattle.expression.specs.Token.{opening, closing}
-use Rattle.parser.specs.Build.{Progress, progress, settleAll, step}
+use Rattle.parser.specs.Build.{Progress, progress, settleAll, step, built}
 use Rattle.parser.specs.declared.build.Fronts.{Fronts}
 
 -- the progress that the buffers hold from the fronts on
@@ -20,7 +20,7 @@ unfoldable pub operatorsIn : List ℕ → ℕ
 operatorsIn waiting = count (λ b. ltb b mostOperators) waiting
 
 -- a token's share of the record: none for a closing bracket
-abbrev pub share : ℕ → ℕ
+unfoldable pub share : ℕ → ℕ
 share c = one (not (eqb c closing))
 
 -- Both fronts lie in their buffers, and before the record there is room for the operators that wait and for so many bytes more.
@@ -43,6 +43,12 @@ pub record Prepends (c : ℕ) (out : List ℕ) (f : Fronts) (out′ : List ℕ) 
   pub at-lower : g .at + 1 ≡ f .at
   pub same-top : g .top ≡ f .top
 
+-- The stack's first byte, if there is one, waits no longer.
+pub record Pops (f g : Fronts) : Type 0 where
+  pub same-at : g .at ≡ f .at
+  pub next : f .top < mostTokens → g .top ≡ f .top + 1
+  pub none : mostTokens ≤ f .top → g .top ≡ f .top
+
 module _ (closes : ℕ → ℕ → Bool) (c : ℕ) (out stack : List ℕ) (f : Fronts) where
   -- What is settled where c comes has moved from one buffer to the other.
   pub record Settles (out′ : List ℕ) (g : Fronts) : Type 0 where
@@ -62,3 +68,8 @@ module _ (closes : ℕ → ℕ → Bool) (c : ℕ) (out stack : List ℕ) (f : F
     pub one-more : f .top ≤ g .top + 1
     pub at-lower : g .at ≤ f .at
     pub spent : operatorsIn (drop (g .top) stack′) + f .at ≤ g .at + operatorsIn (drop (f .top) stack) + share c
+
+-- The record that is built of the tokens stands in the output from a place on.
+pub record Lays (closes : ℕ → ℕ → Bool) (tokens out out′ : List ℕ) (at : ℕ) : Type 0 where
+  pub held : drop at out′ ≡ built closes tokens
+  pub same-length : length out′ ≡ length out

@@ -5,9 +5,11 @@ ghost use mathlib.Core.Path.{_≡_};
 ghost use mathlib.Core.Bool.{Bool};
 ghost use Prim.Native.Nat.{ℕ, _+_, _≤_, _<_};
 ghost use lib.ListN.{length, drop};
+ghost use Rattle.expression.specs.Token.{opening};
+ghost use Rattle.expression.specs.Checks.{recordBytes};
 ghost use Rattle.sheet.specs.Relation.{closesIn};
 ghost use Rattle.parser.specs.Build.{settled, built};
-ghost use Rattle.parser.specs.Fronts.{Roomy, Waits, Prepends, Settles, Takes, share};
+ghost use Rattle.parser.specs.Fronts.{Roomy, Waits, Prepends, Pops, Settles, Takes, Lays, share};
 
 // Where the record begins, and where the waiting operators do, in buffers that fill from their ends.
 pub struct Fronts {
@@ -46,7 +48,7 @@ fn settle(relation: &[u32; 32], c: u8, stack: &[u8; 255], out: &mut [u8], from: 
 
 // An operator, or a closing bracket, waits.
 fn wait(c: u8, stack: &mut [u8; 255], from: Fronts) -> Fronts
-    requires { ⌜ (0 < from .top) × (from .top ≤ 255) ⌝ }
+    requires { ⌜ (0 < from .top) × (from .top ≤ 255) × (length (now stack) ≡ 255) ⌝ }
     ensures { λ r. ⌜ Waits c (now (stack .entry)) from (now (stack .exit)) r ⌝ }
 {
     let at = from.at;
@@ -67,10 +69,83 @@ fn prepend(c: u8, out: &mut [u8], from: Fronts) -> Fronts
 }
 
 // An operator comes: what it lies above is settled, and it waits.
-fn take_operator(relation: &[u32; 32], c: u8, stack: &mut [u8; 255], out: &mut [u8], from: Fronts) -> Fronts
+fn take_operator(
+    relation: &[u32; 32],
+    c: u8,
+    stack: &mut [u8; 255],
+    out: &mut [u8],
+    from: Fronts,
+) -> Fronts
     requires { ⌜ (c < 32) × (0 < from .top) × Roomy 1 (now out) (now stack) from ⌝ }
     ensures { λ r. ⌜ Takes (closesIn (now (relation .entry))) c (now (out .entry)) (now (stack .entry)) from (now (out .exit)) (now (stack .exit)) r ⌝ }
 {
     let to = settle(relation, c, stack, out, from);
     wait(c, stack, to)
+}
+
+// The stack without its first byte, if there is one.
+fn pop(from: Fronts) -> Fronts
+    ensures { λ r. ⌜ Pops from r ⌝ }
+{
+    let at = from.at;
+    let top = from.top;
+    if top < 255 {
+        return Fronts {
+            at: at,
+            top: top + 1,
+        };
+    }
+    Fronts { at: at, top: top }
+}
+
+// An opening bracket comes: all that waits back to its closing bracket is settled, and that one waits no longer.
+fn take_opening(relation: &[u32; 32], stack: &[u8; 255], out: &mut [u8], from: Fronts) -> Fronts
+    requires { ⌜ Roomy 1 (now out) (now stack) from ⌝ }
+    ensures { λ r. ⌜ Takes (closesIn (now (relation .entry))) opening (now (out .entry)) (now (stack .entry)) from (now (out .exit)) (now (stack .entry)) r ⌝ }
+{
+    let inside = settle(relation, token::OPENING, stack, out, from);
+    let before = prepend(token::OPENING, out, inside);
+    pop(before)
+}
+
+// The next token from the right is taken.
+fn take_token(
+    relation: &[u32; 32],
+    c: u8,
+    stack: &mut [u8; 255],
+    out: &mut [u8],
+    from: Fronts,
+) -> Fronts
+    requires { ⌜ (0 < from .top) × Roomy (share c) (now out) (now stack) from ⌝ }
+    ensures { λ r. ⌜ Takes (closesIn (now (relation .entry))) c (now (out .entry)) (now (stack .entry)) from (now (out .exit)) (now (stack .exit)) r ⌝ }
+{
+    if c < limits::MOST_OPERATORS {
+        return take_operator(relation, c, stack, out, from);
+    }
+    if c == token::OPENING {
+        return take_opening(relation, stack, out, from);
+    }
+    if c == token::CLOSING {
+        return wait(token::CLOSING, stack, from);
+    }
+    prepend(c, out, from)
+}
+
+// All tokens are taken, from the right; the record stands at the end of the output, from the place that is answered.
+fn build_into(relation: &[u32; 32], row: &[u8], out: &mut [u8]) -> usize
+    requires { ⌜ (length (now row) ≤ 255) × (recordBytes (now row) ≤ length (now out)) ⌝ }
+    ensures { λ r. ⌜ Lays (closesIn (now (relation .entry))) (now (row .entry)) (now (out .entry)) (now (out .exit)) r ⌝ }
+{
+    let mut stack = [0u8; 255];
+    let mut fronts = Fronts {
+        at: out.len(),
+        top: 255,
+    };
+    let mut i = row.len();
+    while 0 < i {
+        i -= 1;
+        fronts = take_token(relation, row[i], &mut stack, out, fronts);
+    }
+    let last = settle(relation, token::OPENING, &stack, out, fronts);
+    last.at
 }
