@@ -1,5 +1,5 @@
 -- When a row and a record are accepted, in the terms of rows and trees. Assumes nothing.
-use Prim.Native.Nat.{ℕ, _≤_}
+use Prim.Native.Nat.{ℕ, _≤_, _<_}
 use native.Mathlib.Omega.{arith}
 use mathlib.Core.Path.{_≡_, refl, ap, sym, _∙_}
 use mathlib.Core.Bool.{Bool, true, false, cond, true≢false}
@@ -7,23 +7,23 @@ use mathlib.Core.Logic.{_↔_}
 use mathlib.Core.Option.{Option, none, some}
 use mathlib.Core.List.{List, [], _∷_, _++_}
 use lib.ListN.{length}
-use borrow.Author.Tests.{ltb-false, le-ltb, not-false}
+use borrow.Author.Tests.{ltb-false, lt-ltb, le-ltb, not-false}
 use Rattle.expression.specs.Lists.{All}
 use Rattle.expression.specs.Limits.{mostTokens, mostRecordBytes}
-use Rattle.expression.specs.Refusal.{Check, first, accepted}
+use Rattle.expression.specs.Refusal.{Check, first, accepted, short}
 use Rattle.expression.specs.Token.{class}
 use Rattle.expression.specs.Tree.{Tree, yield, recordOf, Over}
 use Rattle.expression.specs.Grammar.{Row}
 use Rattle.expression.specs.RowTest.{isRow}
 use Rattle.expression.specs.Decode.{treeOf}
-use Rattle.expression.specs.Checks.{isNone, rowTokens, rowChecks, recordChecks, rowNumber, recordNumber}
+use Rattle.expression.specs.Checks.{isNone, rowTokens, shortCheck, rowChecks, recordChecks, rowNumber, recordNumber}
 use Rattle.expression.proofs.Classes.{brackets}
 use Rattle.expression.proofs.RecordsAndTrees.{treeOf-record, record-treeOf}
 use Rattle.expression.proofs.RowTestDecides.{isRow-exactly-if-row}
 use Rattle.expression.proofs.Strangers.{row-has-no-stranger, record-has-no-stranger}
 
 -- no number of the list is 0
-abbrev Numbered : List Check → Type 0
+abbrev pub Numbered : List Check → Type 0
 Numbered cs = All (λ c. c .1 ≡ accepted → ⊥) cs
 
 -- none of the checks applies
@@ -47,11 +47,27 @@ pub first-append : (cs ds : List Check) → Passed cs → first (cs ++ ds) ≡ f
 first-append [] ds h = refl
 first-append (c ∷ cs) ds h = rw (h .0) (first-append cs ds (h .1))
 
+pub first-refused : (cs ds : List Check) → (first cs ≡ accepted → ⊥) → first (cs ++ ds) ≡ first cs
+first-refused [] ds n = absurd (n refl)
+first-refused (c ∷ cs) ds n = go (c .0) (first-refused cs ds) n
+  where
+    go : (b : Bool) → ((first cs ≡ accepted → ⊥) → first (cs ++ ds) ≡ first cs) → (cond b (c .1) (first cs) ≡ accepted → ⊥)
+        → cond b (c .1) (first (cs ++ ds)) ≡ cond b (c .1) (first cs)
+    go true f n = refl
+    go false f n = f n
+
+-- the answer comes last: it is short, or the call's number is the list's
+pub first-short : (cs : List Check) (answer room : ℕ) → first cs ≡ accepted → Numbered cs → room < answer → first (cs ++ (shortCheck answer room ∷ [])) ≡ short
+first-short cs answer room e n h = first-append cs (shortCheck answer room ∷ []) (passed-first cs n e) ∙ rw (lt-ltb room answer h)
+
+pub first-roomy : (cs : List Check) (answer room : ℕ) → first cs ≡ accepted → Numbered cs → answer ≤ room → first (cs ++ (shortCheck answer room ∷ [])) ≡ accepted
+first-roomy cs answer room e n h = first-append cs (shortCheck answer room ∷ []) (passed-first cs n e) ∙ rw (le-ltb room answer h)
+
 module _ (n : ℕ) where
-  row-numbered : (tokens : List ℕ) → Numbered (rowChecks n tokens)
+  pub row-numbered : (tokens : List ℕ) → Numbered (rowChecks n tokens)
   row-numbered tokens = (λ e. omega arith, (λ e. omega arith, (λ e. omega arith, tt)))
 
-  record-numbered : (bytes : List ℕ) → Numbered (recordChecks n bytes)
+  pub record-numbered : (bytes : List ℕ) → Numbered (recordChecks n bytes)
   record-numbered bytes = (λ e. omega arith, (λ e. omega arith, (λ e. omega arith, (λ e. omega arith, tt))))
 
   -- A row is accepted exactly if it is within the length and is a row over the n operators.

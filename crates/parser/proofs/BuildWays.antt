@@ -102,6 +102,7 @@ module _ (closes : ℕ → ℕ → Bool) (row out : List ℕ) where
     building-done h s =
         let e : i ≡ 0 = omega arith in
         record {
+          inside = omega (arith, s .at-lower, s .same-length, b .roomy .at-inside);
           held = ap (λ x. x .done) (s .held ∙ ap (settleAll closes opening) (b .held ∙ ap (λ x. progressOf closes (drop x row)) e));
           same-length = s .same-length ∙ b .same-length;
         }

@@ -1,9 +1,11 @@
 pub mod Edges
 pub mod BuildInvariant
 pub mod BuildsTree
+pub mod BuildLaws
 pub mod TokenWays
 pub mod ReaderWays
 pub mod RowWays
 pub mod SettleWays
 pub mod TakeWays
 pub mod BuildWays
+pub mod AnswerWays

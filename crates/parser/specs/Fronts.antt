@@ -71,5 +71,6 @@ module _ (closes : ℕ → ℕ → Bool) (c : ℕ) (out stack : List ℕ) (f : F
 
 -- The record that is built of the tokens stands in the output from a place on.
 pub record Lays (closes : ℕ → ℕ → Bool) (tokens out out′ : List ℕ) (at : ℕ) : Type 0 where
+  pub inside : at ≤ length out′
   pub held : drop at out′ ≡ built closes tokens
   pub same-length : length out′ ≡ length out

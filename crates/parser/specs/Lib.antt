@@ -1,3 +1,4 @@
 pub mod Build
 pub mod Rows
 pub mod Fronts
+pub mod Answers

@@ -132,7 +132,7 @@ fn take_token(
 }
 
 // All tokens are taken, from the right; the record stands at the end of the output, from the place that is answered.
-fn build_into(relation: &[u32; 32], row: &[u8], out: &mut [u8]) -> usize
+pub fn build_into(relation: &[u32; 32], row: &[u8], out: &mut [u8]) -> usize
     requires { ⌜ (length (now row) ≤ 255) × (recordBytes (now row) ≤ length (now out)) ⌝ }
     ensures { λ r. ⌜ Lays (closesIn (now (relation .entry))) (now (row .entry)) (now (out .entry)) (now (out .exit)) r ⌝ }
 {

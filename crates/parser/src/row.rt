@@ -5,7 +5,8 @@ use sheet::token;
 ghost use mathlib.Core.Path.{_≡_};
 ghost use mathlib.Core.Bool.{Bool};
 ghost use Rattle.expression.specs.Token.{class};
-ghost use Rattle.expression.specs.Checks.{strangeInRow, rowNumber};
+ghost use Rattle.expression.specs.Checks.{strangeInRow, rowNumber, recordBytes};
+ghost use Rattle.parser.specs.Fronts.{share};
 ghost use Rattle.parser.specs.Rows.{tokenOf, tokenAt, isOperator, isClosing, ReadsOperand, ReadsExpression, hasStranger};
 
 // What a token is where the sheet has n operators.
@@ -152,7 +153,7 @@ fn has_stranger(n: u8, row: &[u8]) -> bool
 }
 
 // The number of a row: 1, 3, 6 or 0.
-pub fn row_number(n: u8, row: &[u8]) -> u8
+pub fn number(n: u8, row: &[u8]) -> u8
     ensures { λ r. ⌜ r ≡ rowNumber n (now (row .entry)) ⌝ }
 {
     if limits::MOST_TOKENS < row.len() {
@@ -171,4 +172,27 @@ pub fn row_number(n: u8, row: &[u8]) -> u8
         }
         Reach::Refused(number) => number,
     }
+}
+
+// A token's share of its row's record: a byte, but none for a closing bracket.
+fn share_of(c: u8) -> usize
+    ensures { λ r. ⌜ r ≡ share c ⌝ }
+{
+    if c == token::CLOSING {
+        return 0;
+    }
+    1
+}
+
+// The bytes of the row's record.
+pub fn record_bytes(row: &[u8]) -> usize
+    ensures { λ r. ⌜ r ≡ recordBytes (now (row .entry)) ⌝ }
+{
+    let mut count: usize = 0;
+    let mut i: usize = 0;
+    while i < row.len() {
+        count += share_of(row[i]);
+        i += 1;
+    }
+    count
 }

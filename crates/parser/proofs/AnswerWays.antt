@@ -1,0 +1,118 @@
+-- What each way through the calls of the parser gives, from what is known on it. Assumes nothing.
+use mathlib.Core.Path.{_≡_, refl, sym, ap, ap₂, _∙_}
+use mathlib.Core.Bool.{Bool, true, false, not, cond}
+use mathlib.Core.List.{List, [], _∷_, _++_}
+use Prim.Native.Nat.{ℕ, zero, suc, _+_, _-_, _^_, _<_, _≤_}
+use native.Mathlib.Omega.{arith}
+use native.Mathlib.Numerals.{add-one}
+use mir.Val.{Fits}
+use mir.Syntax.{w64}
+use lib.Dec.{eqb, ltb}
+use lib.ListN.{length, getD, take, drop, length-drop}
+use lib.Seq.{take-suc, take-all, length-take-le}
+use borrow.Author.Tests.{eq-eqb, ne-eqb}
+use borrow.Author.Needs.{needs}
+use Rattle.expression.specs.Lists.{one, count}
+use Rattle.expression.specs.Token.{closing}
+use Rattle.expression.specs.Checks.{recordBytes, shortCheck, rowChecks, rowNumber, buildNumber}
+use Rattle.expression.proofs.Lengths.{count-append}
+use Rattle.expression.proofs.Numbers.{first-refused, first-short, first-roomy, row-numbered, row-accepted}
+use Rattle.sheet.specs.Relation.{closesIn}
+use Rattle.parser.specs.Build.{built}
+use Rattle.parser.specs.Fronts.{share, Lays}
+use Rattle.parser.specs.Answers.{AnswersBuild}
+use Rattle.parser.proofs.BuildLaws.{quiet, built-length-accepted}
+
+-- ---- share_of
+pub share-none : (c : ℕ) → c ≡ 33 → 0 ≡ share c
+unfolding share
+share-none c e = rw e
+
+pub share-byte : (c : ℕ) → (c ≡ 33 → ⊥) → 1 ≡ share c
+unfolding share
+share-byte c n = rw (ne-eqb c closing n)
+
+pub ruleset share-ways = (share-none, share-byte, needs)
+
+-- ---- record_bytes
+share-small : (c : ℕ) → share c ≤ 1
+unfolding share
+share-small c = go (eqb c closing)
+  where
+    go : (b : Bool) → one (not b) ≤ 1
+    go true = omega arith
+    go false = omega arith
+
+module _ (row : List ℕ) where
+  -- so many bytes for the tokens before the place
+  pub record Counted (count i : ℕ) : Type 0 where
+    pub counts : count ≡ recordBytes (take i row)
+    pub small : count ≤ i
+    pub inside : i ≤ length row
+
+  pub counted-none : Counted 0 0
+  counted-none = record { counts = refl; small = omega arith; inside = omega arith }
+
+  pub counted-more : {count i c : ℕ} → Counted count i → i < length row → c ≡ share (getD row i 0) → Counted (count + c) (i + 1)
+  unfolding share
+  counted-more {count} {i} {c} k h e =
+      record {
+        counts =
+            ap₂ _+_ (k .counts) e
+            ∙ sym (ap (λ x. recordBytes (take x row)) (add-one i) ∙ ap recordBytes (take-suc row i 0 h) ∙ count-append (λ c. not (eqb c closing)) (take i row) (getD row i 0 ∷ []) ∙ omega arith);
+        small = omega (arith, k .small, e, share-small (getD row i 0));
+        inside = omega arith;
+      }
+
+  pub counted-fits : {count i c : ℕ} → length row < 2 ^ 64 → Counted count i → i < length row → c ≡ share (getD row i 0) → Fits w64 (count + c)
+  counted-fits {i = i} l k h e = omega (arith, k .small, e, share-small (getD row i 0))
+
+  pub counted-all : {count i : ℕ} → Counted count i → length row ≤ i → count ≡ recordBytes row
+  counted-all {count} {i} k h = k .counts ∙ ap recordBytes (take-all i row h)
+
+pub ruleset bytes-ways = (counted-none, counted-more, counted-fits, counted-all, needs)
+
+-- ---- build_row
+module _ (n : ℕ) (words row out : List ℕ) where
+  pub build-refused : {number : ℕ} → number ≡ rowNumber n row → (number ≡ 0 → ⊥) → AnswersBuild n (closesIn words) row out out (record { number = number; length = 0 })
+  unfolding rowNumber buildNumber
+  build-refused {number} e h =
+      record {
+        numbered = e ∙ sym (first-refused (rowChecks n row) (shortCheck (recordBytes row) (length out) ∷ []) (λ f. h (e ∙ f)));
+        measured = rw (ne-eqb number 0 h);
+        output = rw (ne-eqb number 0 h);
+      }
+
+  module _ {number m : ℕ} (e : number ≡ rowNumber n row) (f : number ≡ 0) (b : m ≡ recordBytes row) where
+    pub build-short : length out < m → AnswersBuild n (closesIn words) row out out (record { number = 10; length = 0 })
+    unfolding rowNumber buildNumber
+    build-short h =
+        record {
+          numbered = sym (first-short (rowChecks n row) (recordBytes row) (length out) (sym e ∙ f) (row-numbered n row) (omega arith));
+          measured = refl;
+          output = refl;
+        }
+
+    -- the whole part is the record, and what lies past it is as before
+    pub build-done : {part : List ℕ} {at : ℕ} → m ≤ length out → Lays (closesIn words) row (take (m - 0) out) part at
+        → AnswersBuild n (closesIn words) row out (part ++ drop (m - 0) out) (record { number = 0; length = m })
+    unfolding rowNumber buildNumber
+    build-done {part} {at} h l =
+        let long : length (built (closesIn words) row) ≡ m = built-length-accepted (closesIn words) (quiet words) n row (sym e ∙ f) ∙ sym b in
+        let size : length part ≡ m = l .same-length ∙ length-take-le (m - 0) out (omega arith) ∙ omega arith in
+        let start : at ≡ 0 = omega (arith, length-drop at part, ap length (l .held), long, size, l .inside) in
+        let ends : m - 0 ≡ length (built (closesIn words) row) = omega (arith, long) in
+        let same : part ≡ built (closesIn words) row = ap (λ x. drop x part) (sym start) ∙ l .held in
+        record {
+          numbered = sym (first-roomy (rowChecks n row) (recordBytes row) (length out) (sym e ∙ f) (row-numbered n row) (omega arith));
+          measured = sym long;
+          output = ap₂ _++_ same (ap (λ x. drop x out) ends);
+        }
+
+  pub few-tokens : {number : ℕ} → number ≡ rowNumber n row → number ≡ 0 → length row ≤ 255
+  few-tokens e f = row-accepted n row .0 (sym e ∙ f) .0
+
+pub room-for-record : (row out : List ℕ) {m : ℕ} → m ≡ recordBytes row → m ≤ length out → recordBytes row ≤ length (take (m - 0) out)
+room-for-record row out {m} b h = omega (arith, length-take-le (m - 0) out (omega arith))
+
+pub ruleset build-row-ways = (build-refused, build-short, build-done, few-tokens, room-for-record, needs)

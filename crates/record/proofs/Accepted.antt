@@ -1,0 +1,62 @@
+-- The tree of an accepted record. Assumes nothing.
+use Prim.Native.Nat.{ℕ, _≤_}
+use native.Mathlib.Omega.{arith}
+use mathlib.Core.Path.{_≡_, refl, ap, sym, _∙_}
+use mathlib.Core.Bool.{Bool, true, false, cond}
+use mathlib.Core.Option.{Option, none, some}
+use mathlib.Core.List.{List, [], _∷_, _++_}
+use lib.ListN.{length}
+use borrow.Author.Tests.{ltb-false}
+use Rattle.expression.specs.Limits.{mostRecordBytes}
+use Rattle.expression.specs.Refusal.{Check, first, accepted}
+use Rattle.expression.specs.Token.{class}
+use Rattle.expression.specs.Tree.{Tree, yield}
+use Rattle.expression.specs.Decode.{treeOf}
+use Rattle.expression.specs.Checks.{isNone, rowTokens, recordChecks, recordNumber}
+use Rattle.expression.proofs.Classes.{brackets}
+use Rattle.expression.proofs.Lengths.{row-length-of-record}
+use Rattle.expression.proofs.Numbers.{Passed, passed-first}
+use Rattle.record.specs.TreeAt.{TreeAt}
+use Rattle.record.specs.Due.{rowLength}
+use Rattle.record.proofs.Trees.{whole}
+
+-- a list that refuses, and what comes after it
+pub first-refused : (cs ds : List Check) → (first cs ≡ accepted → ⊥) → first (cs ++ ds) ≡ first cs
+first-refused [] ds h = absurd (h refl)
+first-refused (c ∷ cs) ds h = go (c .0) (first-refused cs ds) h
+  where
+    go : (b : Bool) → ((first cs ≡ accepted → ⊥) → first (cs ++ ds) ≡ first cs) → (cond b (c .1) (first cs) ≡ accepted → ⊥)
+        → cond b (c .1) (first (cs ++ ds)) ≡ cond b (c .1) (first cs)
+    go true f h = refl
+    go false f h = f h
+
+-- t is the tree of the record
+pub record Accepted (n : ℕ) (bytes : List ℕ) (t : Tree) : Type 0 where
+  pub passed : Passed (recordChecks n bytes)
+  pub read : treeOf (class n) bytes ≡ some t
+  pub stands : TreeAt n bytes 0 t (length bytes)
+  pub bytes-fit : length bytes ≤ mostRecordBytes
+  pub row-is : length (yield t) ≡ rowLength bytes
+
+module _ (n : ℕ) (bytes : List ℕ) where
+  all-passed : recordNumber n bytes ≡ accepted → Passed (recordChecks n bytes)
+  unfolding recordNumber
+  all-passed e = passed-first (recordChecks n bytes) (λ e. omega arith, (λ e. omega arith, (λ e. omega arith, (λ e. omega arith, tt)))) e
+
+  is-tree : (o : Option Tree) → isNone o ≡ false → (t : Tree) × (o ≡ some t)
+  is-tree none e = let z : _≡_ {A = ℕ} 0 1 = cc in absurd (omega arith)
+  is-tree (some t) e = (t, refl)
+
+  pub accepted-tree : recordNumber n bytes ≡ accepted → (t : Tree) × Accepted n bytes t
+  accepted-tree e =
+      let p = all-passed e in
+      let (t, q) = is-tree (treeOf (class n) bytes) (p .1 .1 .0) in (
+        t,
+        record {
+          passed = p;
+          read = q;
+          stands = whole n bytes t q;
+          bytes-fit = ltb-false mostRecordBytes (length bytes) (p .0);
+          row-is = sym (ap rowTokens q) ∙ row-length-of-record (class n) (brackets n) bytes t q;
+        },
+      )

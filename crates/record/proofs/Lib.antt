@@ -1,0 +1,12 @@
+pub mod Nodes
+pub mod Trees
+pub mod Reaching
+pub mod OneTree
+pub mod Checking
+pub mod Numbering
+pub mod Writing
+pub mod Accepted
+pub mod Yielding
+pub mod OperandPlaces
+pub mod Counting
+pub mod Judging

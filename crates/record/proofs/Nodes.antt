@@ -1,0 +1,85 @@
+-- The node at a place, by the byte that stands there. Assumes nothing.
+use Prim.Native.Nat.{ℕ, _≤_, _<_, _+_, _^_}
+use native.Mathlib.Omega.{arith}
+use native.Mathlib.Decide.{decLt}
+use mathlib.Core.Path.{_≡_, refl, ap, sym, _∙_}
+use mathlib.Core.Bool.{Bool, true, false, cond}
+use mathlib.Core.List.{List, [], _∷_}
+use mathlib.Core.Logic.{⊎-elim}
+use lib.ListN.{length, getD}
+use borrow.Author.Needs.{needs}
+use borrow.Author.Tests.{lt-ltb, le-ltb}
+use mir.Syntax.{w8, w64}
+use mir.Val.{Fits}
+use types.Run.{OneOf}
+use denote.Enum.Declared.{tagOf}
+use Rattle.expression.specs.Limits.{mostOperators}
+use Rattle.expression.specs.Token.{Class, Infix, Opening, Closing, Reading, Meaningless, opening, firstReading, lastReading, class}
+use Rattle.expression.proofs.Classes.{by-class, class-operator, class-reading, brackets}
+use Rattle.record.specs.Node.{nodeOf, nodeAt}
+use Rattle.record.specs.declared.Node.{Node}
+use Rattle.record.specs.declared.Node.the-variants as node
+use Rattle.record.proofs.Node.{the-type}
+
+module _ (n : ℕ) (bytes : List ℕ) (at : ℕ) where
+  pub past : length bytes ≤ at → node.Other ≡ nodeAt n bytes at
+  past h = rw (le-ltb at (length bytes) h)
+
+  -- within the bytes, the byte's class decides
+  pub within-node : at < length bytes → nodeAt n bytes at ≡ nodeOf (class n (getD bytes at 0)) (getD bytes at 0)
+  within-node h = rw (lt-ltb at (length bytes) h)
+
+  pub operator : at < length bytes → getD bytes at 0 < mostOperators → getD bytes at 0 < n → node.Operator (getD bytes at 0) ≡ nodeAt n bytes at
+  operator h a b = sym (within-node h ∙ ap (λ k. nodeOf k (getD bytes at 0)) (class-operator n (getD bytes at 0) a b))
+
+  pub no-operator : at < length bytes → getD bytes at 0 < mostOperators → n ≤ getD bytes at 0 → node.Other ≡ nodeAt n bytes at
+  no-operator h a b =
+      by-class n (λ k. node.Other ≡ nodeOf k (getD bytes at 0)) (getD bytes at 0) (λ _ g. absurd (omega arith)) (λ g. absurd (omega arith)) (λ _. refl)
+      (λ g _. absurd (omega arith)) refl
+      ∙ sym (within-node h)
+
+  pub bracket : at < length bytes → getD bytes at 0 ≡ opening → node.Bracket ≡ nodeAt n bytes at
+  bracket h e = sym (within-node h ∙ ap (λ k. nodeOf k (getD bytes at 0)) (ap (class n) e ∙ brackets n .opens))
+
+  pub neither : at < length bytes → mostOperators ≤ getD bytes at 0 → (getD bytes at 0 ≡ opening → ⊥) → getD bytes at 0 < firstReading → node.Other ≡ nodeAt n bytes at
+  neither h a b d =
+      by-class n (λ k. node.Other ≡ nodeOf k (getD bytes at 0)) (getD bytes at 0) (λ g _. absurd (omega arith)) (λ g. absurd (b g)) (λ _. refl)
+      (λ g _. absurd (omega arith)) refl
+      ∙ sym (within-node h)
+
+  pub reading : ((k : ℕ) → Fits w8 (getD bytes k 0)) → at < length bytes → firstReading ≤ getD bytes at 0 → node.Reading (getD bytes at 0) ≡ nodeAt n bytes at
+  reading f h a = sym (within-node h ∙ ap (λ k. nodeOf k (getD bytes at 0)) (class-reading n (getD bytes at 0) a (omega (arith, f at))))
+
+pub ruleset node-at-ways = (past, operator, no-operator, bracket, neither, reading, needs)
+
+abbrev pub isOther : Node → Bool
+isOther (node.Reading a) = false
+isOther node.Bracket = false
+isOther (node.Operator o) = false
+isOther node.Other = true
+
+-- a node stands within the bytes
+pub within : (n : ℕ) (bytes : List ℕ) (at : ℕ) → isOther (nodeAt n bytes at) ≡ false → at < length bytes
+within n bytes at h = go (decLt at (length bytes))
+  where
+    go : Dec (at < length bytes) → at < length bytes
+    go (yes d) = d
+    go (no d) =
+        let e : node.Other ≡ nodeAt n bytes at = past n bytes at (omega arith) in
+        let z : _≡_ {A = ℕ} 0 1 = cc (ap isOther e, h) in
+        omega arith
+
+-- none of the three is what is left
+pub is-other : (x : Node) → OneOf (1 ∷ 2 ∷ 3 ∷ []) (tagOf the-type x) → OneOf (0 ∷ 2 ∷ 3 ∷ []) (tagOf the-type x) → OneOf (0 ∷ 1 ∷ 3 ∷ []) (tagOf the-type x) → x ≡ node.Other
+is-other (node.Reading a) p q r = absurd (⊎-elim (λ w. omega arith) (⊎-elim (λ w. omega arith) (λ w. omega arith)) p)
+is-other node.Bracket p q r = absurd (⊎-elim (λ w. omega arith) (⊎-elim (λ w. omega arith) (λ w. omega arith)) q)
+is-other (node.Operator o) p q r = absurd (⊎-elim (λ w. omega arith) (⊎-elim (λ w. omega arith) (λ w. omega arith)) r)
+is-other node.Other p q r = refl
+
+-- what a walk that goes on past a node asks
+module _ (n : ℕ) (bytes : List ℕ) (at : ℕ) {x y : Node} (found : x ≡ nodeAt n bytes at) (is : x ≡ y) where
+  pub within-as : isOther y ≡ false → at < length bytes
+  within-as h = within n bytes at (ap isOther (sym found ∙ is) ∙ h)
+
+  pub next-fits : length bytes < 2 ^ 64 → isOther y ≡ false → Fits w64 (at + 1)
+  next-fits r h = let d = within-as h in omega arith

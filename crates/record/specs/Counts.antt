@@ -1,0 +1,80 @@
+-- The conflict count of the tree at a place of a record, under a relation "closes before" in words. Assumes nothing.
+use Prim.Native.Nat.{ℕ, _+_, _≤_, _<_}
+use mathlib.Core.Path.{_≡_}
+use mathlib.Core.Bool.{Bool, not, cond}
+use mathlib.Core.Option.{Option, none, some}
+use mathlib.Core.List.{List}
+use lib.Dec.{eqb}
+use lib.ListN.{length}
+use Rattle.expression.specs.Lists.{one}
+use Rattle.expression.specs.Refusal.{accepted}
+use Rattle.expression.specs.Token.{class}
+use Rattle.expression.specs.Tree.{Tree}
+use Rattle.expression.specs.Decode.{treeOf}
+use Rattle.expression.specs.Checks.{recordNumber}
+use Rattle.disambiguation.specs.Conflicts.{conflicts}
+use Rattle.sheet.specs.Relation.{closesIn}
+use Rattle.record.specs.TreeAt.{TreeAt}
+use Rattle.record.specs.declared.Judgement.{Judgement}
+use Rattle.record.specs.declared.Node.{Node}
+use Rattle.record.specs.declared.Node.the-variants.{Reading, Bracket, Operator, Other}
+use Rattle.record.specs.declared.conflicts.Tally.{Tally}
+use Rattle.record.specs.declared.conflicts.Tally.the-variants.{Counted, Refused}
+
+-- L(o,b) is excluded where b does not close before o, and R(o,b) where o closes before b.
+abbrev pub excludedLeft : List ℕ → ℕ → ℕ → Bool
+excludedLeft words o b = not (closesIn words b o)
+
+abbrev pub conflictsIn : List ℕ → Tree → ℕ
+conflictsIn words = conflicts (excludedLeft words) (closesIn words)
+
+-- what operator o shows with an operand that has the node on top
+abbrev pub onLeft : List ℕ → ℕ → Node → ℕ
+onLeft words o (Reading a) = 0
+onLeft words o Bracket = 0
+onLeft words o (Operator b) = one (excludedLeft words o b)
+onLeft words o Other = 0
+
+abbrev pub onRight : List ℕ → ℕ → Node → ℕ
+onRight words o (Reading a) = 0
+onRight words o Bracket = 0
+onRight words o (Operator b) = one (closesIn words o b)
+onRight words o Other = 0
+
+-- document 01's number of the answer,
+abbrev pub tallyNumber : Tally → ℕ
+tallyNumber (Counted end count) = accepted
+tallyNumber (Refused number) = number
+
+-- the place after the tree,
+abbrev pub tallyEnd : Tally → ℕ
+tallyEnd (Counted end count) = end
+tallyEnd (Refused number) = 0
+
+-- and the count
+abbrev pub tallyCount : Tally → ℕ
+tallyCount (Counted end count) = count
+tallyCount (Refused number) = 0
+
+-- From the place `from`, with so many counted before it.
+pub record Counts (n : ℕ) (words bytes : List ℕ) (from before : ℕ) (r : Tally) : Type 0 where
+  -- where a tree stands, its end, and its conflicts added
+  pub counted : (t : Tree) (to : ℕ) → TreeAt n bytes from t to
+      → (tallyNumber r ≡ accepted) × (tallyEnd r ≡ to) × (tallyCount r ≡ before + conflictsIn words t)
+  -- a place that is given lies further on, and the count is below it
+  pub onward : tallyNumber r ≡ accepted → from < tallyEnd r
+  pub within : tallyNumber r ≡ accepted → tallyEnd r ≤ length bytes
+  pub small : tallyNumber r ≡ accepted → tallyCount r < tallyEnd r
+
+-- the conflict count of the tree that a record is of
+abbrev pub countIn : List ℕ → Option Tree → ℕ
+countIn words none = 0
+countIn words (some t) = conflictsIn words t
+
+-- The number and the count of a record; the count is 0 after a refusal.
+unfoldable pub judgement : ℕ → List ℕ → List ℕ → Judgement
+judgement n words bytes =
+    record {
+      number = recordNumber n bytes;
+      count = cond (eqb (recordNumber n bytes) accepted) (countIn words (treeOf (class n) bytes)) 0;
+    }

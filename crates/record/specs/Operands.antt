@@ -1,0 +1,13 @@
+-- The place of an operand in its record. Assumes nothing.
+use Prim.Native.Nat.{ℕ, _-_, _≤_}
+use mathlib.Core.Path.{_≡_}
+use mathlib.Core.Bool.{Bool}
+use mathlib.Core.List.{List}
+use lib.ListN.{length, take, drop}
+use Rattle.expression.specs.Operand.{operandPart}
+use Rattle.record.specs.declared.operands.Part.{Part}
+
+pub record OperandAt (n : ℕ) (right : Bool) (bytes : List ℕ) (p : Part) : Type 0 where
+  pub ordered : p .from ≤ p .to
+  pub within : p .to ≤ length bytes
+  pub stands : take (p .to - p .from) (drop (p .from) bytes) ≡ operandPart n right bytes

@@ -1,0 +1,25 @@
+-- Where the tree at a place of a record ends. Assumes nothing.
+use Prim.Native.Nat.{ℕ, _<_}
+use mathlib.Core.Path.{_≡_}
+use mathlib.Core.List.{List}
+use Rattle.expression.specs.Refusal.{accepted}
+use Rattle.expression.specs.Tree.{Tree}
+use Rattle.record.specs.TreeAt.{TreeAt}
+use Rattle.record.specs.declared.ends.Reach.{Reach}
+use Rattle.record.specs.declared.ends.Reach.the-variants.{At, Refused}
+
+-- document 01's number of the answer,
+abbrev pub reachNumber : Reach → ℕ
+reachNumber (At to) = accepted
+reachNumber (Refused number) = number
+
+-- and the place that it gives
+abbrev pub reachEnd : Reach → ℕ
+reachEnd (At to) = to
+reachEnd (Refused number) = 0
+
+pub record Reaches (n : ℕ) (bytes : List ℕ) (from : ℕ) (r : Reach) : Type 0 where
+  -- where a tree stands, its end
+  pub reached : (t : Tree) (to : ℕ) → TreeAt n bytes from t to → (reachNumber r ≡ accepted) × (reachEnd r ≡ to)
+  -- a place that is given lies further on
+  pub onward : reachNumber r ≡ accepted → from < reachEnd r

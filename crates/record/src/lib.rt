@@ -1,0 +1,146 @@
+// Trees in records: read node by node, checked, yielded, judged; and the record of an operand.
+ghost use mathlib.Core.Path.{_≡_};
+ghost use Prim.Native.Nat.{ℕ};
+ghost use Rattle.expression.specs.Checks.{recordNumber};
+ghost use Rattle.expression.specs.Operand.{operandPart};
+ghost use Rattle.record.specs.Node.{nodeAt};
+ghost use Rattle.record.specs.Answers.{Yields};
+ghost use Rattle.record.specs.Counts.{judgement};
+use conflicts::Tally;
+use rows::Written;
+
+mod checks;
+mod conflicts;
+mod ends;
+mod limits;
+mod operands;
+mod refusal;
+mod rows;
+mod tokens;
+
+// What stands at a place of a record. Other: no byte, or one that begins no tree under n operators.
+pub enum Node {
+    Reading(u8),
+    Bracket,
+    Operator(u8),
+    Other,
+}
+
+// The node at a place, where the sheet used has n operators.
+pub fn node_at(n: u8, bytes: &[u8], at: usize) -> Node
+    ensures { λ r. ⌜ r ≡ nodeAt n (now (bytes .entry)) at ⌝ }
+{
+    if bytes.len() <= at {
+        return Node::Other;
+    }
+    let byte = bytes[at];
+    if byte < tokens::OPENING {
+        if byte < n {
+            return Node::Operator(byte);
+        }
+        return Node::Other;
+    }
+    if byte == tokens::OPENING {
+        return Node::Bracket;
+    }
+    if byte < tokens::FIRST_READING {
+        return Node::Other;
+    }
+    Node::Reading(byte)
+}
+
+// The number of a record, where the sheet used has n operators: 1 for its bytes, 3, 7, 1 for its row, or 0.
+pub fn record_number(n: u8, bytes: &[u8]) -> u8
+    ensures { λ r. ⌜ r ≡ recordNumber n (now (bytes .entry)) ⌝ }
+{
+    if limits::MOST_RECORD_BYTES < bytes.len() {
+        return refusal::OVERSIZE;
+    }
+    if checks::has_stranger(n, bytes) {
+        return refusal::STRANGER;
+    }
+    if !checks::is_tree(n, bytes) {
+        return refusal::NO_TREE;
+    }
+    if limits::MOST_TOKENS < checks::row_length(bytes) {
+        return refusal::OVERSIZE;
+    }
+    refusal::ACCEPTED
+}
+
+// The number of a call that writes an answer, and the answer's length; 0 after a refusal.
+pub struct Answer {
+    pub number: u8,
+    pub length: usize,
+}
+
+// The row of the record's tree, written at the front of `out`. After a refusal `out` is as it was.
+pub fn yield_row(n: u8, bytes: &[u8], out: &mut [u8]) -> Answer
+    ensures { λ r. ⌜ Yields n (now (bytes .entry)) (now (out .entry)) (now (out .exit)) r ⌝ }
+{
+    let number = record_number(n, bytes);
+    if number != refusal::ACCEPTED {
+        return Answer {
+            number: number,
+            length: 0,
+        };
+    }
+    let tokens = checks::row_length(bytes);
+    if out.len() < tokens {
+        return Answer {
+            number: refusal::SHORT,
+            length: 0,
+        };
+    }
+    let written = rows::write_row(n, bytes, 0, out, 0);
+    let Written::Upto(_, last) = written else {
+        return Answer {
+            number: refusal::NO_TREE,
+            length: 0,
+        };
+    };
+    Answer {
+        number: refusal::ACCEPTED,
+        length: last,
+    }
+}
+
+// The number of a record, and the conflict count of its tree; 0 after a refusal.
+pub struct Judgement {
+    pub number: u8,
+    pub count: u8,
+}
+
+// The record judged under n operators and the relation "closes before".
+pub fn judge(n: u8, relation: &[u32; 32], bytes: &[u8]) -> Judgement
+    ensures { λ r. ⌜ r ≡ judgement n (now (relation .entry)) (now (bytes .entry)) ⌝ }
+{
+    let number = record_number(n, bytes);
+    if number != refusal::ACCEPTED {
+        return Judgement {
+            number: number,
+            count: 0,
+        };
+    }
+    let tally = conflicts::count_at(n, relation, bytes, 0, 0);
+    let Tally::Counted(_, count) = tally else {
+        return Judgement {
+            number: refusal::NO_TREE,
+            count: 0,
+        };
+    };
+    Judgement {
+        number: refusal::ACCEPTED,
+        count: count as u8,
+    }
+}
+
+// The record of the left or of the right operand of the top node: that part of `bytes`. Its number is `record_number`.
+pub fn operand(n: u8, bytes: &[u8], right: bool) -> &[u8]
+    ensures { λ r. ⌜ now r ≡ operandPart n right (now (bytes .entry)) ⌝ }
+{
+    let part = operands::operand_part(n, bytes, right);
+    let from = part.from;
+    let to = part.to;
+    &bytes[from..to]
+}
