@@ -9,3 +9,4 @@ pub mod SettleWays
 pub mod TakeWays
 pub mod BuildWays
 pub mod AnswerWays
+pub mod RepairWays
