@@ -8,13 +8,15 @@ use native.Mathlib.Omega.{arith}
 use borrow.Author.Tests.{ltb-true, ltb-false}
 use lib.Dec.{eqb, ltb}
 use lib.ListN.{length}
-use Rattle.expression.specs.Lists.{any, count, one}
+use Rattle.expression.specs.Lists.{any}
 use Rattle.expression.specs.Limits.{mostRuleBytes, bytesOfRule}
 use Rattle.expression.specs.Refusal.{accepted, oversize, torn, stranger}
-use Rattle.expression.specs.Token.{Infix, Opening, Closing, Reading, Meaningless, opening, closing, firstReading, lastReading, class}
-use Rattle.expression.specs.Tree.{Tree, reading, bracket, binary, Over}
+use Rattle.expression.specs.Token.{class}
+use Rattle.expression.specs.Tree.{Tree, Over}
 use Rattle.disambiguation.specs.Rules.{Rule, L, R}
-use Rattle.disambiguation.specs.Edges.{seenFromLeft, seenFromRight}
+use Rattle.disambiguation.specs.ExactlyOne.{EveryRowHasExactlyOne}
+use Rattle.disambiguation.proofs.VerdictDecides.{accepted-exactly-if}
+use Rattle.disambiguation.proofs.Accepted.{accepted-passes, count-by-closes}
 use Rattle.disambiguation.specs.Conflicts.{conflicts, conflictCount}
 use Rattle.disambiguation.specs.Below.{allBelow}
 use Rattle.disambiguation.specs.Verdict.{safe, total, level, verdict}
@@ -108,39 +110,15 @@ unfolding verdict safe total level allBelow R
 fresh-in-force = record { few = omega arith; operators = refl; accepts = refl; right = closes-fresh; left = λ a b h. absurd (omega arith) }
 
 -- ---- what the relation decides
--- an operator of a tree over the sheet's operators
-infix-below : (n o : ℕ) → class n o ≡ Infix → o < n
-unfolding class
-infix-below n o e = go (ltb o 32) (ltb o n) (eqb o opening) (eqb o closing) (ltb o firstReading) (ltb lastReading o) refl e
-  where
-    go : (p q x y z w : Bool) → ltb o n ≡ q
-        → cond p (cond q Infix Meaningless) (cond x Opening (cond y Closing (cond z Meaningless (cond w Meaningless Reading)))) ≡ Infix → o < n
-    go true true x y z w a f = ltb-true o n a
-    go true false x y z w a f = let c : _≡_ {A = ℕ} 0 1 = cc in absurd (omega arith)
-    go false q true y z w a f = let c : _≡_ {A = ℕ} 0 1 = cc in absurd (omega arith)
-    go false q false true z w a f = let c : _≡_ {A = ℕ} 0 1 = cc in absurd (omega arith)
-    go false q false false true w a f = let c : _≡_ {A = ℕ} 0 1 = cc in absurd (omega arith)
-    go false q false false false true a f = let c : _≡_ {A = ℕ} 0 1 = cc in absurd (omega arith)
-    go false q false false false false a f = let c : _≡_ {A = ℕ} 0 1 = cc in absurd (omega arith)
-
 module _ (s : Sheet) (n : ℕ) (rules : List Rule) (k : InForce s n rules) where
   -- as functions: whatever is made of R is made of the relation
   pub relation-is-R : closes s ≡ R rules
   relation-is-R = fun-ext (λ a. fun-ext (λ b. k .right a b))
 
-  seen-right : (o : ℕ) (t : Tree) → o < n → Over (class n) t → count (L rules o) (seenFromRight t) ≡ count (λ p. not (closes s p o)) (seenFromRight t)
-  seen-right o (reading x) h w = refl
-  seen-right o (bracket t) h w = refl
-  seen-right o (binary p l r) h w = ap (λ (q : Bool). one q + 0) (k .left p o (infix-below n p (w .0)) h)
-
-  seen-left : (o : ℕ) (t : Tree) → count (R rules o) (seenFromLeft t) ≡ count (closes s o) (seenFromLeft t)
-  seen-left o t = ap (λ (q : ℕ → Bool). count q (seenFromLeft t)) (fun-ext (λ p. sym (k .right o p)))
-
   -- the conflict count of a tree over the sheet's operators needs only the relation
   pub count-by-relation : (t : Tree) → Over (class n) t → conflictCount rules t ≡ conflicts (λ b a. not (closes s a b)) (closes s) t
-  count-by-relation (reading x) w = refl
-  count-by-relation (bracket t) w = count-by-relation t w
-  count-by-relation (binary o l r) w =
-      ap₂ (λ (x y : ℕ). x + y)
-      (ap₂ (λ (x y : ℕ). x + y) (seen-right o l (infix-below n o (w .0)) (w .1)) (seen-left o r))
-      (ap₂ (λ (x y : ℕ). x + y) (count-by-relation l (w .1)) (count-by-relation r (w .2)))
+  count-by-relation = count-by-closes n rules (accepted-passes n rules (k .accepts)) (closes s) (λ a b _ _. k .right a b)
+
+  -- every row over the sheet's operators has exactly one conflict-free tree
+  pub every-row-has-one : EveryRowHasExactlyOne n rules
+  every-row-has-one = accepted-exactly-if n rules (k .few) .0 (k .accepts)

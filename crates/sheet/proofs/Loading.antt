@@ -15,7 +15,7 @@ use Rattle.disambiguation.specs.Rules.{L, R}
 use Rattle.disambiguation.specs.SheetChecks.{rulesOf, strangeRule, sheetNumber}
 use Rattle.sheet.specs.Relation.{closes, closesIn, turned}
 use Rattle.sheet.specs.Marking.{Reads}
-use Rattle.sheet.specs.Loading.{sizeNumber, rulesNumber, Loads}
+use Rattle.sheet.specs.Loading.{sizeNumber, rulesNumber, sheetOf, Loads}
 use Rattle.sheet.specs.declared.Sheet.{Sheet}
 use Rattle.sheet.proofs.Marks.{blank, closes-is-R, closes-is-L}
 use Rattle.sheet.proofs.Verdicts.{number-same, accepts, opposite}
@@ -76,6 +76,7 @@ module _ (n : ℕ) (bytes : List ℕ) where
   refused old e h = record {
     number = e;
     kept = λ k. refl;
+    whole = λ z. absurd (h (e ∙ z));
     operators = λ z. absurd (h (e ∙ z));
     relation = λ z. absurd (h (e ∙ z));
     opposite = λ z. absurd (h (e ∙ z));
@@ -83,6 +84,10 @@ module _ (n : ℕ) (bytes : List ℕ) where
 
   pub load-size : {size : ℕ} (old : Sheet) → size ≡ sizeNumber n (length bytes) → (size ≡ 0 → ⊥) → Loads old n bytes (record { number = size; sheet = old })
   load-size old e h = refused old (e ∙ by-size (λ z. h (e ∙ z))) h
+
+-- a sheet of these words
+abbrev made : ℕ → List ℕ → Sheet
+made n words = record { n = n; closes = words }
 
 -- The rules read, from blank tables.
 module _ (n : ℕ) (bytes t u : List ℕ) {strange : Bool} (few : n ≤ 32) (read : Reads n bytes blank blank t u strange) where
@@ -120,7 +125,7 @@ module _ {size number : ℕ} {strange : Bool} (old : Sheet) (n : ℕ) (bytes t u
   load-rules h = refused n bytes old sheet-number h
 
   pub load-accepted : number ≡ 0 → Loads old n bytes (record { number = number; sheet = record { n = n; closes = t } })
-  unfolding closes
+  unfolding closes sheetOf
   load-accepted z =
       let l : n ≤ 32 = few-operators n (length bytes) size-is small in
       let plain : strange ≡ false = none-strange n bytes t u l read (sym number-of ∙ z) in
@@ -128,6 +133,7 @@ module _ {size number : ℕ} {strange : Bool} (old : Sheet) (n : ℕ) (bytes t u
       record {
         number = sheet-number;
         kept = λ h. absurd (h (sym sheet-number ∙ z));
+        whole = λ e. ap (λ (w : List ℕ). made n w) (read .excludes-right plain);
         operators = λ e. refl;
         relation = λ e. relation-is n bytes t u l read plain;
         opposite = λ e a b ha hb.
