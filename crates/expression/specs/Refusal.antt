@@ -30,8 +30,18 @@ noRow = 6
 abbrev pub noTree : ℕ
 noTree = 7
 
+abbrev pub place : ℕ
+place = 8
+
+abbrev pub empty : ℕ
+empty = 9
+
 abbrev pub short : ℕ
 short = 10
+
+-- document 01's "in use"
+abbrev pub inUse : ℕ
+inUse = 11
 
 -- One line of a call's list: whether it applies, and its number.
 abbrev pub Check : Type 0

@@ -1,0 +1,4 @@
+pub mod Call
+pub mod Panel
+pub mod Steps
+pub mod Book

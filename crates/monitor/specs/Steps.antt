@@ -1,0 +1,102 @@
+-- What each call makes of a panel value, and what it answers. Assumes nothing.
+use Prim.Native.Nat.{ℕ}
+use mathlib.Core.Bool.{Bool}
+use mathlib.Core.List.{List, [], _∷_, _++_}
+use lib.ListN.{length}
+use Rattle.expression.specs.Refusal.{first}
+use Rattle.expression.specs.Lent.{outputAfter}
+use Rattle.expression.specs.Token.{class}
+use Rattle.expression.specs.Decode.{treeOf}
+use Rattle.expression.specs.Operand.{rowOf, operandPart}
+use Rattle.expression.specs.Checks.{shortCheck, rowTokens, rowChecks, recordChecks, recordNumber, buildNumber, repairNumber, yieldNumber}
+use Rattle.disambiguation.specs.SheetChecks.{rulesOf}
+use Rattle.sheet.specs.Relation.{closes}
+use Rattle.sheet.specs.Loading.{sheetOf}
+use Rattle.sheet.specs.declared.Sheet.{Sheet}
+use Rattle.record.specs.Counts.{judgement}
+use Rattle.parser.specs.Build.{built}
+use Rattle.places.specs.Store.{placeCount, slotBytes, held, imageOf, stored}
+use Rattle.monitor.specs.Call.{Call, load, putRow, putRecord, drop, fetchRecord, fetchRow, image, build, repair, judge, yield, operand, Reply}
+use Rattle.monitor.specs.Panel.{Panel, placeCheck, emptyCheck, inUseCheck, sheetChecks, ifAccepted, rebuilt, rebuiltTo}
+
+module _ (p : Panel) where
+  abbrev pub operators : ℕ
+  operators = p .sheet .n
+
+  -- The numbers.
+  unfoldable pub loadNumber : ℕ → List ℕ → ℕ
+  loadNumber n rules = first (sheetChecks n rules ++ (inUseCheck n (held (p .places)) ∷ []))
+
+  unfoldable pub putRowNumber : ℕ → List ℕ → ℕ
+  putRowNumber k row = first (placeCheck k ∷ rowChecks operators row)
+
+  unfoldable pub putRecordNumber : ℕ → List ℕ → ℕ
+  putRecordNumber k bytes = first (placeCheck k ∷ recordChecks operators bytes)
+
+  unfoldable pub dropNumber : ℕ → ℕ
+  dropNumber k = first (placeCheck k ∷ emptyCheck (held (p .places) k) ∷ [])
+
+  unfoldable pub fetchRecordNumber : ℕ → ℕ → ℕ
+  fetchRecordNumber k room = first (placeCheck k ∷ emptyCheck (held (p .places) k) ∷ shortCheck (length (held (p .places) k)) room ∷ [])
+
+  unfoldable pub fetchRowNumber : ℕ → ℕ → ℕ
+  fetchRowNumber k room =
+      first (placeCheck k ∷ emptyCheck (held (p .places) k) ∷ recordChecks operators (held (p .places) k)
+      ++ (shortCheck (rowTokens (treeOf (class operators) (held (p .places) k))) room ∷ []))
+
+  unfoldable pub imageNumber : ℕ → ℕ → ℕ
+  imageNumber k room = first (placeCheck k ∷ shortCheck slotBytes room ∷ [])
+
+  -- The panel after a call that changes it.
+  unfoldable pub sheetAfter : ℕ → List ℕ → Sheet
+  sheetAfter n rules = ifAccepted (loadNumber n rules) (sheetOf n (rulesOf rules)) (p .sheet)
+
+  unfoldable pub placesAfterLoad : ℕ → List ℕ → List ℕ
+  placesAfterLoad n rules = ifAccepted (loadNumber n rules) (rebuiltTo n (closes (sheetOf n (rulesOf rules))) placeCount (p .places)) (p .places)
+
+  unfoldable pub placesAfterRow : ℕ → List ℕ → List ℕ
+  placesAfterRow k row = ifAccepted (putRowNumber k row) (stored (p .places) k (built (closes (p .sheet)) row)) (p .places)
+
+  unfoldable pub placesAfterRecord : ℕ → List ℕ → List ℕ
+  placesAfterRecord k bytes = ifAccepted (putRecordNumber k bytes) (stored (p .places) k (rebuilt operators (closes (p .sheet)) bytes)) (p .places)
+
+  unfoldable pub placesAfterDrop : ℕ → List ℕ
+  placesAfterDrop k = ifAccepted (dropNumber k) (stored (p .places) k []) (p .places)
+
+  abbrev pub withPlaces : List ℕ → Panel
+  withPlaces places = record { sheet = p .sheet; places = places }
+
+  abbrev pub after : Call → Panel
+  after (load n rules) = record { sheet = sheetAfter n rules; places = placesAfterLoad n rules }
+  after (putRow k row) = withPlaces (placesAfterRow k row)
+  after (putRecord k bytes) = withPlaces (placesAfterRecord k bytes)
+  after (drop k) = withPlaces (placesAfterDrop k)
+  after (fetchRecord k out) = p
+  after (fetchRow k out) = p
+  after (image k out) = p
+  after (build row out) = p
+  after (repair bytes out) = p
+  after (judge bytes) = p
+  after (yield bytes out) = p
+  after (operand right bytes) = p
+
+  -- The replies.
+  abbrev pub numbered : ℕ → Reply
+  numbered number = record { number = number; output = []; count = 0; part = [] }
+
+  abbrev pub answered : ℕ → List ℕ → List ℕ → Reply
+  answered number answer out = record { number = number; output = outputAfter number answer out; count = 0; part = [] }
+
+  abbrev pub reply : Call → Reply
+  reply (load n rules) = numbered (loadNumber n rules)
+  reply (putRow k row) = numbered (putRowNumber k row)
+  reply (putRecord k bytes) = numbered (putRecordNumber k bytes)
+  reply (drop k) = numbered (dropNumber k)
+  reply (fetchRecord k out) = answered (fetchRecordNumber k (length out)) (held (p .places) k) out
+  reply (fetchRow k out) = answered (fetchRowNumber k (length out)) (rowOf (treeOf (class operators) (held (p .places) k))) out
+  reply (image k out) = answered (imageNumber k (length out)) (imageOf (held (p .places) k)) out
+  reply (build row out) = answered (buildNumber operators row (length out)) (built (closes (p .sheet)) row) out
+  reply (repair bytes out) = answered (repairNumber operators bytes (length out)) (rebuilt operators (closes (p .sheet)) bytes) out
+  reply (judge bytes) = record { number = recordNumber operators bytes; output = []; count = judgement operators (p .sheet .closes) bytes .count; part = [] }
+  reply (yield bytes out) = answered (yieldNumber operators bytes (length out)) (rowOf (treeOf (class operators) bytes)) out
+  reply (operand right bytes) = record { number = recordNumber operators bytes; output = []; count = 0; part = operandPart operators right bytes }

@@ -1,0 +1,4 @@
+pub mod Slots
+pub mod Laws
+pub mod Writes
+pub mod Ways
