@@ -2,3 +2,4 @@ pub mod Call
 pub mod Panel
 pub mod Steps
 pub mod Book
+pub mod Answers

@@ -2,6 +2,7 @@ pub mod Edges
 pub mod BuildInvariant
 pub mod BuildsTree
 pub mod BuildLaws
+pub mod InForceBuilds
 pub mod TokenWays
 pub mod ReaderWays
 pub mod RowWays

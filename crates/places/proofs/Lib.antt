@@ -1,3 +1,5 @@
+pub mod Parts
+pub mod Images
 pub mod Slots
 pub mod Laws
 pub mod Writes

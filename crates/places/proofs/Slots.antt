@@ -1,45 +1,50 @@
--- Bytes written to a store from a position on, and the slots that they leave. Assumes nothing.
-use mathlib.Core.Path.{_≡_, refl, sym, ap, _∙_}
-use mathlib.Core.List.{List, [], _∷_, _++_, append-assoc}
-use Prim.Native.Nat.{ℕ, suc, _+_, _-_, _<_, _≤_}
-use native.Mathlib.Nat.{add-zero}
+-- The slots of a store: what a place holds, and what a put changes, in terms of the layout. Assumes nothing.
+use mathlib.Core.Path.{_≡_, refl, ap}
+use mathlib.Core.Logic.{_≢_}
+use mathlib.Core.List.{List, [], _∷_}
+use Prim.Native.Nat.{ℕ, _-_, _<_, _≤_}
+use native.Mathlib.Decide.{decLt}
 use native.Mathlib.Omega.{arith}
-use lib.ListN.{length, take, drop, set}
-use lib.Seq.{sets, sets-eq, length-take-le, drop-at, take-set-le, drop-set-lt, drop-set-add, take-append-seam}
+use lib.ListN.{length, getD, take, drop, replicate, length-take}
+use lib.Seq.{sets, take-append-seam, take-take}
+use borrow.Author.Tests.{lt-ltb, le-leb}
+use Rattle.expression.specs.Limits.{mostRecordBytes}
+use Rattle.places.specs.Store.{placeCount, slotBytes, slotAt, slotOf, recordIn, held, imageOf, stored}
+use Rattle.places.proofs.Parts.{part-past, part-ahead}
+use Rattle.places.proofs.Images.{length-image}
 
--- one list and then another
-pub sets-append : (l : List ℕ) (i : ℕ) (a b : List ℕ) → sets (sets l i a) (i + length a) b ≡ sets l i (a ++ b)
-sets-append l i [] b = rw add-zero refl
-sets-append l i (x ∷ a) b =
-    let e : i + suc (length a) ≡ suc i + length a = omega arith in
-    ap (λ (k : ℕ). sets (sets (set l i x) (suc i) a) k b) e ∙ sets-append (set l i x) (suc i) a b
+-- ---- the record in a slot
+pub record-in-image : (bytes : List ℕ) → recordIn (imageOf bytes) ≡ bytes
+unfolding imageOf
+record-in-image bytes = take-append-seam bytes (replicate (mostRecordBytes - length bytes) 0)
 
--- the part that is written holds what was written
-pub part-written : (l : List ℕ) (i : ℕ) (a : List ℕ) → i + length a ≤ length l → take (length a) (drop i (sets l i a)) ≡ a
-part-written l i a h =
-    let b : List ℕ = drop (i + length a) l in
-    ap (λ (s : List ℕ). take (length a) (drop i s)) (sets-eq a l i h ∙ append-assoc (take i l) a b)
-    ∙ ap (take (length a)) (drop-at (take i l) (a ++ b) i (length-take-le i l (omega arith)))
-    ∙ take-append-seam a b
+pub record-in-slot : (l : List ℕ) → getD l 0 0 ≤ mostRecordBytes → recordIn (take slotBytes l) ≡ take (getD l 0 0) (drop 1 l)
+record-in-slot [] h = refl
+record-in-slot (n ∷ bytes) h = take-take n mostRecordBytes bytes h
 
-module _ (l : List ℕ) (m n : ℕ) where
-  -- a store before the part
-  part-after : (i v : ℕ) → i < m → take n (drop m (set l i v)) ≡ take n (drop m l)
-  part-after i v h = ap (take n) (drop-set-lt m l i v h)
+pub short-record : (slot : List ℕ) → length slot ≤ slotBytes → length (recordIn slot) ≤ mostRecordBytes
+short-record [] h = omega arith
+short-record (n ∷ bytes) h = simp length-take (omega arith)
 
-  -- a store past the part
-  part-before : (i v : ℕ) → m + n ≤ i → take n (drop m (set l i v)) ≡ take n (drop m l)
-  part-before i v h =
-      let e : i ≡ m + (i - m) = omega arith in
-      ap (λ (k : ℕ). take n (drop m (set l k v))) e ∙ ap (take n) (drop-set-add m l (i - m) v)
-      ∙ take-set-le n (drop m l) (i - m) v (omega arith)
+pub no-record : (slot : List ℕ) → getD slot 0 0 ≡ 0 → recordIn slot ≡ []
+no-record [] e = refl
+no-record (n ∷ bytes) e = ap (λ (k : ℕ). take k bytes) e
 
--- a part that begins past what is written is as before
-pub part-past : (m n : ℕ) (l : List ℕ) (i : ℕ) (a : List ℕ) → i + length a ≤ m → take n (drop m (sets l i a)) ≡ take n (drop m l)
-part-past m n l i [] h = refl
-part-past m n l i (x ∷ a) h = part-past m n (set l i x) (suc i) a (omega arith) ∙ part-after l m n i x (omega arith)
+-- ---- places
+pub held-in-slot : (store : List ℕ) (place : ℕ) → place < placeCount → held store place ≡ recordIn (slotOf store place)
+unfolding held
+held-in-slot store place h = rw (lt-ltb place placeCount h)
 
--- and so is one that ends before it
-pub part-ahead : (m n : ℕ) (l : List ℕ) (i : ℕ) (a : List ℕ) → m + n ≤ i → take n (drop m (sets l i a)) ≡ take n (drop m l)
-part-ahead m n l i [] h = refl
-part-ahead m n l i (x ∷ a) h = part-ahead m n (set l i x) (suc i) a (omega arith) ∙ part-before l m n i x h
+module _ (store : List ℕ) (place : ℕ) (bytes : List ℕ) where
+  pub stored-in-slot : place < placeCount → length bytes ≤ mostRecordBytes → stored store place bytes ≡ sets store (slotAt place) (imageOf bytes)
+  unfolding stored
+  stored-in-slot h k = rw (lt-ltb place placeCount h, le-leb (length bytes) mostRecordBytes k)
+
+  -- the other slots are as before
+  pub slot-kept : (other : ℕ) → place ≢ other → length bytes ≤ mostRecordBytes → slotOf (sets store (slotAt place) (imageOf bytes)) other ≡ slotOf store other
+  slot-kept other ne k =
+      let e = length-image bytes k in
+      elim (decLt place other) [
+        | yes h ↦ part-past (slotAt other) slotBytes store (slotAt place) (imageOf bytes) (omega arith)
+        | no h ↦ part-ahead (slotAt other) slotBytes store (slotAt place) (imageOf bytes) (omega arith)
+      ]

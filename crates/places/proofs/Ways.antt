@@ -1,21 +1,19 @@
 -- What each way through the public functions gives, from what is known on it. Assumes nothing.
-use mathlib.Core.Path.{_≡_, refl, sym, ap, _∙_}
-use mathlib.Core.List.{List, [], _∷_, _++_}
+use mathlib.Core.Path.{_≡_, sym, ap, _∙_}
+use mathlib.Core.List.{List, [], _++_}
 use Prim.Native.Nat.{ℕ, _+_, _-_, _<_, _≤_}
 use native.Mathlib.Nat.{add-zero, zero-add}
 use native.Mathlib.Omega.{arith}
 use lib.ListN.{length, getD, take, drop, replicate}
-use lib.Seq.{sets, sets-eq, take-take, getD-drop, drop-drop}
+use lib.Seq.{sets, sets-eq, getD-drop, drop-drop}
 use borrow.Author.Needs.{needs}
 use Rattle.expression.specs.Limits.{mostRecordBytes}
-use Rattle.places.specs.Store.{placeCount, slotBytes, storeBytes, slotAt, slotOf, recordIn, held, imageOf, stored, drawn}
-use Rattle.places.proofs.Laws.{length-image, image-empty, drawn-short, drawn-in-room, held-over, held-in-slot, held-length, stored-over, stored-long, stored-in-slot}
+use Rattle.places.specs.Store.{placeCount, slotBytes, storeBytes, slotAt, recordIn, held, imageOf, stored, drawn}
+use Rattle.places.proofs.Images.{length-image, image-empty, drawn-short, drawn-in-room}
+use Rattle.places.proofs.Slots.{record-in-slot, held-in-slot, stored-in-slot}
+use Rattle.places.proofs.Laws.{held-over, held-length, stored-over, stored-long}
 
 -- ---- held_record
-record-in-slot : (l : List ℕ) → getD l 0 0 ≤ mostRecordBytes → recordIn (take slotBytes l) ≡ take (getD l 0 0) (drop 1 l)
-record-in-slot [] h = refl
-record-in-slot (n ∷ bytes) h = take-take n mostRecordBytes bytes h
-
 module _ (store : List ℕ) (place : ℕ) where
   pub nothing-held : placeCount ≤ place → [] ≡ held store place
   nothing-held h = sym (held-over store place h)

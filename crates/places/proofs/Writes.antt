@@ -1,7 +1,7 @@
 -- What each way through the functions of `write` gives, from what is known on it. Assumes nothing.
 use mathlib.Core.Path.{_≡_, refl, sym, ap, _∙_}
 use mathlib.Core.List.{List, [], _∷_, _++_}
-use Prim.Native.Nat.{ℕ, suc, _+_, _-_, _<_, _≤_}
+use Prim.Native.Nat.{ℕ, _+_, _-_, _<_, _≤_}
 use native.Mathlib.Omega.{arith}
 use native.Mathlib.Numerals.{add-one}
 use lib.ListN.{length, getD, take, set, replicate, length-set, length-replicate, getD-replicate}
@@ -9,7 +9,7 @@ use lib.Seq.{sets, length-sets, length-take-le, take-suc, take-all}
 use borrow.Author.Needs.{needs}
 use Rattle.expression.specs.Limits.{mostRecordBytes}
 use Rattle.places.specs.Store.{slotBytes, imageOf}
-use Rattle.places.proofs.Slots.{sets-append}
+use Rattle.places.proofs.Parts.{sets-append}
 
 -- ---- copy
 module _ (before : List ℕ) (at : ℕ) (bytes : List ℕ) where

@@ -1,0 +1,121 @@
+-- Which operators rows, records and trees use, and what a smaller or larger count of operators makes of a tree. Assumes nothing.
+use Prim.Native.Nat.{ℕ, _+_, _≤_, _<_}
+use native.Mathlib.Omega.{arith}
+use mathlib.Core.Path.{_≡_, refl, ap, ap₂, sym, _∙_}
+use mathlib.Core.Bool.{Bool, true, false, not, _&&_, _||_, true≢false, false≢true}
+use mathlib.Core.List.{List, [], _∷_, _++_}
+use lib.Dec.{ltb}
+use lib.ListN.{length}
+use borrow.Author.Tests.{lt-ltb, ltb-true, not-false}
+use Rattle.expression.specs.Lists.{any, one, count}
+use Rattle.expression.specs.Limits.{mostOperators}
+use Rattle.expression.specs.Token.{Class, Infix, Opening, Closing, Reading, Meaningless, opening, closing, class}
+use Rattle.expression.specs.Tree.{Tree, reading, bracket, binary, yield, recordOf, Over}
+use Rattle.expression.specs.Checks.{recordBytes}
+use Rattle.expression.proofs.Classes.{class-operator, class-reading, by-class}
+use Rattle.monitor.specs.Panel.{isEmpty, usesBeyond}
+
+-- ---- lists
+any-append : (p : ℕ → Bool) (xs ys : List ℕ) → any p (xs ++ ys) ≡ (any p xs || any p ys)
+any-append p [] ys = refl
+any-append p (x ∷ xs) ys = go (p x) (any-append p xs ys)
+  where
+    go : (b : Bool) → any p (xs ++ ys) ≡ (any p xs || any p ys) → (b || any p (xs ++ ys)) ≡ ((b || any p xs) || any p ys)
+    go true e = refl
+    go false e = e
+
+or-middle : (a b c : Bool) → (a || (b || c)) ≡ (b || (a || c))
+or-middle true true c = refl
+or-middle true false c = refl
+or-middle false b c = refl
+
+or-none : (b : Bool) → (b || false) ≡ b
+or-none true = refl
+or-none false = refl
+
+or-false : (a b : Bool) → (a || b) ≡ false → (a ≡ false) × (b ≡ false)
+or-false true b e = absurd (true≢false e)
+or-false false b e = (refl, e)
+
+append-not-empty : (xs ys : List ℕ) → isEmpty xs ≡ false → isEmpty (xs ++ ys) ≡ false
+append-not-empty [] ys e = absurd (true≢false e)
+append-not-empty (x ∷ xs) ys e = refl
+
+pub count-small : (p : ℕ → Bool) (xs : List ℕ) → count p xs ≤ length xs
+count-small p [] = omega arith
+count-small p (x ∷ xs) = omega (arith, small (p x), count-small p xs)
+  where
+    small : (b : Bool) → one b ≤ 1
+    small true = omega arith
+    small false = omega arith
+
+-- ---- no row and no record is empty
+pub yield-not-empty : (t : Tree) → isEmpty (yield t) ≡ false
+yield-not-empty (reading a) = refl
+yield-not-empty (bracket t) = refl
+yield-not-empty (binary o l r) = append-not-empty (yield l) (o ∷ yield r) (yield-not-empty l)
+
+pub record-not-empty : (t : Tree) → isEmpty (recordOf t) ≡ false
+record-not-empty (reading a) = refl
+record-not-empty (bracket t) = refl
+record-not-empty (binary o l r) = refl
+
+-- ---- a tree's row uses the operators that its record does
+pub uses-yield : (m : ℕ) (t : Tree) → usesBeyond m (recordOf t) ≡ usesBeyond m (yield t)
+unfolding usesBeyond
+uses-yield m (reading a) = refl
+uses-yield m (bracket t) =
+    uses-yield m t ∙ sym (any-append (beyond m) (yield t) (closing ∷ []) ∙ or-none (any (beyond m) (yield t)))
+  where
+    beyond : ℕ → ℕ → Bool
+    beyond m c = ltb c mostOperators && not (ltb c m)
+uses-yield m (binary o l r) =
+    ap (λ x. beyond m o || x) (any-append (beyond m) (recordOf l) (recordOf r) ∙ ap₂ _||_ (uses-yield m l) (uses-yield m r))
+    ∙ or-middle (beyond m o) (any (beyond m) (yield l)) (any (beyond m) (yield r))
+    ∙ sym (any-append (beyond m) (yield l) (o ∷ yield r))
+  where
+    beyond : ℕ → ℕ → Bool
+    beyond m c = ltb c mostOperators && not (ltb c m)
+
+-- ---- a tree over n operators that uses none beyond m is over m
+operator-under : (n m c : ℕ) → class n c ≡ Infix → (ltb c mostOperators && not (ltb c m)) ≡ false → class m c ≡ Infix
+operator-under n m c h e =
+    let small = as-operator n c (ap isInfix h) in
+    class-operator m c small (ltb-true c m (not-false (ltb c m) (rw (lt-ltb c mostOperators small) at e)))
+  where
+    isInfix : Class → Bool
+    isInfix Infix = true
+    isInfix Opening = false
+    isInfix Closing = false
+    isInfix Reading = false
+    isInfix Meaningless = false
+    as-operator : (n c : ℕ) → isInfix (class n c) ≡ true → c < mostOperators
+    as-operator n c =
+        by-class n (λ x. isInfix x ≡ true → c < mostOperators) c (λ l _ _. l) (λ _ q. absurd (false≢true q)) (λ _ q. absurd (false≢true q))
+        (λ _ _ q. absurd (false≢true q)) (λ q. absurd (false≢true q))
+
+reading-under : (n m c : ℕ) → class n c ≡ Reading → class m c ≡ Reading
+reading-under n m c h = go (ap isReading h)
+  where
+    isReading : Class → Bool
+    isReading Infix = false
+    isReading Opening = false
+    isReading Closing = false
+    isReading Reading = true
+    isReading Meaningless = false
+    go : isReading (class n c) ≡ true → class m c ≡ Reading
+    go =
+        by-class n (λ x. isReading x ≡ true → class m c ≡ Reading) c (λ _ _ q. absurd (false≢true q)) (λ _ q. absurd (false≢true q)) (λ _ q. absurd (false≢true q))
+        (λ l g _. class-reading m c l g) (λ q. absurd (false≢true q))
+
+pub over-under : (n m : ℕ) (t : Tree) → Over (class n) t → usesBeyond m (recordOf t) ≡ false → Over (class m) t
+unfolding usesBeyond
+over-under n m (reading a) h e = reading-under n m a h
+over-under n m (bracket t) h e = over-under n m t h e
+over-under n m (binary o l r) h e =
+    let (p, q) = or-false (beyond o) (any beyond (recordOf l ++ recordOf r)) e in
+    let (x, y) = or-false (any beyond (recordOf l)) (any beyond (recordOf r)) (sym (any-append beyond (recordOf l) (recordOf r)) ∙ q) in
+    (operator-under n m o (h .0) p, over-under n m l (h .1) x, over-under n m r (h .2) y)
+  where
+    beyond : ℕ → Bool
+    beyond c = ltb c mostOperators && not (ltb c m)
