@@ -1,2 +1,6 @@
 pub mod Uses
 pub mod Slots
+pub mod Rebuilding
+pub mod Stands
+pub mod Replies
+pub mod Keeping

@@ -89,6 +89,7 @@ operator-under n m c h e =
     isInfix Closing = false
     isInfix Reading = false
     isInfix Meaningless = false
+
     as-operator : (n c : ℕ) → isInfix (class n c) ≡ true → c < mostOperators
     as-operator n c =
         by-class n (λ x. isInfix x ≡ true → c < mostOperators) c (λ l _ _. l) (λ _ q. absurd (false≢true q)) (λ _ q. absurd (false≢true q))
@@ -103,6 +104,7 @@ reading-under n m c h = go (ap isReading h)
     isReading Closing = false
     isReading Reading = true
     isReading Meaningless = false
+
     go : isReading (class n c) ≡ true → class m c ≡ Reading
     go =
         by-class n (λ x. isReading x ≡ true → class m c ≡ Reading) c (λ _ _ q. absurd (false≢true q)) (λ _ q. absurd (false≢true q)) (λ _ q. absurd (false≢true q))

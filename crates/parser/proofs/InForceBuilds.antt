@@ -56,9 +56,9 @@ module _ (s : Sheet) (n : ℕ) (rules : List Rule) (in-force : InForce s n rules
   pub built-same-exactly-if : (t : Tree) → Over (class n) t → (built (closes s) (yield t) ≡ recordOf t) ↔ (conflictCount rules t ≡ 0)
   built-same-exactly-if t h = (
     λ e.
-      let c = repair-is n rules (accepted-passes n rules (in-force .accepts)) t h in
-      let same = record-injective (class n) (brackets n) (repair (R rules) t) t (c .over) h (sym (built-repairs t h) ∙ e) in
-      ap (conflictCount rules) (sym same) ∙ c .free,
+        let c = repair-is n rules (accepted-passes n rules (in-force .accepts)) t h in
+        let same = record-injective (class n) (brackets n) (repair (R rules) t) t (c .over) h (sym (built-repairs t h) ∙ e) in
+        ap (conflictCount rules) (sym same) ∙ c .free,
     λ e. built-is (yield t) t (record { over = h; yields = refl; free = e }),
   )
 
@@ -66,8 +66,8 @@ module _ (s : Sheet) (n : ℕ) (rules : List Rule) (in-force : InForce s n rules
   pub built-equal-exactly-if : (t u : Tree) → Over (class n) t → Over (class n) u → (built (closes s) (yield t) ≡ built (closes s) (yield u)) ↔ (yield t ≡ yield u)
   built-equal-exactly-if t u ht hu = (
     λ e.
-      let (v, c, p) = built-conflict-free (yield t) (row-exactly-if-yielded n (yield t) .1 (t, ht, refl)) in
-      let (w, d, q) = built-conflict-free (yield u) (row-exactly-if-yielded n (yield u) .1 (u, hu, refl)) in
-      sym (c .yields) ∙ ap yield (record-injective (class n) (brackets n) v w (c .over) (d .over) (sym p ∙ e ∙ q)) ∙ d .yields,
+        let (v, c, p) = built-conflict-free (yield t) (row-exactly-if-yielded n (yield t) .1 (t, ht, refl)) in
+        let (w, d, q) = built-conflict-free (yield u) (row-exactly-if-yielded n (yield u) .1 (u, hu, refl)) in
+        sym (c .yields) ∙ ap yield (record-injective (class n) (brackets n) v w (c .over) (d .over) (sym p ∙ e ∙ q)) ∙ d .yields,
     λ e. ap (built (closes s)) e,
   )

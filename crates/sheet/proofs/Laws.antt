@@ -16,17 +16,17 @@ use Rattle.expression.specs.Tree.{Tree, Over}
 use Rattle.disambiguation.specs.Rules.{Rule, L, R}
 use Rattle.disambiguation.specs.ExactlyOne.{EveryRowHasExactlyOne}
 use Rattle.disambiguation.proofs.VerdictDecides.{accepted-exactly-if}
-use Rattle.disambiguation.proofs.Accepted.{accepted-passes, count-by-closes}
+use Rattle.disambiguation.proofs.Accepted.{accepted-passes, opposite, count-by-closes}
 use Rattle.disambiguation.specs.Conflicts.{conflicts, conflictCount}
 use Rattle.disambiguation.specs.Below.{allBelow}
 use Rattle.disambiguation.specs.Verdict.{safe, total, level, verdict}
 use Rattle.disambiguation.specs.SheetChecks.{rulesOf, strangeRule, sheetNumber}
 use Rattle.sheet.specs.Relation.{closesIn, closes, fresh}
-use Rattle.sheet.specs.Loading.{Loads}
+use Rattle.sheet.specs.Loading.{sheetOf, Loads}
 use Rattle.sheet.specs.InForce.{InForce}
 use Rattle.sheet.specs.declared.Sheet.{Sheet}
 use Rattle.sheet.specs.declared.Loaded.{Loaded}
-use Rattle.sheet.proofs.Marks.{closes-blank}
+use Rattle.sheet.proofs.Marks.{closes-blank, closes-is-R}
 use Rattle.sheet.proofs.Orderly.{R-below}
 
 -- ---- the relation of a sheet and of its lent words
@@ -122,3 +122,19 @@ module _ (s : Sheet) (n : ℕ) (rules : List Rule) (k : InForce s n rules) where
   -- every row over the sheet's operators has exactly one conflict-free tree
   pub every-row-has-one : EveryRowHasExactlyOne n rules
   every-row-has-one = accepted-exactly-if n rules (k .few) .0 (k .accepts)
+
+-- the sheet that is made of accepted bytes
+pub made-in-force : (n : ℕ) (bytes : List ℕ) → sheetNumber n bytes ≡ accepted → InForce (sheetOf n (rulesOf bytes)) n (rulesOf bytes)
+unfolding sheetOf closes
+made-in-force n bytes z =
+    let k = accepted-by n bytes z in
+    loaded-in-force fresh n bytes (record { number = 0; sheet = sheetOf n (rulesOf bytes) }) (record {
+      number = sym z;
+      kept = λ h. absurd (h z);
+      whole = λ e. refl;
+      operators = λ e. refl;
+      relation = λ e. closes-is-R (rulesOf bytes);
+      opposite = λ e a b ha hb.
+          opposite n (rulesOf bytes) (accepted-passes n (rulesOf bytes) (k .accepts)) a b ha hb
+          ∙ ap not (sym (closes-is-R (rulesOf bytes) a b (omega (arith, k .few)) (omega (arith, k .few))));
+    }) z

@@ -1,0 +1,174 @@
+-- Where a panel value stands for a book, each call answers what the book does. Assumes nothing.
+use Prim.Native.Nat.{ℕ, _≤_, _<_}
+use native.Mathlib.Omega.{arith}
+use native.Mathlib.Decide.{decLt}
+use mathlib.Core.Path.{_≡_, refl, ap, ap₂, sym, _∙_}
+use mathlib.Core.Bool.{Bool, true, false, not, cond, true≢false}
+use mathlib.Core.Option.{Option, none, some}
+use mathlib.Core.List.{List, [], _∷_, _++_}
+use lib.Dec.{eqb, ltb}
+use lib.ListN.{length}
+use lib.ListN as lists
+use borrow.Author.Tests.{ltb-true, not-false, ne-eqb}
+use Rattle.expression.specs.Refusal.{Check, first, accepted}
+use Rattle.expression.specs.Lent.{outputAfter}
+use Rattle.expression.specs.Token.{class}
+use Rattle.expression.specs.Tree.{Tree, recordOf, Over}
+use Rattle.expression.specs.Tree as tree
+use Rattle.expression.specs.Decode.{treeOf}
+use Rattle.expression.specs.Operand.{rowOf, operandIn, operandRecord, operandPart}
+use Rattle.expression.specs.Checks.{shortCheck, recordBytes, rowTokens, rowChecks, recordChecks, rowNumber, recordNumber, buildNumber, repairNumber, yieldNumber}
+use Rattle.expression.proofs.Classes.{brackets}
+use Rattle.expression.proofs.RecordsAndTrees.{treeOf-record}
+use Rattle.expression.proofs.Numbers.{Numbered, Recorded, record-accepted, row-numbered, record-numbered}
+use Rattle.disambiguation.specs.Conflicts.{conflictCount, ConflictFreeTree}
+use Rattle.sheet.specs.Relation.{closes}
+use Rattle.sheet.proofs.Laws.{closes-lent, count-by-relation}
+use Rattle.record.specs.Counts.{judgement, countIn, conflictsIn}
+use Rattle.parser.specs.Build.{built}
+use Rattle.places.specs.Store.{placeCount, slotBytes, held, imageOf}
+use Rattle.monitor.specs.Call.{Call, load, putRow, putRecord, drop, fetchRecord, fetchRow, image, build, repair, judge, yield, operand, Reply}
+use Rattle.monitor.specs.Panel.{Panel, placeCheck, isEmpty, emptyCheck, rebuilt}
+use Rattle.monitor.specs.Steps.{operators, reply}
+use Rattle.monitor.specs.Book.{Book, rowIn, slotRow, SlotTree, bookNumber}
+use Rattle.monitor.specs.Answers.{Lent, Valued, Records, Image, Output, Count, Part, Answers}
+use Rattle.monitor.proofs.Slots.{HeldTree, Holds, row-back, put-row-holds, put-record-holds}
+use Rattle.monitor.proofs.Stands.{Stands, filled, same-operators, same-number}
+
+-- an answer that is what it should be where the call is accepted
+lent-answer : (number given : ℕ) → given ≡ number → (Is : List ℕ → Type 0) (answer before : List ℕ) → (number ≡ accepted → Is answer)
+    → Lent number Is before (outputAfter given answer before)
+lent-answer number given e Is answer before f = (λ z. (answer, f z, rw (e ∙ z)), λ h. rw (ne-eqb given 0 (λ z. h (sym e ∙ z))))
+
+valued : {A : Type 0} (number given : ℕ) → given ≡ number → (Is : A → Type 0) (refused value : A) → (number ≡ accepted → Is value)
+    → Valued number Is refused (cond (eqb given accepted) value refused)
+valued number given e Is refused value f = (λ z. rw (e ∙ z) (f z), λ h. rw (ne-eqb given 0 (λ z. h (sym e ∙ z))))
+
+-- what an accepted list has passed
+pub front-accepted : (cs ds : List Check) → Numbered cs → first (cs ++ ds) ≡ accepted → first cs ≡ accepted
+front-accepted [] ds n e = refl
+front-accepted (c ∷ cs) ds n e = go (c .0) (front-accepted cs ds (n .1)) e
+  where
+    go : (b : Bool) → (first (cs ++ ds) ≡ accepted → first cs ≡ accepted) → cond b (c .1) (first (cs ++ ds)) ≡ accepted → cond b (c .1) (first cs) ≡ accepted
+    go true f e = absurd (n .0 e)
+    go false f e = f e
+
+pub place-passed : (k : ℕ) (cs : List Check) → first (placeCheck k ∷ cs) ≡ accepted → (k < placeCount) × (first cs ≡ accepted)
+place-passed k cs e = go (ltb k placeCount) refl e
+  where
+    go : (b : Bool) → ltb k placeCount ≡ b → cond (not b) 8 (first cs) ≡ accepted → (k < placeCount) × (first cs ≡ accepted)
+    go true h f = (ltb-true k placeCount h, f)
+    go false h f = absurd (omega arith)
+
+pub empty-passed : (xs : List ℕ) (cs : List Check) → first (emptyCheck xs ∷ cs) ≡ accepted → isEmpty xs ≡ false
+empty-passed xs cs e = go (isEmpty xs) e
+  where
+    go : (b : Bool) → cond b 9 (first cs) ≡ accepted → b ≡ false
+    go true f = absurd (omega arith)
+    go false f = refl
+
+module _ (p : Panel) (b : Book) (s : Stands p b) where
+  -- what a fetch that is accepted finds
+  found : (k : ℕ) (cs : List Check) → first (placeCheck k ∷ emptyCheck (slotRow b k) ∷ cs) ≡ accepted
+      → (row : List ℕ) × (b .slots k ≡ some row) × Holds (b .n) (b .rules) (some row) (held (p .places) k)
+  found k cs e =
+      let (h, f) = place-passed k (emptyCheck (slotRow b k) ∷ cs) e in
+      filled p b s k h (empty-passed (slotRow b k) cs f)
+
+  slot-tree : (k : ℕ) (row : List ℕ) → b .slots k ≡ some row → (t : Tree) → HeldTree (b .n) (b .rules) row (held (p .places) k) t → SlotTree b k t
+  slot-tree k row q t g = rw (ap rowIn q) (g .tree)
+
+  fetch-record-output : (k : ℕ) (out : List ℕ) → Output b (fetchRecord k out) (reply p (fetchRecord k out) .output)
+  fetch-record-output k out =
+      lent-answer (bookNumber b (fetchRecord k out)) (reply p (fetchRecord k out) .number) (same-number p b s (fetchRecord k out)) (λ answer. (t : Tree) × SlotTree b k t × (answer ≡ recordOf t)) (held (p .places) k) out
+      (λ z. let (row, q, (t, g)) = found k (shortCheck (recordBytes (slotRow b k)) (length out) ∷ []) z in (t, slot-tree k row q t g, g .recorded))
+
+  fetch-row-output : (k : ℕ) (out : List ℕ) → Output b (fetchRow k out) (reply p (fetchRow k out) .output)
+  fetch-row-output k out =
+      lent-answer (bookNumber b (fetchRow k out)) (reply p (fetchRow k out) .number) (same-number p b s (fetchRow k out)) (λ answer. answer ≡ slotRow b k)
+      (rowOf (treeOf (class (operators p)) (held (p .places) k))) out
+      (λ z.
+      let (row, q, (t, g)) = found k (shortCheck (length (slotRow b k)) (length out) ∷ []) z in
+      ap (λ n. rowOf (treeOf (class n) (held (p .places) k))) (same-operators p b s) ∙ row-back g ∙ sym (ap rowIn q))
+
+  image-output : (k : ℕ) (out : List ℕ) → Output b (image k out) (reply p (image k out) .output)
+  image-output k out =
+      lent-answer (bookNumber b (image k out)) (reply p (image k out) .number) (same-number p b s (image k out)) (Image b k (b .slots k)) (imageOf (held (p .places) k)) out
+      (λ z. let (h, f) = place-passed k (shortCheck slotBytes (length out) ∷ []) z in go (b .slots k) refl (s .holds k h))
+    where
+      go : (slot : Option (List ℕ)) → b .slots k ≡ slot → Holds (b .n) (b .rules) slot (held (p .places) k) → Image b k slot (imageOf (held (p .places) k))
+      go none q e = ap imageOf e
+      go (some row) q (t, g) = (t, slot-tree k row q t g, ap imageOf (g .recorded))
+
+  build-output : (row out : List ℕ) → Output b (build row out) (reply p (build row out) .output)
+  unfolding buildNumber rowNumber
+  build-output row out =
+      lent-answer (bookNumber b (build row out)) (reply p (build row out) .number) (same-number p b s (build row out)) (λ answer. (t : Tree) × ConflictFreeTree (b .n) (b .rules) row t × (answer ≡ recordOf t)) (built (closes (p .sheet)) row) out
+      (λ z.
+      let e = front-accepted (rowChecks (b .n) row) (shortCheck (recordBytes row) (length out) ∷ []) (row-numbered (b .n) row) z in
+      let (t, g) = put-row-holds (p .sheet) (b .n) (b .rules) (s .in-force) row e in
+      (t, g .tree, g .recorded))
+
+  -- the tree that an accepted record is of
+  recorded : (bytes : List ℕ) → recordNumber (b .n) bytes ≡ accepted → (t : Tree) × Records b bytes t × (treeOf (class (b .n)) bytes ≡ some t)
+  recorded bytes e =
+      let (t, r) = record-accepted (b .n) bytes .0 e in
+      (t, (r .over, r .recorded), ap (treeOf (class (b .n))) (sym (r .recorded)) ∙ treeOf-record (class (b .n)) (brackets (b .n)) t (r .over))
+
+  repair-output : (bytes out : List ℕ) → Output b (repair bytes out) (reply p (repair bytes out) .output)
+  unfolding repairNumber recordNumber
+  repair-output bytes out =
+      lent-answer (bookNumber b (repair bytes out)) (reply p (repair bytes out) .number) (same-number p b s (repair bytes out))
+      (λ answer. (t : Tree) × (u : Tree) × Records b bytes t × ConflictFreeTree (b .n) (b .rules) (tree.yield t) u × (answer ≡ recordOf u))
+      (rebuilt (operators p) (closes (p .sheet)) bytes) out
+      (λ z.
+      let e = front-accepted (recordChecks (b .n) bytes) (shortCheck (length bytes) (length out) ∷ []) (record-numbered (b .n) bytes) z in
+      let (t, r, q) = recorded bytes e in
+      let (u, g) = put-record-holds (p .sheet) (b .n) (b .rules) (s .in-force) bytes e in
+      (t, u, r, rw (ap rowOf q) at (g .tree), ap (λ n. rebuilt n (closes (p .sheet)) bytes) (same-operators p b s) ∙ g .recorded))
+
+  yield-output : (bytes out : List ℕ) → Output b (yield bytes out) (reply p (yield bytes out) .output)
+  unfolding yieldNumber recordNumber
+  yield-output bytes out =
+      lent-answer (bookNumber b (yield bytes out)) (reply p (yield bytes out) .number) (same-number p b s (yield bytes out)) (λ answer. (t : Tree) × Records b bytes t × (answer ≡ tree.yield t))
+      (rowOf (treeOf (class (operators p)) bytes)) out
+      (λ z.
+      let e = front-accepted (recordChecks (b .n) bytes) (shortCheck (rowTokens (treeOf (class (b .n)) bytes)) (length out) ∷ []) (record-numbered (b .n) bytes) z in
+      let (t, r, q) = recorded bytes e in
+      (t, r, ap (λ n. rowOf (treeOf (class n) bytes)) (same-operators p b s) ∙ ap rowOf q))
+
+  judge-count : (bytes : List ℕ) → Count b (judge bytes) (reply p (judge bytes) .count)
+  unfolding judgement closes
+  judge-count bytes =
+      valued (bookNumber b (judge bytes)) (recordNumber (operators p) bytes) (same-number p b s (judge bytes)) (λ c. (t : Tree) × Records b bytes t × (c ≡ conflictCount (b .rules) t)) 0
+      (countIn (p .sheet .closes) (treeOf (class (operators p)) bytes))
+      (λ z.
+      let (t, r, q) = recorded bytes z in (
+        t,
+        r,
+        ap (λ n. countIn (p .sheet .closes) (treeOf (class n) bytes)) (same-operators p b s) ∙ ap (countIn (p .sheet .closes)) q
+            ∙ sym (count-by-relation (p .sheet) (b .n) (b .rules) (s .in-force) t (r .0)),
+      ))
+
+  operand-part : (right : Bool) (bytes : List ℕ) → Part b (operand right bytes) (reply p (operand right bytes) .part)
+  unfolding operandPart
+  operand-part right bytes =
+      valued (bookNumber b (operand right bytes)) (recordNumber (operators p) bytes) (same-number p b s (operand right bytes)) (λ x. (t : Tree) × Records b bytes t × (x ≡ operandRecord right t)) []
+      (operandIn right (treeOf (class (operators p)) bytes))
+      (λ z.
+      let (t, r, q) = recorded bytes z in
+      (t, r, ap (λ n. operandIn right (treeOf (class n) bytes)) (same-operators p b s) ∙ ap (operandIn right) q))
+
+  pub answers : (c : Call) → Answers b c (reply p c)
+  answers (load n rules) = record { number = same-number p b s (load n rules); output = refl; count = refl; part = refl }
+  answers (putRow k row) = record { number = same-number p b s (putRow k row); output = refl; count = refl; part = refl }
+  answers (putRecord k bytes) = record { number = same-number p b s (putRecord k bytes); output = refl; count = refl; part = refl }
+  answers (drop k) = record { number = same-number p b s (drop k); output = refl; count = refl; part = refl }
+  answers (fetchRecord k out) = record { number = same-number p b s (fetchRecord k out); output = fetch-record-output k out; count = refl; part = refl }
+  answers (fetchRow k out) = record { number = same-number p b s (fetchRow k out); output = fetch-row-output k out; count = refl; part = refl }
+  answers (image k out) = record { number = same-number p b s (image k out); output = image-output k out; count = refl; part = refl }
+  answers (build row out) = record { number = same-number p b s (build row out); output = build-output row out; count = refl; part = refl }
+  answers (repair bytes out) = record { number = same-number p b s (repair bytes out); output = repair-output bytes out; count = refl; part = refl }
+  answers (judge bytes) = record { number = same-number p b s (judge bytes); output = refl; count = judge-count bytes; part = refl }
+  answers (yield bytes out) = record { number = same-number p b s (yield bytes out); output = yield-output bytes out; count = refl; part = refl }
+  answers (operand right bytes) = record { number = same-number p b s (operand right bytes); output = refl; count = refl; part = operand-part right bytes }

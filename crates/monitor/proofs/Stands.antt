@@ -1,0 +1,135 @@
+-- A panel value stands for a book, and then each call has the book's number. Assumes nothing.
+use Prim.Native.Nat.{ℕ, zero, suc, _≤_, _<_}
+use native.Mathlib.Omega.{arith}
+use native.Mathlib.Decide.{decLt}
+use mathlib.Core.Path.{_≡_, refl, ap, ap₂, sym, _∙_}
+use mathlib.Core.Bool.{Bool, true, false, not, _&&_, cond}
+use mathlib.Core.Option.{Option, none, some}
+use mathlib.Core.List.{List, [], _∷_, _++_}
+use lib.Dec.{ltb}
+use lib.ListN.{length}
+use borrow.Author.Tests.{lt-ltb, le-ltb}
+use Rattle.expression.specs.Refusal.{Check, first, accepted}
+use Rattle.expression.specs.Token.{class}
+use Rattle.expression.specs.Decode.{treeOf}
+use Rattle.expression.specs.Operand.{rowOf}
+use Rattle.expression.specs.Checks.{shortCheck, recordBytes, rowTokens, rowChecks, recordChecks, recordNumber, buildNumber, repairNumber, yieldNumber}
+use Rattle.expression.proofs.Numbers.{Passed, passed-first, first-append, record-numbered}
+use Rattle.disambiguation.specs.Below.{allBelow}
+use Rattle.sheet.specs.InForce.{InForce}
+use Rattle.sheet.specs.Relation as relation
+use Rattle.sheet.proofs.Laws.{fresh-in-force}
+use Rattle.places.specs.Store.{placeCount, storeBytes, held}
+use Rattle.places.specs.Store as store
+use Rattle.places.proofs.Laws.{held-fresh}
+use Rattle.monitor.specs.Call.{Call, load, putRow, putRecord, drop, fetchRecord, fetchRow, image, build, repair, judge, yield, operand, Reply}
+use Rattle.monitor.specs.Panel.{Panel, fresh, placeCheck, isEmpty, emptyCheck, usesBeyond, inUseCheck, sheetChecks}
+use Rattle.monitor.specs.Steps.{operators, loadNumber, putRowNumber, putRecordNumber, dropNumber, fetchRecordNumber, fetchRowNumber, imageNumber, reply}
+use Rattle.monitor.specs.Book.{Book, blank, rowIn, slotRow, bookNumber}
+use Rattle.monitor.proofs.Slots.{HeldTree, Holds, same-empty, same-length, same-uses, held-accepted, row-back, read-back}
+
+-- The panel's sheet is the book's, and each place holds the tree of its slot's row.
+pub record Stands (p : Panel) (b : Book) : Type 0 where
+  pub in-force : InForce (p .sheet) (b .n) (b .rules)
+  pub size : length (p .places) ≡ storeBytes
+  pub holds : (k : ℕ) → k < placeCount → Holds (b .n) (b .rules) (b .slots k) (held (p .places) k)
+
+pub fresh-stands : Stands fresh blank
+unfolding store.fresh
+fresh-stands = record { in-force = fresh-in-force; size = refl; holds = λ k h. held-fresh k }
+
+-- ---- lists of checks
+-- where the place is over 15, 8 is the number; below, the rest tells
+pub by-place : (k : ℕ) (cs ds : List Check) → (k < placeCount → first cs ≡ first ds) → first (placeCheck k ∷ cs) ≡ first (placeCheck k ∷ ds)
+by-place k cs ds f = go (decLt k placeCount)
+  where
+    go : Dec (k < placeCount) → first (placeCheck k ∷ cs) ≡ first (placeCheck k ∷ ds)
+    go (yes h) = rw (lt-ltb k placeCount h) (f h)
+    go (no h) = rw (le-ltb k placeCount (omega arith))
+
+pub by-empty : (xs ys : List ℕ) (cs ds : List Check) → isEmpty xs ≡ isEmpty ys → (isEmpty ys ≡ false → first cs ≡ first ds)
+    → first (emptyCheck xs ∷ cs) ≡ first (emptyCheck ys ∷ ds)
+by-empty xs ys cs ds e f = go (isEmpty ys) refl
+  where
+    go : (x : Bool) → isEmpty ys ≡ x → first (emptyCheck xs ∷ cs) ≡ first (emptyCheck ys ∷ ds)
+    go true q = rw (e, q)
+    go false q = rw (e, q) (f q)
+
+all-agree : (m : ℕ) (p q : ℕ → Bool) → ((k : ℕ) → k < m → p k ≡ q k) → allBelow m p ≡ allBelow m q
+unfolding allBelow
+all-agree zero p q f = refl
+all-agree (suc m) p q f = ap₂ _&&_ (all-agree m p q (λ k h. f k (omega arith))) (f m (omega arith))
+
+-- ---- the numbers
+module _ (p : Panel) (b : Book) (s : Stands p b) where
+  pub same-operators : operators p ≡ b .n
+  same-operators = s .in-force .operators
+
+  -- what a slot that is not blank holds
+  pub filled : (k : ℕ) → k < placeCount → isEmpty (slotRow b k) ≡ false
+      → (row : List ℕ) × (b .slots k ≡ some row) × Holds (b .n) (b .rules) (some row) (held (p .places) k)
+  filled k h e = go (b .slots k) refl (s .holds k h) e
+    where
+      go : (slot : Option (List ℕ)) → b .slots k ≡ slot → Holds (b .n) (b .rules) slot (held (p .places) k) → isEmpty (rowIn slot) ≡ false
+          → (row : List ℕ) × (b .slots k ≡ some row) × Holds (b .n) (b .rules) (some row) (held (p .places) k)
+      go none q g f = absurd (let z : _≡_ {A = ℕ} 0 1 = cc in omega arith)
+      go (some row) q g f = (row, q, g)
+
+  empty-same : (k : ℕ) → k < placeCount → isEmpty (held (p .places) k) ≡ isEmpty (slotRow b k)
+  empty-same k h = same-empty (b .n) (b .rules) (b .slots k) (held (p .places) k) (s .holds k h)
+
+  load-same : (n : ℕ) (rules : List ℕ) → loadNumber p n rules ≡ bookNumber b (load n rules)
+  unfolding loadNumber
+  load-same n rules =
+      ap (λ x. first (sheetChecks n rules ++ ((not x, 11) ∷ [])))
+      (all-agree placeCount (λ k. not (usesBeyond n (held (p .places) k))) (λ k. not (usesBeyond n (slotRow b k)))
+      (λ k h. ap not (same-uses (b .n) (b .rules) n (b .slots k) (held (p .places) k) (s .holds k h))))
+
+  fetch-record-same : (k : ℕ) (out : List ℕ) → fetchRecordNumber p k (length out) ≡ bookNumber b (fetchRecord k out)
+  unfolding fetchRecordNumber
+  fetch-record-same k out =
+      by-place k (emptyCheck (held (p .places) k) ∷ shortCheck (length (held (p .places) k)) (length out) ∷ [])
+      (emptyCheck (slotRow b k) ∷ shortCheck (recordBytes (slotRow b k)) (length out) ∷ [])
+      (λ h. by-empty (held (p .places) k) (slotRow b k) (shortCheck (length (held (p .places) k)) (length out) ∷ []) (shortCheck (recordBytes (slotRow b k)) (length out) ∷ [])
+      (empty-same k h)
+      (λ e. ap (λ x. first (shortCheck x (length out) ∷ [])) (same-length (b .n) (b .rules) (b .slots k) (held (p .places) k) (s .holds k h))))
+
+  drop-same : (k : ℕ) → dropNumber p k ≡ bookNumber b (drop k)
+  unfolding dropNumber
+  drop-same k = by-place k (emptyCheck (held (p .places) k) ∷ []) (emptyCheck (slotRow b k) ∷ []) (λ h. by-empty (held (p .places) k) (slotRow b k) [] [] (empty-same k h) (λ e. refl))
+
+  fetch-row-same : (k : ℕ) (out : List ℕ) → fetchRowNumber p k (length out) ≡ bookNumber b (fetchRow k out)
+  unfolding fetchRowNumber recordNumber
+  fetch-row-same k out =
+      by-place k (emptyCheck (held (p .places) k) ∷ here) (emptyCheck (slotRow b k) ∷ there)
+      (λ h. by-empty (held (p .places) k) (slotRow b k) here there (empty-same k h) (λ e. rest h (filled k h e)))
+    where
+      here : List Check
+      here = recordChecks (operators p) (held (p .places) k) ++ (shortCheck (rowTokens (treeOf (class (operators p)) (held (p .places) k))) (length out) ∷ [])
+
+      there : List Check
+      there = shortCheck (length (slotRow b k)) (length out) ∷ []
+
+      rest : k < placeCount → (row : List ℕ) × (b .slots k ≡ some row) × Holds (b .n) (b .rules) (some row) (held (p .places) k)
+          → first (recordChecks (operators p) (held (p .places) k) ++ (shortCheck (rowTokens (treeOf (class (operators p)) (held (p .places) k))) (length out) ∷ []))
+          ≡ first (shortCheck (length (slotRow b k)) (length out) ∷ [])
+      rest h (row, q, (t, g)) =
+          ap (λ n. first (recordChecks n (held (p .places) k) ++ (shortCheck (rowTokens (treeOf (class n) (held (p .places) k))) (length out) ∷ []))) same-operators
+          ∙ first-append (recordChecks (b .n) (held (p .places) k)) (shortCheck (rowTokens (treeOf (class (b .n)) (held (p .places) k))) (length out) ∷ [])
+          (passed-first (recordChecks (b .n) (held (p .places) k)) (record-numbered (b .n) (held (p .places) k)) (held-accepted g))
+          ∙ ap (λ x. first (shortCheck x (length out) ∷ [])) (ap rowTokens (read-back g) ∙ ap length (g .tree .yields ∙ sym (ap rowIn q)))
+
+  pub same-number : (c : Call) → reply p c .number ≡ bookNumber b c
+  unfolding putRowNumber putRecordNumber imageNumber
+  same-number (load n rules) = load-same n rules
+  same-number (putRow k row) = ap (λ n. first (placeCheck k ∷ rowChecks n row)) same-operators
+  same-number (putRecord k bytes) = ap (λ n. first (placeCheck k ∷ recordChecks n bytes)) same-operators
+  same-number (drop k) = drop-same k
+  same-number (fetchRecord k out) = fetch-record-same k out
+  same-number (fetchRow k out) = fetch-row-same k out
+  same-number (image k out) = refl
+  same-number (build row out) = ap (λ n. buildNumber n row (length out)) same-operators
+  same-number (repair bytes out) = ap (λ n. repairNumber n bytes (length out)) same-operators
+  same-number (judge bytes) = ap (λ n. recordNumber n bytes) same-operators
+  same-number (yield bytes out) = ap (λ n. yieldNumber n bytes (length out)) same-operators
+  same-number (operand right bytes) = ap (λ n. recordNumber n bytes) same-operators
