@@ -4,3 +4,4 @@ pub mod Rebuilding
 pub mod Stands
 pub mod Replies
 pub mod Keeping
+pub mod Histories

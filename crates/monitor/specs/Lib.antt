@@ -3,3 +3,4 @@ pub mod Panel
 pub mod Steps
 pub mod Book
 pub mod Answers
+pub mod Run

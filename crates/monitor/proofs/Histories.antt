@@ -1,0 +1,97 @@
+-- The book after a list of calls, said of the list. Assumes nothing.
+use Prim.Native.Nat.{ℕ}
+use native.Mathlib.Decide.{ℕ-discrete}
+use mathlib.Core.Path.{_≡_, refl, ap, sym, _∙_}
+use mathlib.Core.Bool.{Bool, true, false, _&&_, cond}
+use mathlib.Core.Option.{Option, none, some}
+use mathlib.Core.List.{List, [], _∷_}
+use lib.Dec.{eqb}
+use Rattle.expression.specs.Refusal.{accepted}
+use Rattle.expression.specs.Token.{class}
+use Rattle.expression.specs.Decode.{treeOf}
+use Rattle.expression.specs.Operand.{rowOf}
+use Rattle.disambiguation.specs.Rules.{Rule}
+use Rattle.disambiguation.specs.SheetChecks.{rulesOf}
+use Rattle.monitor.specs.Call.{Call, load, putRow, putRecord, drop, fetchRecord, fetchRow, image, build, repair, judge, yield, operand}
+use Rattle.monitor.specs.Panel.{Panel}
+use Rattle.monitor.specs.Book.{Book, blank, bookNumber, entered, next}
+use Rattle.monitor.specs.Run.{panelAfter, answer, bookAfter, isAccepted, Rules, rulesIn, inForce, lastPut}
+use Rattle.monitor.proofs.Stands.{Stands, fresh-stands, same-number}
+use Rattle.monitor.proofs.Keeping.{keeps}
+
+-- After every list of calls the panel stands for the book.
+pub stands : (cs : List Call) → Stands (panelAfter cs) (bookAfter cs)
+unfolding panelAfter bookAfter
+stands [] = fresh-stands
+stands (c ∷ cs) = keeps (panelAfter cs) (bookAfter cs) (stands cs) c
+
+-- the book's next page, by the number that the panel gives
+after-call : (c : Call) (cs : List Call) → bookAfter (c ∷ cs) ≡ cond (isAccepted cs c) (entered (bookAfter cs) c) (bookAfter cs)
+unfolding bookAfter next
+after-call c cs = ap (λ x. cond (eqb x accepted) (entered (bookAfter cs) c) (bookAfter cs)) (sym (same-number (panelAfter cs) (bookAfter cs) (stands cs) c))
+
+either : {A B : Type 0} (f : A → B) (x : Bool) (y z : A) → f (cond x y z) ≡ cond x (f y) (f z)
+either f true y z = refl
+either f false y z = refl
+
+-- a part of the book that an entry leaves as it was
+unchanged : {A : Type 0} (f : Book → A) (c : Call) (cs : List Call) → f (entered (bookAfter cs) c) ≡ f (bookAfter cs) → f (bookAfter (c ∷ cs)) ≡ f (bookAfter cs)
+unchanged f c cs e = ap f (after-call c cs) ∙ go (isAccepted cs c)
+  where
+    go : (x : Bool) → f (cond x (entered (bookAfter cs) c) (bookAfter cs)) ≡ f (bookAfter cs)
+    go true = e
+    go false = refl
+
+abbrev rulesOn : Book → Rules
+rulesOn b = rulesIn (b .n) (b .rules)
+
+-- The book's sheet is that of the last accepted load, or the fresh panel's.
+pub book-in-force : (cs : List Call) → rulesIn (bookAfter cs .n) (bookAfter cs .rules) ≡ inForce cs
+unfolding bookAfter inForce
+book-in-force [] = refl
+book-in-force (load n rules ∷ cs) =
+    ap rulesOn (after-call (load n rules) cs) ∙ either rulesOn (isAccepted cs (load n rules)) (entered (bookAfter cs) (load n rules)) (bookAfter cs)
+    ∙ ap (cond (isAccepted cs (load n rules)) (rulesIn n (rulesOf rules))) (book-in-force cs)
+book-in-force (putRow k row ∷ cs) = unchanged rulesOn (putRow k row) cs refl ∙ book-in-force cs
+book-in-force (putRecord k bytes ∷ cs) = unchanged rulesOn (putRecord k bytes) cs refl ∙ book-in-force cs
+book-in-force (drop k ∷ cs) = unchanged rulesOn (drop k) cs refl ∙ book-in-force cs
+book-in-force (fetchRecord k out ∷ cs) = unchanged rulesOn (fetchRecord k out) cs refl ∙ book-in-force cs
+book-in-force (fetchRow k out ∷ cs) = unchanged rulesOn (fetchRow k out) cs refl ∙ book-in-force cs
+book-in-force (image k out ∷ cs) = unchanged rulesOn (image k out) cs refl ∙ book-in-force cs
+book-in-force (build row out ∷ cs) = unchanged rulesOn (build row out) cs refl ∙ book-in-force cs
+book-in-force (repair bytes out ∷ cs) = unchanged rulesOn (repair bytes out) cs refl ∙ book-in-force cs
+book-in-force (judge bytes ∷ cs) = unchanged rulesOn (judge bytes) cs refl ∙ book-in-force cs
+book-in-force (yield bytes out ∷ cs) = unchanged rulesOn (yield bytes out) cs refl ∙ book-in-force cs
+book-in-force (operand right bytes ∷ cs) = unchanged rulesOn (operand right bytes) cs refl ∙ book-in-force cs
+
+-- a slot after an entry at a place
+slot-entered : (x y : Bool) (slot old : Option (List ℕ)) → cond x (cond y slot old) old ≡ cond (x && y) slot old
+slot-entered true y slot old = refl
+slot-entered false y slot old = refl
+
+slot-after : (k j : ℕ) (c : Call) (cs : List Call) (slot : Option (List ℕ)) → entered (bookAfter cs) c .slots k ≡ cond (eqb k j) slot (bookAfter cs .slots k)
+    → bookAfter (c ∷ cs) .slots k ≡ cond (isAccepted cs c && eqb k j) slot (bookAfter cs .slots k)
+slot-after k j c cs slot e =
+    ap (λ (b : Book). b .slots k) (after-call c cs) ∙ either (λ (b : Book). b .slots k) (isAccepted cs c) (entered (bookAfter cs) c) (bookAfter cs)
+    ∙ ap (λ x. cond (isAccepted cs c) x (bookAfter cs .slots k)) e ∙ slot-entered (isAccepted cs c) (eqb k j) slot (bookAfter cs .slots k)
+
+-- The book's slot is that of the last accepted put, unless a drop was accepted since.
+pub book-slot : (k : ℕ) (cs : List Call) → bookAfter cs .slots k ≡ lastPut k cs
+unfolding bookAfter lastPut
+book-slot k [] = refl
+book-slot k (load n rules ∷ cs) = unchanged (λ b. b .slots k) (load n rules) cs refl ∙ book-slot k cs
+book-slot k (putRow j row ∷ cs) =
+    slot-after k j (putRow j row) cs (some row) refl ∙ ap (cond (isAccepted cs (putRow j row) && eqb k j) (some row)) (book-slot k cs)
+book-slot k (putRecord j bytes ∷ cs) =
+    slot-after k j (putRecord j bytes) cs (some (rowOf (treeOf (class (bookAfter cs .n)) bytes))) refl
+    ∙ ap (λ n. cond (isAccepted cs (putRecord j bytes) && eqb k j) (some (rowOf (treeOf (class n) bytes))) (bookAfter cs .slots k)) (ap (λ (r : Rules). r .n) (book-in-force cs))
+    ∙ ap (cond (isAccepted cs (putRecord j bytes) && eqb k j) (some (rowOf (treeOf (class (inForce cs .n)) bytes)))) (book-slot k cs)
+book-slot k (drop j ∷ cs) = slot-after k j (drop j) cs none refl ∙ ap (cond (isAccepted cs (drop j) && eqb k j) none) (book-slot k cs)
+book-slot k (fetchRecord j out ∷ cs) = unchanged (λ b. b .slots k) (fetchRecord j out) cs refl ∙ book-slot k cs
+book-slot k (fetchRow j out ∷ cs) = unchanged (λ b. b .slots k) (fetchRow j out) cs refl ∙ book-slot k cs
+book-slot k (image j out ∷ cs) = unchanged (λ b. b .slots k) (image j out) cs refl ∙ book-slot k cs
+book-slot k (build row out ∷ cs) = unchanged (λ b. b .slots k) (build row out) cs refl ∙ book-slot k cs
+book-slot k (repair bytes out ∷ cs) = unchanged (λ b. b .slots k) (repair bytes out) cs refl ∙ book-slot k cs
+book-slot k (judge bytes ∷ cs) = unchanged (λ b. b .slots k) (judge bytes) cs refl ∙ book-slot k cs
+book-slot k (yield bytes out ∷ cs) = unchanged (λ b. b .slots k) (yield bytes out) cs refl ∙ book-slot k cs
+book-slot k (operand right bytes ∷ cs) = unchanged (λ b. b .slots k) (operand right bytes) cs refl ∙ book-slot k cs
