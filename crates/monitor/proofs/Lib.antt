@@ -5,3 +5,4 @@ pub mod Stands
 pub mod Replies
 pub mod Keeping
 pub mod Histories
+pub mod Demand3

@@ -24,7 +24,7 @@ use Rattle.expression.proofs.Numbers.{Numbered, Recorded, record-accepted, row-
 use Rattle.disambiguation.specs.Conflicts.{conflictCount, ConflictFreeTree}
 use Rattle.sheet.specs.Relation.{closes}
 use Rattle.sheet.proofs.Laws.{closes-lent, count-by-relation}
-use Rattle.record.specs.Counts.{judgement, countIn, conflictsIn}
+use Rattle.record.specs.Answers.{judgement, countIn}
 use Rattle.parser.specs.Build.{built}
 use Rattle.places.specs.Store.{placeCount, slotBytes, held, imageOf}
 use Rattle.monitor.specs.Call.{Call, load, putRow, putRecord, drop, fetchRecord, fetchRow, image, build, repair, judge, yield, operand, Reply}

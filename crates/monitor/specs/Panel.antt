@@ -22,7 +22,6 @@ use Rattle.sheet.specs.Relation.{closes}
 use Rattle.sheet.specs.Relation as relation
 use Rattle.sheet.specs.Loading.{sheetOf}
 use Rattle.sheet.specs.declared.Sheet.{Sheet}
-use Rattle.record.specs.Counts.{judgement}
 use Rattle.parser.specs.Build.{built}
 use Rattle.places.specs.Store.{placeCount, slotBytes, held, imageOf, stored}
 use Rattle.places.specs.Store as store

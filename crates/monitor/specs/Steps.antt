@@ -13,7 +13,7 @@ use Rattle.disambiguation.specs.SheetChecks.{rulesOf}
 use Rattle.sheet.specs.Relation.{closes}
 use Rattle.sheet.specs.Loading.{sheetOf}
 use Rattle.sheet.specs.declared.Sheet.{Sheet}
-use Rattle.record.specs.Counts.{judgement}
+use Rattle.record.specs.Answers.{judgement}
 use Rattle.parser.specs.Build.{built}
 use Rattle.places.specs.Store.{placeCount, slotBytes, held, imageOf, stored}
 use Rattle.monitor.specs.Call.{Call, load, putRow, putRecord, drop, fetchRecord, fetchRow, image, build, repair, judge, yield, operand, Reply}

@@ -17,7 +17,7 @@ use Rattle.expression.proofs.Classes.{brackets}
 use Rattle.expression.proofs.Lengths.{row-length-of-record}
 use Rattle.expression.proofs.Numbers.{Passed, passed-first}
 use Rattle.record.specs.TreeAt.{TreeAt}
-use Rattle.record.specs.Due.{rowLength}
+use Rattle.record.specs.Checks.{rowLength}
 use Rattle.record.proofs.Trees.{whole}
 
 -- a list that refuses, and what comes after it

@@ -1,10 +1,9 @@
 -- What each way through the checks of a record gives. Assumes nothing.
 use Prim.Native.Nat.{ℕ, zero, suc, _+_, _-_, _≤_, _<_}
-use native.Mathlib.Nat.{add-suc, add-zero, zero-add}
 use native.Mathlib.Numerals.{add-one}
 use native.Mathlib.Omega.{arith}
 use mathlib.Core.Path.{_≡_, refl, ap, sym, _∙_}
-use mathlib.Core.Bool.{Bool, true, false, cond, not, _||_}
+use mathlib.Core.Bool.{Bool, true, false, not, _||_}
 use mathlib.Core.List.{List, [], _∷_}
 use lib.Dec.{eqb, ltb, leb, eqb·suc-zero}
 use lib.ListN.{length, getD, drop, drop-of-length-le}
@@ -23,7 +22,7 @@ use Rattle.expression.specs.Checks.{strangeInRecord}
 use Rattle.expression.proofs.Cond.{by-cond}
 use Rattle.expression.proofs.Classes.{class-reading}
 use Rattle.record.specs.Node.{nodeOf, nodeAt}
-use Rattle.record.specs.Due.{behind, lists, dueAfter, rowLength}
+use Rattle.record.specs.Checks.{lists, dueAfter, rowLength}
 use Rattle.record.specs.declared.Node.{Node}
 use Rattle.record.specs.declared.Node.the-variants as node
 use Rattle.record.specs.declared.checks.Due.{Due}
@@ -52,19 +51,25 @@ module _ (n byte : ℕ) where
 
 pub ruleset is-strange-ways = (low, middle, high, needs)
 
--- the bytes before the place pass the test
-module _ (p : ℕ → Bool) (bytes : List ℕ) (at : ℕ) (same : any p (drop at bytes) ≡ any p bytes) where
-  one-more : at < length bytes → (p (getD bytes at 0) || any p (drop (at + 1) bytes)) ≡ any p bytes
-  one-more h = rw add-one (ap (any p) (sym (drop-cons bytes at 0 h)) ∙ same)
+-- the bytes before the place are tested
+or-assoc : (a b c : Bool) → (a || b || c) ≡ (a || (b || c))
+or-assoc true b c = refl
+or-assoc false b c = refl
 
-  pub found : at < length bytes → {q : Bool} → q ≡ p (getD bytes at 0) → q ≡ true → true ≡ any p bytes
-  found h a b = ap (λ x. x || any p (drop (at + 1) bytes)) (sym b ∙ a) ∙ one-more h
+or-false : (a : Bool) → (a || false) ≡ a
+or-false true = refl
+or-false false = refl
 
-  pub passed : at < length bytes → {q : Bool} → q ≡ p (getD bytes at 0) → q ≡ false → any p (drop (at + 1) bytes) ≡ any p bytes
-  passed h a b = ap (λ x. x || any p (drop (at + 1) bytes)) (sym b ∙ a) ∙ one-more h
+module _ (p : ℕ → Bool) (bytes : List ℕ) (at : ℕ) (so-far : Bool) (same : (so-far || any p (drop at bytes)) ≡ any p bytes) where
+  pub one-more : at < length bytes → {q r : Bool} → q ≡ p (getD bytes at 0) → r ≡ (so-far || q) → (r || any p (drop (at + 1) bytes)) ≡ any p bytes
+  one-more h {q} {r} a e =
+      ap (λ x. x || any p (drop (at + 1) bytes)) e ∙ or-assoc so-far q (any p (drop (at + 1) bytes))
+      ∙ ap (λ x. so-far || (x || any p (drop (at + 1) bytes))) a
+      ∙ ap (λ i. so-far || (p (getD bytes at 0) || any p (drop i bytes))) (add-one at)
+      ∙ ap (λ l. so-far || any p l) (sym (drop-cons bytes at 0 h)) ∙ same
 
-  pub all-passed : length bytes ≤ at → false ≡ any p bytes
-  all-passed h = ap (any p) (sym (drop-of-length-le bytes h)) ∙ same
+  pub all-tested : length bytes ≤ at → so-far ≡ any p bytes
+  all-tested h = sym (or-false so-far) ∙ ap (λ l. so-far || any p l) (sym (drop-of-length-le bytes h)) ∙ same
 
 -- the trees due after a node
 some-due : (due : ℕ) → (due ≡ 0 → ⊥) → due ≡ suc (due - 1)
@@ -154,7 +159,7 @@ one-small true = omega arith
 one-small false = omega arith
 
 module _ (bytes : List ℕ) (at tokens : ℕ) (small : tokens ≤ length bytes + at) (within : at < length bytes) where
-  pub tokens-fit : {v : ℕ} → length bytes ≤ 255 → v ≡ one (eqb (getD bytes at 0) opening) → Fits w64 (tokens + v)
+  pub tokens-fit : {v : ℕ} → length bytes ≤ mostRecordBytes → v ≡ one (eqb (getD bytes at 0) opening) → Fits w64 (tokens + v)
   tokens-fit h e = omega (arith, one-small (eqb (getD bytes at 0) opening))
 
   pub tokens-small : {v : ℕ} → v ≡ one (eqb (getD bytes at 0) opening) → tokens + v ≤ length bytes + (at + 1)

@@ -12,7 +12,7 @@ use mir.Val.{Fits}
 use types.Run.{OneOf}
 use denote.Enum.Declared.{tagOf}
 use Rattle.expression.specs.Lists.{one, count}
-use Rattle.expression.specs.Refusal.{accepted, noTree}
+use Rattle.expression.specs.Refusal.{noTree}
 use Rattle.expression.specs.Tree.{Tree, reading, bracket, binary}
 use Rattle.disambiguation.specs.Edges.{seenFromRight, seenFromLeft}
 use Rattle.sheet.specs.Relation.{closesIn}
@@ -61,22 +61,6 @@ module _ (words : List ℕ) (o : ℕ) where
 
     pub right-in-order : {b : ℕ} {q : Bool} → x ≡ node.Operator b → q ≡ closesIn words o b → q ≡ false → 0 ≡ onRight words o y
     right-in-order is a e = sym (ap (onRight words o) (sym found ∙ is) ∙ ap one (sym a ∙ e))
-
-  one-small : (b : Bool) → one b ≤ 1
-  one-small true = omega arith
-  one-small false = omega arith
-
-  left-small : (x : Node) → onLeft words o x ≤ 1
-  left-small (node.Reading a) = omega arith
-  left-small node.Bracket = omega arith
-  left-small (node.Operator b) = one-small (excludedLeft words o b)
-  left-small node.Other = omega arith
-
-  right-small : (x : Node) → onRight words o x ≤ 1
-  right-small (node.Reading a) = omega arith
-  right-small node.Bracket = omega arith
-  right-small (node.Operator b) = one-small (closesIn words o b)
-  right-small node.Other = omega arith
 
   -- a side shows what the tree's top does
   left-count : (t : Tree) → onLeft words o (topOf t) ≡ count (excludedLeft words o) (seenFromRight t)
@@ -167,21 +151,15 @@ module _ (n : ℕ) (words bytes : List ℕ) (from before : ℕ) {x : Node} (foun
         }
 
 -- what the sums and the calls ask
-pub first-fits : (n : ℕ) (words bytes : List ℕ) (from before o first : ℕ) {x : Node} → before ≤ from → x ≡ nodeAt n bytes from → x ≡ node.Operator o
-    → length bytes < 2 ^ 64 → first ≡ onLeft words o (nodeAt n bytes (from + 1)) → Fits w64 (before + first)
-first-fits n words bytes from before o first low found is r e =
-    let d = within-as n bytes from found is refl in
-    omega (arith, left-small words o (nodeAt n bytes (from + 1)))
-
-pub first-low : (n : ℕ) (words bytes : List ℕ) (from before o first : ℕ) → before ≤ from → first ≡ onLeft words o (nodeAt n bytes (from + 1))
-    → before + first ≤ from + 1
-first-low n words bytes from before o first low e = omega (arith, left-small words o (nodeAt n bytes (from + 1)))
+pub first-fits : (n : ℕ) (bytes : List ℕ) (from before o first : ℕ) {x : Node} → before ≤ from → x ≡ nodeAt n bytes from → x ≡ node.Operator o
+    → length bytes < 2 ^ 64 → first ≤ 1 → Fits w64 (before + first)
+first-fits n bytes from before o first low found is r small = let d = within-as n bytes from found is refl in omega arith
 
 module _ (n : ℕ) (words bytes : List ℕ) (from before : ℕ) {l : Tally} (h : Counts n words bytes from before l) {mid counted : ℕ} (q : l ≡ Counted mid counted) where
-  pub second-low : (o second : ℕ) → second ≡ onRight words o (nodeAt n bytes mid) → counted + second ≤ mid
-  second-low o second e = omega (arith, right-small words o (nodeAt n bytes mid), h .small (ap tallyNumber q), ap tallyEnd q, ap tallyCount q)
+  pub second-low : (second : ℕ) → second ≤ 1 → counted + second ≤ mid
+  second-low second small = omega (arith, h .small (ap tallyNumber q), ap tallyEnd q, ap tallyCount q)
 
-  pub second-fits : (o second : ℕ) → length bytes < 2 ^ 64 → second ≡ onRight words o (nodeAt n bytes mid) → Fits w64 (counted + second)
-  second-fits o second r e = omega (arith, second-low o second e, h .within (ap tallyNumber q), ap tallyEnd q)
+  pub second-fits : (second : ℕ) → length bytes < 2 ^ 64 → second ≤ 1 → Fits w64 (counted + second)
+  second-fits second r small = omega (arith, second-low second small, h .within (ap tallyNumber q), ap tallyEnd q)
 
-pub ruleset count-at-ways = (next-fits, next-falls, mid-falls, a-leaf, a-bracketed, other, left-refused, an-infix, first-fits, first-low, second-low, second-fits, needs)
+pub ruleset count-at-ways = (next-fits, next-falls, mid-falls, a-leaf, a-bracketed, other, left-refused, an-infix, first-fits, second-low, second-fits, needs)

@@ -1,8 +1,8 @@
 -- What each way through `judge` gives. Assumes nothing.
-use Prim.Native.Nat.{ℕ, _+_, _≤_, _<_}
+use Prim.Native.Nat.{ℕ}
 use native.Mathlib.Nat.{zero-add}
 use native.Mathlib.Omega.{arith}
-use mathlib.Core.Path.{_≡_, refl, ap, sym, _∙_}
+use mathlib.Core.Path.{_≡_, ap, sym, _∙_}
 use mathlib.Core.List.{List, [], _∷_}
 use lib.ListN.{length}
 use borrow.Author.Needs.{needs}
@@ -13,12 +13,12 @@ use types.Run.{OneOf}
 use denote.Enum.Declared.{tagOf}
 use Rattle.expression.specs.Refusal.{accepted, noTree}
 use Rattle.expression.specs.Checks.{recordNumber}
-use Rattle.record.specs.Counts.{tallyNumber, tallyEnd, tallyCount, Counts, judgement}
-use Rattle.record.specs.declared.Judgement.{Judgement}
+use Rattle.record.specs.Counts.{tallyNumber, tallyEnd, tallyCount, Counts}
+use Rattle.record.specs.Answers.{judgement}
 use Rattle.record.specs.declared.conflicts.Tally.{Tally}
 use Rattle.record.specs.declared.conflicts.Tally.the-variants.{Counted}
 use Rattle.record.proofs.conflicts.Tally as tallies
-use Rattle.record.proofs.Accepted.{Accepted, accepted-tree}
+use Rattle.record.proofs.Accepted.{accepted-tree}
 use Rattle.record.proofs.Counting.{not-counted}
 
 module _ (n : ℕ) (words bytes : List ℕ) {number : ℕ} (known : number ≡ recordNumber n bytes) where

@@ -3,7 +3,7 @@ use Prim.Native.Nat.{ℕ, _≤_, _<_, _+_, _^_}
 use native.Mathlib.Omega.{arith}
 use native.Mathlib.Decide.{decLt}
 use mathlib.Core.Path.{_≡_, refl, ap, sym, _∙_}
-use mathlib.Core.Bool.{Bool, true, false, cond}
+use mathlib.Core.Bool.{Bool, true, false}
 use mathlib.Core.List.{List, [], _∷_}
 use mathlib.Core.Logic.{⊎-elim}
 use lib.ListN.{length, getD}
@@ -14,7 +14,7 @@ use mir.Val.{Fits}
 use types.Run.{OneOf}
 use denote.Enum.Declared.{tagOf}
 use Rattle.expression.specs.Limits.{mostOperators}
-use Rattle.expression.specs.Token.{Class, Infix, Opening, Closing, Reading, Meaningless, opening, firstReading, lastReading, class}
+use Rattle.expression.specs.Token.{Reading, opening, firstReading, class}
 use Rattle.expression.proofs.Classes.{by-class, class-operator, class-reading, brackets}
 use Rattle.record.specs.Node.{nodeOf, nodeAt}
 use Rattle.record.specs.declared.Node.{Node}

@@ -1,6 +1,6 @@
 -- What each way through `record_number` gives. Assumes nothing.
 use Prim.Native.Nat.{ℕ, _≤_, _<_}
-use mathlib.Core.Path.{_≡_, refl, ap, sym, _∙_}
+use mathlib.Core.Path.{_≡_, refl, sym, _∙_}
 use mathlib.Core.Bool.{Bool, true, false, not}
 use mathlib.Core.Option.{Option, none, some}
 use mathlib.Core.List.{List}
@@ -16,7 +16,7 @@ use Rattle.expression.specs.Decode.{treeOf}
 use Rattle.expression.specs.Checks.{strangeInRecord, isNone, rowTokens, recordNumber}
 use Rattle.expression.proofs.Classes.{brackets}
 use Rattle.expression.proofs.Lengths.{row-length-of-record}
-use Rattle.record.specs.Due.{lists, rowLength}
+use Rattle.record.specs.Checks.{lists, rowLength}
 use Rattle.record.proofs.OneTree.{lists-one}
 
 module _ (n : ℕ) (bytes : List ℕ) where

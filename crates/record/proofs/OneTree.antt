@@ -1,7 +1,7 @@
 -- The count of trees due decides whether bytes are exactly one tree. Assumes nothing.
 use Prim.Native.Nat.{ℕ, zero, suc}
 use mathlib.Core.Path.{_≡_, refl, ap, sym, _∙_}
-use mathlib.Core.Bool.{Bool, true, false, cond, not}
+use mathlib.Core.Bool.{Bool, false, cond, not}
 use mathlib.Core.Option.{Option, none, some}
 use mathlib.Core.List.{List, [], _∷_}
 use lib.Dec.{eqb, eqb·zero-suc, eqb·suc-zero, eqb·suc-suc}
@@ -10,7 +10,7 @@ use Rattle.expression.specs.Token.{Class, Infix, Opening, Closing, Reading, Mea
 use Rattle.expression.specs.Tree.{Tree}
 use Rattle.expression.specs.Decode.{andThen, wrapTop, joinTops, prepend, only, treesOf, treeOf}
 use Rattle.expression.specs.Checks.{strangeInRecord, isNone}
-use Rattle.record.specs.Due.{behind, lists}
+use Rattle.record.specs.Checks.{behind, lists}
 
 -- the trees are so many
 abbrev areMany : ℕ → Option (List Tree) → Bool

@@ -1,5 +1,5 @@
 -- What each way through `operand_part` gives. Assumes nothing.
-use Prim.Native.Nat.{ℕ, _+_, _-_, _≤_}
+use Prim.Native.Nat.{ℕ, _-_}
 use native.Mathlib.Omega.{arith}
 use mathlib.Core.Path.{_≡_, refl, ap, sym, _∙_}
 use mathlib.Core.Bool.{Bool, true, false}
@@ -12,7 +12,6 @@ use borrow.Author.Tests.{ne-eqb}
 use types.Run.{OneOf}
 use denote.Enum.Declared.{tagOf}
 use Rattle.expression.specs.Refusal.{accepted}
-use Rattle.expression.specs.Token.{class}
 use Rattle.expression.specs.Tree.{Tree, reading, bracket, binary, recordOf}
 use Rattle.expression.specs.Checks.{recordNumber}
 use Rattle.expression.specs.Operand.{operandRecord, operandPart}
@@ -24,10 +23,9 @@ use Rattle.record.specs.declared.Node.{Node}
 use Rattle.record.specs.declared.Node.the-variants as node
 use Rattle.record.specs.declared.ends.Reach.{Reach}
 use Rattle.record.specs.declared.ends.Reach.the-variants.{At}
-use Rattle.record.specs.declared.operands.Part.{Part}
 use Rattle.record.proofs.Node as nodes
 use Rattle.record.proofs.ends.Reach as reaches
-use Rattle.record.proofs.Trees.{record-positive, topOf, top-node, ends-within, a-bracket, an-operator}
+use Rattle.record.proofs.Trees.{topOf, top-node, ends-within, a-bracket, an-operator}
 use Rattle.record.proofs.Accepted.{Accepted, accepted-tree}
 use Rattle.record.proofs.Reaching.{not-at}
 

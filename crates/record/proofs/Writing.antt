@@ -12,7 +12,7 @@ use mir.Syntax.{w64}
 use mir.Val.{Fits}
 use types.Run.{OneOf}
 use denote.Enum.Declared.{tagOf}
-use Rattle.expression.specs.Refusal.{accepted, noTree, short}
+use Rattle.expression.specs.Refusal.{noTree, short}
 use Rattle.expression.specs.Token.{opening, closing}
 use Rattle.expression.specs.Tree.{Tree, reading, bracket, binary, yield}
 use Rattle.record.specs.Node.{nodeAt}

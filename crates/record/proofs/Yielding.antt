@@ -3,21 +3,21 @@ use Prim.Native.Nat.{ℕ, _+_, _≤_, _<_}
 use native.Mathlib.Nat.{zero-add}
 use native.Mathlib.Omega.{arith}
 use mathlib.Core.Path.{_≡_, refl, ap, sym, _∙_}
-use mathlib.Core.List.{List, [], _∷_, _++_}
-use lib.ListN.{length, drop}
-use lib.Seq.{sets, sets-eq}
+use mathlib.Core.List.{List, [], _∷_}
+use lib.ListN.{length}
+use lib.Seq.{sets-eq}
 use borrow.Author.Needs.{needs}
 use borrow.Author.Tests.{lt-ltb, le-ltb, ne-eqb}
 use types.Run.{OneOf}
 use denote.Enum.Declared.{tagOf}
+use Rattle.expression.specs.Limits.{mostRecordBytes}
 use Rattle.expression.specs.Refusal.{Check, accepted, noTree, short}
 use Rattle.expression.specs.Token.{class}
 use Rattle.expression.specs.Tree.{Tree, yield}
 use Rattle.expression.specs.Checks.{rowTokens, recordChecks, shortCheck, recordNumber, yieldNumber}
-use Rattle.expression.specs.Operand.{rowOf}
 use Rattle.expression.specs.Decode.{treeOf}
 use Rattle.expression.proofs.Numbers.{first-append}
-use Rattle.record.specs.Due.{rowLength}
+use Rattle.record.specs.Checks.{rowLength}
 use Rattle.record.specs.Rows.{writtenLast, Writes}
 use Rattle.record.specs.Answers.{Yields}
 use Rattle.record.specs.declared.rows.Written.{Written}
@@ -40,7 +40,7 @@ module _ (n : ℕ) (bytes before : List ℕ) {number : ℕ} (found : number ≡ 
         output = rw (ne-eqb number accepted h);
       }
 
-  pub length-fits : number ≡ accepted → length bytes ≤ 255
+  pub length-fits : number ≡ accepted → length bytes ≤ mostRecordBytes
   length-fits e = let (t, a) = accepted-tree n bytes (sym found ∙ e) in a .bytes-fit
 
   pub too-short : {tokens : ℕ} → number ≡ accepted → tokens ≡ rowLength bytes → length before < tokens

@@ -1,21 +1,15 @@
 -- The conflict count of the tree at a place of a record, under a relation "closes before" in words. Assumes nothing.
 use Prim.Native.Nat.{ℕ, _+_, _≤_, _<_}
 use mathlib.Core.Path.{_≡_}
-use mathlib.Core.Bool.{Bool, not, cond}
-use mathlib.Core.Option.{Option, none, some}
+use mathlib.Core.Bool.{Bool, not}
 use mathlib.Core.List.{List}
-use lib.Dec.{eqb}
 use lib.ListN.{length}
 use Rattle.expression.specs.Lists.{one}
 use Rattle.expression.specs.Refusal.{accepted}
-use Rattle.expression.specs.Token.{class}
 use Rattle.expression.specs.Tree.{Tree}
-use Rattle.expression.specs.Decode.{treeOf}
-use Rattle.expression.specs.Checks.{recordNumber}
 use Rattle.disambiguation.specs.Conflicts.{conflicts}
 use Rattle.sheet.specs.Relation.{closesIn}
 use Rattle.record.specs.TreeAt.{TreeAt}
-use Rattle.record.specs.declared.Judgement.{Judgement}
 use Rattle.record.specs.declared.Node.{Node}
 use Rattle.record.specs.declared.Node.the-variants.{Reading, Bracket, Operator, Other}
 use Rattle.record.specs.declared.conflicts.Tally.{Tally}
@@ -65,16 +59,3 @@ pub record Counts (n : ℕ) (words bytes : List ℕ) (from before : ℕ) (r : Ta
   pub onward : tallyNumber r ≡ accepted → from < tallyEnd r
   pub within : tallyNumber r ≡ accepted → tallyEnd r ≤ length bytes
   pub small : tallyNumber r ≡ accepted → tallyCount r < tallyEnd r
-
--- the conflict count of the tree that a record is of
-abbrev pub countIn : List ℕ → Option Tree → ℕ
-countIn words none = 0
-countIn words (some t) = conflictsIn words t
-
--- The number and the count of a record; the count is 0 after a refusal.
-unfoldable pub judgement : ℕ → List ℕ → List ℕ → Judgement
-judgement n words bytes =
-    record {
-      number = recordNumber n bytes;
-      count = cond (eqb (recordNumber n bytes) accepted) (countIn words (treeOf (class n) bytes)) 0;
-    }

@@ -1,8 +1,8 @@
 pub mod Node
 pub mod TreeAt
 pub mod Reach
-pub mod Due
+pub mod Checks
 pub mod Rows
+pub mod Counts
 pub mod Answers
 pub mod Operands
-pub mod Counts

@@ -7,6 +7,7 @@ use lib.ListN.{length, take, drop}
 use Rattle.expression.specs.Operand.{operandPart}
 use Rattle.record.specs.declared.operands.Part.{Part}
 
+-- The part p of the record is the operand; it is empty where there is none.
 pub record OperandAt (n : ℕ) (right : Bool) (bytes : List ℕ) (p : Part) : Type 0 where
   pub ordered : p .from ≤ p .to
   pub within : p .to ≤ length bytes

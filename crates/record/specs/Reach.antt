@@ -18,6 +18,7 @@ abbrev pub reachEnd : Reach → ℕ
 reachEnd (At to) = to
 reachEnd (Refused number) = 0
 
+-- From the place `from`.
 pub record Reaches (n : ℕ) (bytes : List ℕ) (from : ℕ) (r : Reach) : Type 0 where
   -- where a tree stands, its end
   pub reached : (t : Tree) (to : ℕ) → TreeAt n bytes from t to → (reachNumber r ≡ accepted) × (reachEnd r ≡ to)

@@ -1,11 +1,11 @@
 // The conflict count of the tree at a place of a record, under the relation "closes before".
 ghost use mathlib.Core.Path.{_≡_};
-ghost use Prim.Native.Nat.{ℕ, _≤_};
+ghost use Prim.Native.Nat.{_≤_};
 ghost use Rattle.record.specs.Node.{nodeAt};
 ghost use Rattle.record.specs.Counts.{onLeft, onRight, Counts};
 use crate::Node;
 use crate::node_at;
-use crate::refusal;
+use sheet::refusal;
 
 // The place after the tree and the count, or the number of the refusal.
 pub enum Tally {
@@ -16,6 +16,7 @@ pub enum Tally {
 // 1 where operator o shows a conflict with its left operand, which stands at the place; else 0.
 fn on_left(n: u8, relation: &[u32; 32], bytes: &[u8], at: usize, o: u8) -> usize
     ensures { λ r. ⌜ r ≡ onLeft (now (relation .entry)) o (nodeAt n (now (bytes .entry)) at) ⌝ }
+    ensures { λ r. ⌜ r ≤ 1 ⌝ }
 {
     let top = node_at(n, bytes, at);
     let Node::Operator(b) = top else {
@@ -30,6 +31,7 @@ fn on_left(n: u8, relation: &[u32; 32], bytes: &[u8], at: usize, o: u8) -> usize
 // 1 where operator o shows a conflict with its right operand, which stands at the place; else 0.
 fn on_right(n: u8, relation: &[u32; 32], bytes: &[u8], at: usize, o: u8) -> usize
     ensures { λ r. ⌜ r ≡ onRight (now (relation .entry)) o (nodeAt n (now (bytes .entry)) at) ⌝ }
+    ensures { λ r. ⌜ r ≤ 1 ⌝ }
 {
     let top = node_at(n, bytes, at);
     let Node::Operator(b) = top else {

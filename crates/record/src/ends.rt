@@ -2,7 +2,7 @@
 ghost use Rattle.record.specs.Reach.{Reaches};
 use crate::Node;
 use crate::node_at;
-use crate::refusal;
+use sheet::refusal;
 
 // The place after the tree, or the number of the refusal.
 pub enum Reach {
@@ -10,6 +10,7 @@ pub enum Reach {
     Refused(u8),
 }
 
+// The end of the tree that starts at the place.
 pub fn end_at(n: u8, bytes: &[u8], at: usize) -> Reach
     ensures { λ r. ⌜ Reaches n (now (bytes .entry)) at r ⌝ }
 {

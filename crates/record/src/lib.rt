@@ -1,22 +1,20 @@
 // Trees in records: read node by node, checked, yielded, judged; and the record of an operand.
 ghost use mathlib.Core.Path.{_≡_};
-ghost use Prim.Native.Nat.{ℕ};
 ghost use Rattle.expression.specs.Checks.{recordNumber};
 ghost use Rattle.expression.specs.Operand.{operandPart};
 ghost use Rattle.record.specs.Node.{nodeAt};
-ghost use Rattle.record.specs.Answers.{Yields};
-ghost use Rattle.record.specs.Counts.{judgement};
+ghost use Rattle.record.specs.Answers.{Yields, judgement};
+use sheet::limits;
+use sheet::refusal;
+use sheet::token;
 use conflicts::Tally;
 use rows::Written;
 
 mod checks;
 mod conflicts;
 mod ends;
-mod limits;
 mod operands;
-mod refusal;
 mod rows;
-mod tokens;
 
 // What stands at a place of a record. Other: no byte, or one that begins no tree under n operators.
 pub enum Node {
@@ -34,16 +32,16 @@ pub fn node_at(n: u8, bytes: &[u8], at: usize) -> Node
         return Node::Other;
     }
     let byte = bytes[at];
-    if byte < tokens::OPENING {
+    if byte < token::OPENING {
         if byte < n {
             return Node::Operator(byte);
         }
         return Node::Other;
     }
-    if byte == tokens::OPENING {
+    if byte == token::OPENING {
         return Node::Bracket;
     }
-    if byte < tokens::FIRST_READING {
+    if byte < token::FIRST_READING {
         return Node::Other;
     }
     Node::Reading(byte)

@@ -1,12 +1,11 @@
 // Where the operands of a record's top node stand.
-ghost use mathlib.Core.Bool.{Bool};
 ghost use Rattle.record.specs.Operands.{OperandAt};
 use crate::Node;
 use crate::ends;
 use crate::ends::Reach;
 use crate::node_at;
 use crate::record_number;
-use crate::refusal;
+use sheet::refusal;
 
 // A part of a record, from a place up to another.
 pub struct Part {

@@ -2,8 +2,8 @@
 ghost use Rattle.record.specs.Rows.{Writes};
 use crate::Node;
 use crate::node_at;
-use crate::refusal;
-use crate::tokens;
+use sheet::refusal;
+use sheet::token;
 
 // The places after the tree in the record and after its row in the output, or the number of the refusal.
 pub enum Written {
@@ -31,7 +31,7 @@ pub fn write_row(n: u8, bytes: &[u8], at: usize, out: &mut [u8], to: usize) -> W
         return Written::Refused(refusal::SHORT);
     }
     if let Node::Bracket = node {
-        out[to] = tokens::OPENING;
+        out[to] = token::OPENING;
         let inner = write_row(n, bytes, at + 1, out, to + 1);
         let Written::Upto(end, last) = inner else {
             return inner;
@@ -39,7 +39,7 @@ pub fn write_row(n: u8, bytes: &[u8], at: usize, out: &mut [u8], to: usize) -> W
         if out.len() <= last {
             return Written::Refused(refusal::SHORT);
         }
-        out[last] = tokens::CLOSING;
+        out[last] = token::CLOSING;
         return Written::Upto(end, last + 1);
     }
     let Node::Reading(a) = node else {

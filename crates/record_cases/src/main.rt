@@ -1,5 +1,5 @@
 // Records of document 01's cases and at the edges of the lengths: each one's number, judgement, row and operands.
-ghost use Prim.Native.Nat.{ℕ, _≤_};
+ghost use Prim.Native.Nat.{_≤_};
 use io::print_hex;
 use io::write_all;
 use libc::STDOUT_FILENO;

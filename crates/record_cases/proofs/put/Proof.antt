@@ -1,7 +1,5 @@
 -- `record_cases::put` is safe and ends. Assumes nothing.
 use Prim.Native.Nat.{_-_, _≤_, _+_}
-use lib.ListN.{length}
-use mathlib.Core.Path.{_≡_}
 use borrow.Author.Needs.{needs}
 use Rattle.record_cases.proofs.put.Statement.{statement}
 use Rattle.record_cases.proofs.put.Tie as tie

@@ -5,7 +5,7 @@ use mathlib.Core.Path.{_≡_, refl}
 use lib.ListN.{length, drop}
 use borrow.Author.Needs.{needs}
 use Rattle.expression.specs.Token.{class}
-use Rattle.record.specs.Due.{lists}
+use Rattle.record.specs.Checks.{lists}
 use Rattle.record.proofs.Checking.{due-on, goes-on, refused, at-end}
 use Rattle.record.proofs.checks.is_tree.Statement.{statement}
 use Rattle.record.proofs.checks.is_tree.Tie as tie

@@ -7,7 +7,7 @@ use lib.ListN.{length, drop}
 use borrow.Author.Needs.{needs}
 use Rattle.expression.specs.Lists.{count}
 use Rattle.expression.specs.Token.{opening}
-use Rattle.record.specs.Due.{rowLength}
+use Rattle.record.specs.Checks.{rowLength}
 use Rattle.record.proofs.Checking.{tokens-fit, tokens-small, tokens-on, tokens-all}
 use Rattle.record.proofs.checks.row_length.Statement.{statement}
 use Rattle.record.proofs.checks.row_length.Tie as tie

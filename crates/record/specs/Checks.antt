@@ -1,11 +1,11 @@
--- How many trees are still due where a record is read from the left: one at first, and at its end none. Assumes nothing.
+-- What the checks of a record count: the trees still due, and the tokens of its row. Assumes nothing.
 use Prim.Native.Nat.{ℕ, zero, suc, _+_}
 use mathlib.Core.Bool.{Bool, true, false, cond}
 use mathlib.Core.List.{List, [], _∷_}
 use lib.Dec.{eqb}
 use lib.ListN.{length}
 use Rattle.expression.specs.Lists.{count}
-use Rattle.expression.specs.Refusal.{accepted, noTree}
+use Rattle.expression.specs.Refusal.{noTree}
 use Rattle.expression.specs.Token.{Class, Infix, Opening, Closing, Reading, Meaningless, opening}
 use Rattle.expression.specs.Checks.{strangeInRecord}
 use Rattle.record.specs.declared.Node.{Node}
@@ -22,7 +22,7 @@ behind Reading d = d
 behind Meaningless d = d
 
 module _ (k : ℕ → Class) where
-  -- the bytes list so many trees, one after the other
+  -- The bytes list so many trees, one after the other. A record lists one.
   unfoldable pub lists : ℕ → List ℕ → Bool
   lists zero [] = true
   lists zero (c ∷ cs) = false
