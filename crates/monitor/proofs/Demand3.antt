@@ -1,103 +1,175 @@
 -- Demand 3 as one theorem over every list of calls from the fresh panel. Assumes nothing.
-use Prim.Native.Nat.{ℕ, _≤_, _<_}
+use Prim.Native.Nat.{ℕ, _≤_}
 use native.Mathlib.Omega.{arith}
-use native.Mathlib.Decide.{decLt, ℕ-discrete}
-use mathlib.Core.Path.{_≡_, refl, ap, sym, subst, _∙_}
-use mathlib.Core.Bool.{Bool, true, false, not, cond, true≢false}
+use native.Mathlib.Decide.{ℕ-discrete}
+use mathlib.Core.Path.{_≡_, refl, ap, sym, _∙_}
+use mathlib.Core.Bool.{Bool, true, false, not, _&&_, cond}
 use mathlib.Core.Logic.{_↔_, _⊎_, inl, inr}
-use mathlib.Core.Option.{Option, none, some, Option·none-ne-some}
-use mathlib.Core.List.{List, [], _∷_, _++_}
-use lib.Dec.{eqb, ltb}
-use lib.ListN.{length}
+use mathlib.Core.Option.{Option, some}
+use mathlib.Core.List.{List, [], _∷_, _++_, append-nil}
+use lib.ListN.{length, drop-of-length-le}
 use lib.ListN as lists
-use borrow.Author.Tests.{lt-ltb, le-ltb}
 use Rattle.expression.specs.Refusal.{first, accepted, dead, double}
+use Rattle.expression.specs.Limits.{mostTokens, mostRecordBytes}
 use Rattle.expression.specs.Token.{class}
 use Rattle.expression.specs.Tree.{Tree, recordOf, Over}
 use Rattle.expression.specs.Tree as tree
-use Rattle.expression.specs.Operand.{rowOf}
 use Rattle.expression.specs.Decode.{treeOf}
-use Rattle.expression.specs.Checks.{shortCheck, recordBytes, recordNumber}
-use Rattle.disambiguation.specs.Rules.{Rule}
+use Rattle.expression.specs.Operand.{rowOf}
+use Rattle.expression.specs.Checks.{shortCheck, recordChecks, recordNumber, repairNumber}
+use Rattle.expression.proofs.Classes.{brackets}
+use Rattle.expression.proofs.RecordsAndTrees.{treeOf-record}
+use Rattle.expression.proofs.Numbers.{first-refused, first-append, first-roomy, passed-first, record-numbered, Recorded, record-accepted}
+use Rattle.disambiguation.specs.Rules.{Rule, L, R}
 use Rattle.disambiguation.specs.Conflicts.{ConflictFreeTree}
 use Rattle.disambiguation.specs.ExactlyOne.{SomeRowHasNone, EveryRowHasOne, SomeRowHasTwo, EveryRowHasExactlyOne}
+use Rattle.disambiguation.specs.Verdict.{safe, total, level, verdict}
 use Rattle.disambiguation.specs.SheetChecks.{rulesOf, sheetNumber}
-use Rattle.disambiguation.proofs.SheetNumbers.{InOrder, sheet-dead-exactly-if, sheet-double-exactly-if, sheet-accepted-exactly-if}
-use Rattle.sheet.specs.InForce.{InForce}
-use Rattle.sheet.proofs.Laws.{every-row-has-one}
-use Rattle.places.specs.Store.{placeCount, slotBytes, held, imageOf}
-use Rattle.places.proofs.Images.{length-image}
-use Rattle.monitor.specs.Call.{Call, load, putRow, putRecord, drop, fetchRecord, fetchRow, image, build, repair, judge, yield, operand}
-use Rattle.monitor.specs.Panel.{placeCheck, isEmpty, emptyCheck, inUseCheck, sheetChecks}
-use Rattle.monitor.specs.Steps.{reply}
-use Rattle.monitor.specs.Book.{Book, rowIn, slotRow, SlotTree, bookNumber}
+use Rattle.disambiguation.proofs.SheetNumbers.{InOrder, sheetNumber-verdict, sheet-dead-exactly-if, sheet-double-exactly-if, sheet-accepted-exactly-if}
+use Rattle.sheet.specs.Relation.{closes}
+use Rattle.parser.specs.Build.{built}
+use Rattle.parser.proofs.InForceBuilds.{built-equal-exactly-if, built-keeps-length}
+use Rattle.places.specs.Store.{held}
+use Rattle.monitor.specs.Call.{Call, load, repair}
+use Rattle.monitor.specs.Panel.{inUseCheck, sheetChecks, rebuilt}
+use Rattle.monitor.specs.Steps.{operators, loadNumber, reply}
+use Rattle.monitor.specs.Book.{Book, bookNumber}
 use Rattle.monitor.specs.Answers.{Answers}
-use Rattle.monitor.specs.Run.{panelAfter, answer, bookAfter, Rules, rulesIn, inForce, lastPut, AnsweredBy, HoldsTree, Filled, RepairsTo}
-use Rattle.monitor.proofs.Slots.{HeldTree, Holds, bytes-long, bytes-fit, row-not-empty, row-back}
-use Rattle.monitor.proofs.Stands.{Stands, same-number}
-use Rattle.monitor.proofs.Replies.{answers, place-passed, empty-passed}
-use Rattle.monitor.proofs.Histories.{stands, book-in-force, book-slot}
+use Rattle.monitor.specs.Run.{panelAfter, answer, bookAfter, inForce, lastPut, AnsweredBy, HoldsTree, Filled, RepairsTo}
+use Rattle.monitor.proofs.Replies.{answers}
+use Rattle.monitor.proofs.Keeping.{sheet-numbered}
+use Rattle.monitor.proofs.Histories.{stands}
+use Rattle.monitor.proofs.Placed.{n, rules, sheet-in-force, exactly-one}
+use Rattle.monitor.proofs.Filling.{holds-last-put, filled-exactly-if-put}
+
+-- Refused for its rules means 4 or 5.
+abbrev pub ForItsRules : ℕ → Type 0
+ForItsRules number = (number ≡ dead) ⊎ (number ≡ double)
+
+-- a verdict is 4, 5 or 0
+verdict-values : (m : ℕ) (given : List Rule) → ForItsRules (verdict m given) ⊎ (verdict m given ≡ accepted)
+unfolding verdict
+verdict-values m given = go (safe m (L given) (R given)) (total m (L given) (R given) && level m (R given))
+  where
+    go : (a b : Bool) → ForItsRules (cond (not a) 4 (cond (not b) 5 0)) ⊎ (cond (not a) 4 (cond (not b) 5 0) ≡ accepted)
+    go false b = inl (inl refl)
+    go true false = inl (inr refl)
+    go true true = inr refl
 
 module _ (cs : List Call) where
-  abbrev n : ℕ
-  n = inForce cs .n
+  -- ---- a sheet in order
+  module _ (m : ℕ) (bytes : List ℕ) (order : InOrder m bytes) where
+    load-number : (sheetNumber m bytes ≡ accepted → ⊥) → answer cs (load m bytes) .number ≡ sheetNumber m bytes
+    unfolding loadNumber sheetNumber
+    load-number h = first-refused (sheetChecks m bytes) (inUseCheck m (held (panelAfter cs .places)) ∷ []) h
 
-  abbrev rules : List Rule
-  rules = inForce cs .rules
+    -- with 0 for the sheet, the load's number is 0 or 11
+    load-accepted : sheetNumber m bytes ≡ accepted → ForItsRules (answer cs (load m bytes) .number) → ⊥
+    unfolding loadNumber sheetNumber
+    load-accepted e f = go ((inUseCheck m (held (panelAfter cs .places))) .0) (first-append (sheetChecks m bytes) (inUseCheck m (held (panelAfter cs .places)) ∷ []) (passed-first (sheetChecks m bytes) (sheet-numbered m bytes) e)) f
+      where
+        go : (x : Bool) → answer cs (load m bytes) .number ≡ cond x 11 0 → ForItsRules (answer cs (load m bytes) .number) → ⊥
+        go true q (inl g) = omega arith
+        go true q (inr g) = omega arith
+        go false q (inl g) = omega arith
+        go false q (inr g) = omega arith
 
-  same-n : bookAfter cs .n ≡ n
-  same-n = ap (λ (r : Rules). r .n) (book-in-force cs)
+    refused-exactly-if : ForItsRules (answer cs (load m bytes) .number) ↔ (SomeRowHasNone m (rulesOf bytes) ⊎ SomeRowHasTwo m (rulesOf bytes))
+    refused-exactly-if = (λ f. to f (ℕ-discrete (sheetNumber m bytes) 0), from)
+      where
+        to : ForItsRules (answer cs (load m bytes) .number) → Dec (sheetNumber m bytes ≡ 0) → SomeRowHasNone m (rulesOf bytes) ⊎ SomeRowHasTwo m (rulesOf bytes)
+        to f (yes e) = absurd (load-accepted e f)
+        to (inl f) (no h) = inl (sheet-dead-exactly-if m bytes order .0 (sym (load-number h) ∙ f))
+        to (inr f) (no h) = inr (sheet-double-exactly-if m bytes order .0 (sym (load-number h) ∙ f) .1)
 
-  same-rules : bookAfter cs .rules ≡ rules
-  same-rules = ap (λ (r : Rules). r .rules) (book-in-force cs)
+        as-load : ForItsRules (sheetNumber m bytes) → ForItsRules (answer cs (load m bytes) .number)
+        as-load (inl e) = inl (load-number (λ z. omega arith) ∙ e)
+        as-load (inr e) = inr (load-number (λ z. omega arith) ∙ e)
 
-  -- The panel's sheet is that of the last accepted load.
-  pub sheet-in-force : InForce (panelAfter cs .sheet) n rules
-  sheet-in-force = rw (← same-n, ← same-rules) (stands cs .in-force)
+        not-accepted : (sheetNumber m bytes ≡ accepted → ⊥) → ForItsRules (sheetNumber m bytes)
+        not-accepted h = go (verdict-values m (rulesOf bytes))
+          where
+            go : ForItsRules (verdict m (rulesOf bytes)) ⊎ (verdict m (rulesOf bytes) ≡ accepted) → ForItsRules (sheetNumber m bytes)
+            go (inl f) = rw (sheetNumber-verdict m bytes order) f
+            go (inr e) = absurd (h (sheetNumber-verdict m bytes order ∙ e))
 
-  pub exactly-one : EveryRowHasExactlyOne n rules
-  exactly-one = every-row-has-one (panelAfter cs .sheet) n rules sheet-in-force
+        from : SomeRowHasNone m (rulesOf bytes) ⊎ SomeRowHasTwo m (rulesOf bytes) → ForItsRules (answer cs (load m bytes) .number)
+        from (inl f) = as-load (inl (sheet-dead-exactly-if m bytes order .1 f))
+        from (inr (row, r, (t, u, ht, hu, different))) =
+            as-load (not-accepted (λ e. let (v, hv, only) = sheet-accepted-exactly-if m bytes order .0 e row r in different (only t ht ∙ sym (only u hu))))
 
-  -- ---- a place with an accepted put
-  slot-holds : (k : ℕ) → k < placeCount → (row : List ℕ) → lastPut k cs ≡ some row → (t : Tree) × HeldTree n rules row (held (panelAfter cs .places) k) t
-  slot-holds k h row q =
-      rw (← same-n, ← same-rules) (subst (λ slot. Holds (bookAfter cs .n) (bookAfter cs .rules) slot (held (panelAfter cs .places) k)) (book-slot k cs ∙ q) (stands cs .holds k h))
+  -- ---- repair
+  module _ (t : Tree) (over : Over (class (n cs)) t) (fits : recordNumber (n cs) (recordOf t) ≡ accepted) where
+    same-operators : operators (panelAfter cs) ≡ n cs
+    same-operators = sheet-in-force cs .operators
 
-  -- a list whose place is below 16 and whose slot is not blank
-  fetch-number : (k : ℕ) (row : List ℕ) (wanted room : ℕ) → k < placeCount → isEmpty row ≡ false → wanted ≤ room
-      → first (placeCheck k ∷ emptyCheck row ∷ shortCheck wanted room ∷ []) ≡ accepted
-  fetch-number k row wanted room h e l = rw (lt-ltb k placeCount h, e, le-ltb room wanted l)
+    repaired : rebuilt (operators (panelAfter cs)) (closes (panelAfter cs .sheet)) (recordOf t) ≡ built (closes (panelAfter cs .sheet)) (tree.yield t)
+    repaired =
+        ap (λ m. rebuilt m (closes (panelAfter cs .sheet)) (recordOf t)) same-operators
+        ∙ ap (λ x. built (closes (panelAfter cs .sheet)) (rowOf x)) (treeOf-record (class (n cs)) (brackets (n cs)) t over)
 
-  image-number : (k room : ℕ) → k < placeCount → slotBytes ≤ room → first (placeCheck k ∷ shortCheck slotBytes room ∷ []) ≡ accepted
-  image-number k room h l = rw (lt-ltb k placeCount h, le-ltb room slotBytes l)
+    keeps-length : length (built (closes (panelAfter cs .sheet)) (tree.yield t)) ≡ length (recordOf t)
+    keeps-length = built-keeps-length (panelAfter cs .sheet) (n cs) (rules cs) (sheet-in-force cs) t over
 
-  module _ (k : ℕ) (h : k < placeCount) (row : List ℕ) (q : lastPut k cs ≡ some row) (t : Tree) (g : HeldTree n rules row (held (panelAfter cs .places) k) t) where
-    row-is : slotRow (bookAfter cs) k ≡ row
-    row-is = ap rowIn (book-slot k cs ∙ q)
+    repairs-to : RepairsTo cs t (built (closes (panelAfter cs .sheet)) (tree.yield t))
+    unfolding repairNumber recordNumber
+    repairs-to out room =
+        let z : answer cs (repair (recordOf t) out) .number ≡ accepted =
+        ap (λ m. repairNumber m (recordOf t) (length out)) same-operators
+        ∙ first-roomy (recordChecks (n cs) (recordOf t)) (length (recordOf t)) (length out) fits (record-numbered (n cs) (recordOf t)) (omega arith) in
+        let past : length out ≤ length (built (closes (panelAfter cs .sheet)) (tree.yield t)) = omega (arith, keeps-length) in (
+          z,
+          rw z (ap (λ x. x ++ lists.drop (length x) out) repaired) ∙ ap (λ x. built (closes (panelAfter cs .sheet)) (tree.yield t) ++ x) (drop-of-length-le out past)
+              ∙ append-nil (built (closes (panelAfter cs .sheet)) (tree.yield t)),
+        )
 
-    number-as : (c : Call) → bookNumber (bookAfter cs) c ≡ accepted → answer cs c .number ≡ accepted
-    number-as c e = same-number (panelAfter cs) (bookAfter cs) (stands cs) c ∙ e
+    repairs-only-to : (bytes : List ℕ) → RepairsTo cs t bytes → bytes ≡ built (closes (panelAfter cs .sheet)) (tree.yield t)
+    repairs-only-to bytes f = sym (f (recordOf t) refl .1) ∙ repairs-to (recordOf t) refl .1
 
-    holds-record : (out : List ℕ) → length (recordOf t) ≤ length out → AnsweredBy cs (fetchRecord k out) out (recordOf t)
-    holds-record out l =
-        let z = number-as (fetchRecord k out)
-              (fetch-number k (slotRow (bookAfter cs) k) (recordBytes (slotRow (bookAfter cs) k)) (length out) h (ap isEmpty row-is ∙ row-not-empty g)
-              (omega (arith, ap recordBytes row-is, bytes-long g, ap length (g .recorded)))) in
-        (z, rw z (ap (λ x. x ++ lists.drop (length x) out) (g .recorded)))
+  -- within the lengths: 1 does not apply to the record
+  abbrev pub Within : Tree → Type 0
+  Within t = (length (recordOf t) ≤ mostRecordBytes) × (length (tree.yield t) ≤ mostTokens)
 
-    holds-row : (out : List ℕ) → length (tree.yield t) ≤ length out → AnsweredBy cs (fetchRow k out) out (tree.yield t)
-    holds-row out l =
-        let z = number-as (fetchRow k out)
-              (fetch-number k (slotRow (bookAfter cs) k) (length (slotRow (bookAfter cs) k)) (length out) h (ap isEmpty row-is ∙ row-not-empty g)
-              (omega (arith, ap length row-is, ap length (g .tree .yields)))) in
-        (z, rw z (ap (λ x. x ++ lists.drop (length x) out)
-        (ap (λ m. rowOf (treeOf (class m) (held (panelAfter cs .places) k))) (sheet-in-force .operators) ∙ row-back g ∙ sym (g .tree .yields))))
+  within-accepted : (t : Tree) → Over (class (n cs)) t → Within t → recordNumber (n cs) (recordOf t) ≡ accepted
+  within-accepted t over w = record-accepted (n cs) (recordOf t) .1 (t, record { over = over; recorded = refl; bytes-fit = w .0; tokens-fit = w .1 })
 
-    holds-image : (out : List ℕ) → length (imageOf (recordOf t)) ≤ length out → AnsweredBy cs (image k out) out (imageOf (recordOf t))
-    holds-image out l =
-        let size : length (imageOf (recordOf t)) ≡ slotBytes = length-image (recordOf t) (omega (arith, bytes-fit g, ap length (g .recorded))) in
-        let z = number-as (image k out) (image-number k (length out) h (omega (arith, size))) in
-        (z, rw z (ap (λ x. imageOf x ++ lists.drop (length (imageOf x)) out) (g .recorded)))
+  same-bytes-exactly-if : (t u : Tree) → Over (class (n cs)) t → Over (class (n cs)) u → Within t → Within u
+      → ((bytes : List ℕ) × RepairsTo cs t bytes × RepairsTo cs u bytes) ↔ (tree.yield t ≡ tree.yield u)
+  same-bytes-exactly-if t u ot ou wt wu = (
+    λ f.
+        let (bytes, p, q) = f in
+        equal .0 (sym (repairs-only-to t ot (within-accepted t ot wt) bytes p) ∙ repairs-only-to u ou (within-accepted u ou wu) bytes q),
+    λ e.
+        (built (closes (panelAfter cs .sheet)) (tree.yield t), repairs-to t ot (within-accepted t ot wt), rw (equal .1 e) (repairs-to u ou (within-accepted u ou wu))),
+  )
+    where
+      equal : (built (closes (panelAfter cs .sheet)) (tree.yield t) ≡ built (closes (panelAfter cs .sheet)) (tree.yield u)) ↔ (tree.yield t ≡ tree.yield u)
+      equal = built-equal-exactly-if (panelAfter cs .sheet) (n cs) (rules cs) (sheet-in-force cs) t u ot ou
 
-    holds-tree : HoldsTree cs k t
-    holds-tree = record { fetches-record = holds-record; fetches-row = holds-row; images = holds-image }
+-- After the calls of a list, the last one first, from a fresh panel:
+pub record Demand3 (cs : List Call) : Type 0 where
+  -- every row of any length over the operators of the sheet in force, that of the last accepted load or the fresh panel's, has exactly one conflict-free tree;
+  pub one-tree : EveryRowHasExactlyOne (inForce cs .n) (inForce cs .rules)
+  -- a place is filled exactly when a put there was accepted and no drop there was accepted since,
+  pub filled : (k : ℕ) → Filled cs k ↔ ((row : List ℕ) × (lastPut k cs ≡ some row))
+  -- and it then holds that tree, for the row, or the record's row, of the last accepted put there;
+  pub held-tree : (k : ℕ) (row : List ℕ) → lastPut k cs ≡ some row → (t : Tree) × ConflictFreeTree (inForce cs .n) (inForce cs .rules) row t × HoldsTree cs k t
+  -- whatever is called next, the answer is the one that the book gives;
+  pub answered : (c : Call) → Answers (bookAfter cs) c (answer cs c)
+  -- a sheet whose bytes are in order is refused for its rules exactly when some row has no conflict-free tree under it, or two or more;
+  pub refused : (m : ℕ) (bytes : List ℕ) → InOrder m bytes
+      → ForItsRules (answer cs (load m bytes) .number) ↔ (SomeRowHasNone m (rulesOf bytes) ⊎ SomeRowHasTwo m (rulesOf bytes))
+  -- two trees over the operators of the sheet in force, within the lengths, repair to the same bytes exactly when their rows are the same.
+  pub same-bytes : (t u : Tree) → Over (class (inForce cs .n)) t → Over (class (inForce cs .n)) u → Within cs t → Within cs u
+      → ((bytes : List ℕ) × RepairsTo cs t bytes × RepairsTo cs u bytes) ↔ (tree.yield t ≡ tree.yield u)
+
+pub demand-3 : (cs : List Call) → Demand3 cs
+demand-3 cs =
+    record {
+      one-tree = exactly-one cs;
+      filled = filled-exactly-if-put cs;
+      held-tree = holds-last-put cs;
+      answered = answers (panelAfter cs) (bookAfter cs) (stands cs);
+      refused = refused-exactly-if cs;
+      same-bytes = same-bytes-exactly-if cs;
+    }

@@ -34,7 +34,7 @@ use Rattle.monitor.proofs.Rebuilding.{rebuilt-size, rebuilt-holds}
 use Rattle.monitor.proofs.Stands.{Stands, same-operators, same-number}
 use Rattle.monitor.proofs.Replies.{front-accepted, place-passed}
 
-sheet-numbered : (n : ℕ) (rules : List ℕ) → Numbered (sheetChecks n rules)
+pub sheet-numbered : (n : ℕ) (rules : List ℕ) → Numbered (sheetChecks n rules)
 sheet-numbered n rules = (λ e. omega arith, (λ e. omega arith, (λ e. omega arith, (λ e. omega arith, (λ e. omega arith, tt)))))
 
 module _ (p : Panel) (b : Book) (s : Stands p b) where

@@ -5,4 +5,6 @@ pub mod Stands
 pub mod Replies
 pub mod Keeping
 pub mod Histories
+pub mod Placed
+pub mod Filling
 pub mod Demand3

@@ -93,6 +93,7 @@ module _ (cs : List Call) where
   abbrev pub Filled : ℕ → Type 0
   Filled k = (t : Tree) × HoldsTree k t
 
-  -- a tree repairs to the bytes that an accepted repair of its record answers
+  -- A tree repairs to the bytes that an accepted repair of its record answers: with room for just a record of its length, they are the whole output.
   abbrev pub RepairsTo : Tree → List ℕ → Type 0
-  RepairsTo t bytes = (out : List ℕ) → length (recordOf t) ≤ length out → AnsweredBy (repair (recordOf t) out) out bytes
+  RepairsTo t bytes =
+      (out : List ℕ) → length out ≡ length (recordOf t) → (answer cs (repair (recordOf t) out) .number ≡ accepted) × (answer cs (repair (recordOf t) out) .output ≡ bytes)

@@ -4,11 +4,11 @@ ghost use Rattle.expression.specs.Checks.{recordNumber};
 ghost use Rattle.expression.specs.Operand.{operandPart};
 ghost use Rattle.record.specs.Node.{nodeAt};
 ghost use Rattle.record.specs.Answers.{Yields, judgement};
+use conflicts::Tally;
+use rows::Written;
 use sheet::limits;
 use sheet::refusal;
 use sheet::token;
-use conflicts::Tally;
-use rows::Written;
 
 mod checks;
 mod conflicts;

@@ -1,0 +1,107 @@
+-- A place over 15 is never filled, and a place is filled exactly if a put there was accepted and no drop since. Assumes nothing.
+use Prim.Native.Nat.{ℕ, _≤_, _<_}
+use native.Mathlib.Omega.{arith}
+use native.Mathlib.Decide.{decLt}
+use mathlib.Core.Path.{_≡_, refl, ap, sym, _∙_}
+use mathlib.Core.Bool.{Bool, true, false, _&&_, cond, true≢false}
+use mathlib.Core.Logic.{_↔_}
+use mathlib.Core.Option.{Option, none, some, Option·none-ne-some}
+use mathlib.Core.List.{List, [], _∷_}
+use lib.Dec.{eqb}
+use lib.ListN.{length}
+use borrow.Author.Tests.{le-ltb, eqb-true}
+use Rattle.expression.specs.Refusal.{Check, first, accepted}
+use Rattle.expression.specs.Token.{class}
+use Rattle.expression.specs.Tree.{Tree, recordOf}
+use Rattle.expression.specs.Decode.{treeOf}
+use Rattle.expression.specs.Operand.{rowOf}
+use Rattle.expression.specs.Checks.{shortCheck, recordBytes, rowChecks, recordChecks}
+use Rattle.disambiguation.specs.Conflicts.{ConflictFreeTree}
+use Rattle.places.specs.Store.{placeCount, held}
+use Rattle.monitor.specs.Call.{Call, load, putRow, putRecord, drop, fetchRecord, fetchRow, image, build, repair, judge, yield, operand}
+use Rattle.monitor.specs.Panel.{placeCheck, isEmpty, emptyCheck}
+use Rattle.monitor.specs.Steps.{operators, putRowNumber, putRecordNumber}
+use Rattle.monitor.specs.Book.{rowIn, slotRow, bookNumber}
+use Rattle.monitor.specs.Run.{panelAfter, answer, bookAfter, isAccepted, inForce, lastPut, HoldsTree, Filled}
+use Rattle.monitor.proofs.Stands.{Stands, same-number}
+use Rattle.monitor.proofs.Replies.{place-passed, empty-passed}
+use Rattle.monitor.proofs.Histories.{stands, book-slot}
+use Rattle.monitor.proofs.Placed.{slot-holds, holds-tree}
+
+-- no put at a place over 15 is accepted
+over : (k : ℕ) (checks : List Check) → placeCount ≤ k → eqb (first (placeCheck k ∷ checks)) accepted ≡ false
+over k checks h = rw (le-ltb k placeCount h)
+
+row-refused : (k : ℕ) (row : List ℕ) (cs : List Call) → placeCount ≤ k → isAccepted cs (putRow k row) ≡ false
+unfolding putRowNumber
+row-refused k row cs h = over k (rowChecks (operators (panelAfter cs)) row) h
+
+record-refused : (k : ℕ) (bytes : List ℕ) (cs : List Call) → placeCount ≤ k → isAccepted cs (putRecord k bytes) ≡ false
+unfolding putRecordNumber
+record-refused k bytes cs h = over k (recordChecks (operators (panelAfter cs)) bytes) h
+
+-- an entry at another place, or one that is refused, leaves the slot blank
+blank-still : (k j : ℕ) (x : Bool) (slot old : Option (List ℕ)) → (k ≡ j → x ≡ false) → old ≡ none → cond (x && eqb k j) slot old ≡ none
+blank-still k j x slot old f e = go (eqb k j) refl
+  where
+    none-of : (x : Bool) → x ≡ false → cond (x && true) slot old ≡ none
+    none-of true h = absurd (true≢false h)
+    none-of false h = e
+
+    either : (x : Bool) → cond (x && false) slot old ≡ none
+    either true = e
+    either false = e
+
+    go : (y : Bool) → eqb k j ≡ y → cond (x && y) slot old ≡ none
+    go true h = none-of x (f (eqb-true k j h))
+    go false h = either x
+
+either-none : (x : Bool) (old : Option (List ℕ)) → old ≡ none → cond x none old ≡ none
+either-none true old e = refl
+either-none false old e = e
+
+beyond : (k : ℕ) → placeCount ≤ k → (cs : List Call) → lastPut k cs ≡ none
+unfolding lastPut
+beyond k h [] = refl
+beyond k h (load n rules ∷ cs) = beyond k h cs
+beyond k h (putRow j row ∷ cs) = blank-still k j (isAccepted cs (putRow j row)) (some row) (lastPut k cs) (λ e. row-refused j row cs (omega arith)) (beyond k h cs)
+beyond k h (putRecord j bytes ∷ cs) = blank-still k j (isAccepted cs (putRecord j bytes)) (some (rowOf (treeOf (class (inForce cs .n)) bytes))) (lastPut k cs) (λ e. record-refused j bytes cs (omega arith)) (beyond k h cs)
+beyond k h (drop j ∷ cs) = either-none (isAccepted cs (drop j) && eqb k j) (lastPut k cs) (beyond k h cs)
+beyond k h (fetchRecord j out ∷ cs) = beyond k h cs
+beyond k h (fetchRow j out ∷ cs) = beyond k h cs
+beyond k h (image j out ∷ cs) = beyond k h cs
+beyond k h (build row out ∷ cs) = beyond k h cs
+beyond k h (repair bytes out ∷ cs) = beyond k h cs
+beyond k h (judge bytes ∷ cs) = beyond k h cs
+beyond k h (yield bytes out ∷ cs) = beyond k h cs
+beyond k h (operand right bytes ∷ cs) = beyond k h cs
+
+pub put-below : (k : ℕ) (cs : List Call) (row : List ℕ) → lastPut k cs ≡ some row → k < placeCount
+put-below k cs row q = go (decLt k placeCount)
+  where
+    go : Dec (k < placeCount) → k < placeCount
+    go (yes h) = h
+    go (no h) = absurd (Option·none-ne-some row (sym (beyond k (omega arith) cs) ∙ q))
+
+module _ (cs : List Call) (k : ℕ) where
+  -- It then holds the conflict-free tree of that row under the sheet in force.
+  pub holds-last-put : (row : List ℕ) → lastPut k cs ≡ some row → (t : Tree) × ConflictFreeTree (inForce cs .n) (inForce cs .rules) row t × HoldsTree cs k t
+  holds-last-put row q =
+      let h = put-below k cs row q in
+      let (t, g) = slot-holds cs k h row q in
+      (t, g .tree, holds-tree cs k h row q t g)
+
+  not-blank : (slot : Option (List ℕ)) → isEmpty (rowIn slot) ≡ false → (row : List ℕ) × (slot ≡ some row)
+  not-blank none e = absurd (true≢false e)
+  not-blank (some row) e = (row, refl)
+
+  pub filled-exactly-if-put : Filled cs k ↔ ((row : List ℕ) × (lastPut k cs ≡ some row))
+  filled-exactly-if-put = (
+    λ f.
+        let (t, h) = f in
+        let z = h .fetches-record (recordOf t) (omega arith) .0 in
+        let (l, e) = place-passed k (emptyCheck (slotRow (bookAfter cs) k) ∷ shortCheck (recordBytes (slotRow (bookAfter cs) k)) (length (recordOf t)) ∷ []) (sym (same-number (panelAfter cs) (bookAfter cs) (stands cs) (fetchRecord k (recordOf t))) ∙ z) in
+        let (row, q) = not-blank (bookAfter cs .slots k) (empty-passed (slotRow (bookAfter cs) k) (shortCheck (recordBytes (slotRow (bookAfter cs) k)) (length (recordOf t)) ∷ []) e) in
+        (row, sym (book-slot k cs) ∙ q),
+    λ f. let (row, q) = f in let (t, c, h) = holds-last-put row q in (t, h),
+  )

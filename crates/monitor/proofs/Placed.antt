@@ -1,0 +1,105 @@
+-- What a place holds after a list of calls: the tree of the last accepted put there. Assumes nothing.
+use Prim.Native.Nat.{ℕ, _≤_, _<_}
+use native.Mathlib.Omega.{arith}
+use native.Mathlib.Decide.{decLt, ℕ-discrete}
+use mathlib.Core.Path.{_≡_, refl, ap, sym, subst, _∙_}
+use mathlib.Core.Bool.{Bool, true, false, not, cond, true≢false}
+use mathlib.Core.Logic.{_↔_, _⊎_, inl, inr}
+use mathlib.Core.Option.{Option, none, some, Option·none-ne-some}
+use mathlib.Core.List.{List, [], _∷_, _++_}
+use lib.Dec.{eqb, ltb}
+use lib.ListN.{length}
+use lib.ListN as lists
+use borrow.Author.Tests.{lt-ltb, le-ltb}
+use Rattle.expression.specs.Refusal.{first, accepted, dead, double}
+use Rattle.expression.specs.Token.{class}
+use Rattle.expression.specs.Tree.{Tree, recordOf, Over}
+use Rattle.expression.specs.Tree as tree
+use Rattle.expression.specs.Operand.{rowOf}
+use Rattle.expression.specs.Decode.{treeOf}
+use Rattle.expression.specs.Checks.{shortCheck, recordBytes, recordNumber}
+use Rattle.disambiguation.specs.Rules.{Rule}
+use Rattle.disambiguation.specs.Conflicts.{ConflictFreeTree}
+use Rattle.disambiguation.specs.ExactlyOne.{SomeRowHasNone, EveryRowHasOne, SomeRowHasTwo, EveryRowHasExactlyOne}
+use Rattle.disambiguation.specs.SheetChecks.{rulesOf, sheetNumber}
+use Rattle.disambiguation.proofs.SheetNumbers.{InOrder, sheet-dead-exactly-if, sheet-double-exactly-if, sheet-accepted-exactly-if}
+use Rattle.sheet.specs.InForce.{InForce}
+use Rattle.sheet.proofs.Laws.{every-row-has-one}
+use Rattle.places.specs.Store.{placeCount, slotBytes, held, imageOf}
+use Rattle.places.proofs.Images.{length-image}
+use Rattle.monitor.specs.Call.{Call, load, putRow, putRecord, drop, fetchRecord, fetchRow, image, build, repair, judge, yield, operand}
+use Rattle.monitor.specs.Panel.{placeCheck, isEmpty, emptyCheck, inUseCheck, sheetChecks}
+use Rattle.monitor.specs.Steps.{reply}
+use Rattle.monitor.specs.Book.{Book, rowIn, slotRow, SlotTree, bookNumber}
+use Rattle.monitor.specs.Answers.{Answers}
+use Rattle.monitor.specs.Run.{panelAfter, answer, bookAfter, Rules, rulesIn, inForce, lastPut, AnsweredBy, HoldsTree, Filled, RepairsTo}
+use Rattle.monitor.proofs.Slots.{HeldTree, Holds, bytes-long, bytes-fit, row-not-empty, row-back}
+use Rattle.monitor.proofs.Stands.{Stands, same-number}
+use Rattle.monitor.proofs.Replies.{answers, place-passed, empty-passed}
+use Rattle.monitor.proofs.Histories.{stands, book-in-force, book-slot}
+
+module _ (cs : List Call) where
+  abbrev pub n : ℕ
+  n = inForce cs .n
+
+  abbrev pub rules : List Rule
+  rules = inForce cs .rules
+
+  same-n : bookAfter cs .n ≡ n
+  same-n = ap (λ (r : Rules). r .n) (book-in-force cs)
+
+  same-rules : bookAfter cs .rules ≡ rules
+  same-rules = ap (λ (r : Rules). r .rules) (book-in-force cs)
+
+  -- The panel's sheet is that of the last accepted load.
+  pub sheet-in-force : InForce (panelAfter cs .sheet) n rules
+  sheet-in-force = rw (← same-n, ← same-rules) (stands cs .in-force)
+
+  pub exactly-one : EveryRowHasExactlyOne n rules
+  exactly-one = every-row-has-one (panelAfter cs .sheet) n rules sheet-in-force
+
+  -- ---- a place with an accepted put
+  pub slot-holds : (k : ℕ) → k < placeCount → (row : List ℕ) → lastPut k cs ≡ some row → (t : Tree) × HeldTree n rules row (held (panelAfter cs .places) k) t
+  slot-holds k h row q =
+      rw (← same-n, ← same-rules) (subst (λ slot. Holds (bookAfter cs .n) (bookAfter cs .rules) slot (held (panelAfter cs .places) k)) (book-slot k cs ∙ q) (stands cs .holds k h))
+
+  -- a list whose place is below 16 and whose slot is not blank
+  fetch-number : (k : ℕ) (row : List ℕ) (wanted room : ℕ) → k < placeCount → isEmpty row ≡ false → wanted ≤ room
+      → first (placeCheck k ∷ emptyCheck row ∷ shortCheck wanted room ∷ []) ≡ accepted
+  fetch-number k row wanted room h e l = rw (lt-ltb k placeCount h, e, le-ltb room wanted l)
+
+  image-number : (k room : ℕ) → k < placeCount → slotBytes ≤ room → first (placeCheck k ∷ shortCheck slotBytes room ∷ []) ≡ accepted
+  image-number k room h l = rw (lt-ltb k placeCount h, le-ltb room slotBytes l)
+
+  module _ (k : ℕ) (h : k < placeCount) (row : List ℕ) (q : lastPut k cs ≡ some row) (t : Tree) (g : HeldTree n rules row (held (panelAfter cs .places) k) t) where
+    row-is : slotRow (bookAfter cs) k ≡ row
+    row-is = ap rowIn (book-slot k cs ∙ q)
+
+    number-as : (c : Call) → bookNumber (bookAfter cs) c ≡ accepted → answer cs c .number ≡ accepted
+    number-as c e = same-number (panelAfter cs) (bookAfter cs) (stands cs) c ∙ e
+
+    holds-record : (out : List ℕ) → length (recordOf t) ≤ length out → AnsweredBy cs (fetchRecord k out) out (recordOf t)
+    holds-record out l =
+        let z = number-as (fetchRecord k out)
+        (fetch-number k (slotRow (bookAfter cs) k) (recordBytes (slotRow (bookAfter cs) k)) (length out) h (ap isEmpty row-is ∙ row-not-empty g)
+        (omega (arith, ap recordBytes row-is, bytes-long g, ap length (g .recorded)))) in
+        (z, rw z (ap (λ x. x ++ lists.drop (length x) out) (g .recorded)))
+
+    holds-row : (out : List ℕ) → length (tree.yield t) ≤ length out → AnsweredBy cs (fetchRow k out) out (tree.yield t)
+    holds-row out l =
+        let z = number-as (fetchRow k out)
+        (fetch-number k (slotRow (bookAfter cs) k) (length (slotRow (bookAfter cs) k)) (length out) h (ap isEmpty row-is ∙ row-not-empty g)
+        (omega (arith, ap length row-is, ap length (g .tree .yields)))) in (
+          z,
+          rw z (ap (λ x. x ++ lists.drop (length x) out)
+              (ap (λ m. rowOf (treeOf (class m) (held (panelAfter cs .places) k))) (sheet-in-force .operators) ∙ row-back g ∙ sym (g .tree .yields))),
+        )
+
+    holds-image : (out : List ℕ) → length (imageOf (recordOf t)) ≤ length out → AnsweredBy cs (image k out) out (imageOf (recordOf t))
+    holds-image out l =
+        let size : length (imageOf (recordOf t)) ≡ slotBytes = length-image (recordOf t) (omega (arith, bytes-fit g, ap length (g .recorded))) in
+        let z = number-as (image k out) (image-number k (length out) h (omega (arith, size))) in
+        (z, rw z (ap (λ x. imageOf x ++ lists.drop (length (imageOf x)) out) (g .recorded)))
+
+    pub holds-tree : HoldsTree cs k t
+    holds-tree = record { fetches-record = holds-record; fetches-row = holds-row; images = holds-image }
