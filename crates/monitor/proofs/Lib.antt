@@ -8,3 +8,6 @@ pub mod Histories
 pub mod Placed
 pub mod Filling
 pub mod Demand3
+pub mod AnswerWays
+pub mod StoreWays
+pub mod LoadWays

@@ -4,3 +4,4 @@ pub mod Steps
 pub mod Book
 pub mod Answers
 pub mod Run
+pub mod Contracts

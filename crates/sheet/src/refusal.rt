@@ -15,4 +15,10 @@ pub const NO_ROW: u8 = 6;
 
 pub const NO_TREE: u8 = 7;
 
+pub const PLACE: u8 = 8;
+
+pub const EMPTY: u8 = 9;
+
 pub const SHORT: u8 = 10;
+
+pub const IN_USE: u8 = 11;

@@ -1,0 +1,141 @@
+-- What each way through a load gives, from what is known on it. Assumes nothing.
+use mathlib.Core.Path.{_≡_, refl, sym, ap, _∙_}
+use mathlib.Core.Bool.{Bool, true, false, not, _&&_, _||_, cond}
+use mathlib.Core.List.{List, [], _∷_}
+use Prim.Native.Nat.{ℕ, _+_, _-_, _<_, _≤_}
+use native.Mathlib.Omega.{arith}
+use native.Mathlib.Decide.{decLt}
+use native.Mathlib.Numerals.{add-one}
+use lib.Dec.{ltb, leb}
+use lib.ListN.{length, getD, drop, drop-of-length-le}
+use lib.Seq.{drop-cons}
+use borrow.Author.Tests.{lt-ltb, le-ltb, le-leb, lt-leb, ne-eqb}
+use borrow.Author.Needs.{needs}
+use Rattle.expression.specs.Lists.{any}
+use Rattle.expression.specs.Limits.{mostOperators}
+use Rattle.expression.proofs.Numbers.{Numbered, passed-first, first-append, first-refused}
+use Rattle.disambiguation.specs.Below.{allBelow}
+use Rattle.disambiguation.specs.SheetChecks.{sheetNumber}
+use Rattle.sheet.specs.Relation.{closesIn, closes}
+use Rattle.sheet.specs.Loading.{Loads}
+use Rattle.sheet.specs.declared.Sheet.{Sheet}
+use Rattle.sheet.specs.declared.Loaded.{Loaded}
+use Rattle.sheet.proofs.Below.{all-none, all-more, all-fails, all-done}
+use Rattle.places.specs.Store.{placeCount, held}
+use Rattle.monitor.specs.Panel.{usesBeyond, inUseCheck, sheetChecks, rebuiltTo}
+use Rattle.monitor.specs.Steps.{loadNumber, sheetAfter, placesAfterLoad}
+use Rattle.monitor.specs.Contracts.{panel, LoadsPanel}
+
+abbrev beyond : ℕ → ℕ → Bool
+beyond n c = ltb c mostOperators && not (ltb c n)
+
+-- ---- is_beyond
+module _ (n c : ℕ) where
+  pub beyond-operator : c < 32 → leb n c ≡ (ltb c mostOperators && not (ltb c n))
+  beyond-operator h = go (decLt c n)
+    where
+      go : Dec (c < n) → leb n c ≡ (ltb c mostOperators && not (ltb c n))
+      go (yes g) = simp (lt-leb n c g, lt-ltb c mostOperators h, lt-ltb c n g)
+      go (no g) = let i : n ≤ c = omega arith in simp (le-leb n c i, lt-ltb c mostOperators h, le-ltb c n i)
+
+  pub beyond-none : 32 ≤ c → false ≡ (ltb c mostOperators && not (ltb c n))
+  beyond-none h = rw (le-ltb c mostOperators h)
+
+pub ruleset is-beyond-ways = (beyond-operator, beyond-none, needs)
+
+-- ---- uses_beyond
+module _ (n : ℕ) (bytes : List ℕ) where
+  -- nothing before the place is an operator beyond n
+  pub record Looked (i : ℕ) : Type 0 where
+    pub inside : i ≤ length bytes
+    pub same : usesBeyond n bytes ≡ usesBeyond n (drop i bytes)
+
+  here : (i : ℕ) → i < length bytes → usesBeyond n (drop i bytes) ≡ (beyond n (getD bytes i 0) || usesBeyond n (drop (i + 1) bytes))
+  unfolding usesBeyond
+  here i h = rw (drop-cons bytes i 0 h, add-one)
+
+  pub looked-none : Looked 0
+  looked-none = record { inside = omega arith; same = refl }
+
+  module _ {i : ℕ} {b : Bool} (l : Looked i) (h : i < length bytes) (e : b ≡ (ltb (getD bytes i 0) mostOperators && not (ltb (getD bytes i 0) n))) where
+    pub looked-found : b ≡ true → true ≡ usesBeyond n bytes
+    looked-found f = sym (l .same ∙ here i h ∙ ap (λ x. x || usesBeyond n (drop (i + 1) bytes)) (sym e ∙ f))
+
+    pub looked-more : b ≡ false → Looked (i + 1)
+    looked-more f = record { inside = omega arith; same = l .same ∙ here i h ∙ ap (λ x. x || usesBeyond n (drop (i + 1) bytes)) (sym e ∙ f) }
+
+  pub looked-all : {i : ℕ} → Looked i → length bytes ≤ i → false ≡ usesBeyond n bytes
+  unfolding usesBeyond
+  looked-all {i} l h = sym (l .same ∙ ap (any (beyond n)) (drop-of-length-le bytes h))
+
+pub ruleset uses-beyond-ways = (looked-none, looked-found, looked-more, looked-all, needs)
+
+-- ---- place_uses
+pub held-uses : (n : ℕ) (places : List ℕ) (k : ℕ) {bytes : List ℕ} {b : Bool} → bytes ≡ held places k → b ≡ usesBeyond n bytes → b ≡ usesBeyond n (held places k)
+held-uses n places k e f = f ∙ ap (usesBeyond n) e
+
+pub ruleset place-uses-ways = (held-uses, needs)
+
+-- ---- in_use
+module _ (n : ℕ) (places : List ℕ) where
+  abbrev fits : ℕ → Bool
+  fits k = not (usesBeyond n (held places k))
+
+  -- no place below k is in use
+  pub record Unused (k : ℕ) : Type 0 where
+    pub inside : k ≤ 16
+    pub free : allBelow k fits ≡ true
+
+  pub unused-none : Unused 0
+  unused-none = record { inside = omega arith; free = all-none fits }
+
+  module _ {k : ℕ} {b : Bool} (u : Unused k) (h : k < 16) (e : b ≡ usesBeyond n (held places k)) where
+    pub unused-found : b ≡ true → true ≡ inUseCheck n (held places) .0
+    unused-found f = ap not (sym (all-fails fits placeCount k h (ap not (sym e ∙ f))))
+
+    pub unused-more : b ≡ false → Unused (k + 1)
+    unused-more f = record { inside = omega arith; free = all-more fits k (u .free) (ap not (sym e ∙ f)) }
+
+  pub unused-all : {k : ℕ} → Unused k → 16 ≤ k → false ≡ inUseCheck n (held places) .0
+  unused-all {k} u h = ap not (sym (all-done fits placeCount k (u .free) (u .inside) h))
+
+pub ruleset in-use-ways = (unused-none, unused-found, unused-more, unused-all, needs)
+
+-- ---- load
+sheet-numbered : (n : ℕ) (rules : List ℕ) → Numbered (sheetChecks n rules)
+sheet-numbered n rules = (λ e. omega arith, (λ e. omega arith, (λ e. omega arith, (λ e. omega arith, (λ e. omega arith, tt)))))
+
+module _ (s : Sheet) (places : List ℕ) (n : ℕ) {rules : List ℕ} {l : Loaded} (loads : Loads s n rules l) where
+  -- a number other than 0 leaves the panel
+  kept : (r : Loaded) → r .number ≡ loadNumber (panel s places) n rules → (r .number ≡ 0 → ⊥) → r .sheet ≡ s → LoadsPanel (panel s places) n rules r places
+  unfolding sheetAfter placesAfterLoad
+  kept r e h same =
+      let z = ne-eqb (loadNumber (panel s places) n rules) 0 (λ f. h (e ∙ f)) in
+      record { numbered = e; in-force = same ∙ rw z; stands = rw z }
+
+  pub load-refused : (l .number ≡ 0 → ⊥) → LoadsPanel (panel s places) n rules l places
+  unfolding loadNumber sheetNumber
+  load-refused h =
+      kept l (loads .number ∙ sym (first-refused (sheetChecks n rules) (inUseCheck n (held places) ∷ []) (λ f. h (loads .number ∙ f)))) h
+      (loads .kept (λ f. h (loads .number ∙ f)))
+
+  module _ (zero : l .number ≡ 0) {used : Bool} (u : used ≡ inUseCheck n (held places) .0) where
+    by-use : (b : Bool) → used ≡ b → loadNumber (panel s places) n rules ≡ cond b 11 0
+    unfolding loadNumber sheetNumber
+    by-use b f =
+        first-append (sheetChecks n rules) (inUseCheck n (held places) ∷ [])
+        (passed-first (sheetChecks n rules) (sheet-numbered n rules) (sym (loads .number) ∙ zero))
+        ∙ ap (λ x. cond x 11 0) (sym u ∙ f)
+
+    pub load-in-use : used ≡ true → LoadsPanel (panel s places) n rules (record { number = 11; sheet = s }) places
+    load-in-use f = kept (record { number = 11; sheet = s }) (sym (by-use true f)) (λ e. omega arith) refl
+
+    pub load-done : {places′ : List ℕ} → used ≡ false → places′ ≡ rebuiltTo n (closesIn (l .sheet .closes)) placeCount places
+        → LoadsPanel (panel s places) n rules (record { number = 0; sheet = l .sheet }) places′
+    unfolding sheetAfter placesAfterLoad closes
+    load-done f e =
+        let z = by-use false f in
+        let w = loads .whole (sym (loads .number) ∙ zero) in
+        record { numbered = sym z; in-force = w ∙ rw z; stands = e ∙ ap (λ x. rebuiltTo n (closesIn (x .closes)) placeCount places) w ∙ rw z }
+
+pub ruleset load-ways = (load-refused, load-in-use, load-done, needs)

@@ -1,0 +1,28 @@
+-- `monitor::in_use::uses_beyond` meets its contract; in its loop, no byte before the place is such an operator. Assumes nothing.
+use Prim.Native.Nat.{_-_}
+use lib.ListN.{length}
+use Rattle.monitor.proofs.LoadWays.{Looked}
+use Rattle.monitor.proofs.LoadWays.{uses-beyond-ways}
+use Rattle.monitor.proofs.in_use.uses_beyond.Statement.{statement}
+use Rattle.monitor.proofs.in_use.uses_beyond.Tie as tie
+
+abbrev Inv-loop : tie.InvT-loop
+Inv-loop n bytes i₀ i = Looked n bytes i
+
+abbrev μ-loop : tie.MeasureT-loop
+μ-loop n bytes i₀ i = length bytes - i
+
+pub uses-beyond-spec : {M : Type 1} → statement M
+uses-beyond-spec =
+    tie.close
+    (tie.spec
+    Inv-loop
+    μ-loop
+    (λ c. search uses-beyond-ways)
+    (λ c. search uses-beyond-ways)
+    (λ c κs. search uses-beyond-ways)
+    (λ c. search uses-beyond-ways)
+    (λ c. search uses-beyond-ways)
+    (λ c. search uses-beyond-ways)
+    (λ c. search uses-beyond-ways)
+    (λ c. search uses-beyond-ways))

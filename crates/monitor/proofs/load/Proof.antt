@@ -1,0 +1,15 @@
+-- `monitor::load` meets its contract. Assumes nothing.
+use Rattle.monitor.proofs.LoadWays.{load-ways}
+use Rattle.monitor.proofs.load.Statement.{statement}
+use Rattle.monitor.proofs.load.Tie as tie
+
+pub load-spec : {M : Type 1} → statement M
+load-spec =
+    tie.close
+    (tie.spec
+    (λ c κs. search load-ways)
+    (λ c. search load-ways)
+    (λ c κs. search load-ways)
+    (λ c. search load-ways)
+    (λ c κs. search load-ways)
+    (λ c. search load-ways))

@@ -1,0 +1,54 @@
+// Whether a held tree uses an operator that is not below a new n.
+ghost use mathlib.Core.Path.{_≡_};
+ghost use mathlib.Core.Bool.{not, _&&_};
+ghost use lib.Dec.{ltb};
+ghost use Rattle.expression.specs.Limits.{mostOperators};
+ghost use Rattle.places.specs.Store.{held};
+ghost use Rattle.monitor.specs.Panel.{usesBeyond, inUseCheck};
+use crate::limits;
+
+// The byte is an operator not below n.
+fn is_beyond(n: u8, byte: u8) -> bool
+    ensures { λ r. ⌜ r ≡ (ltb byte mostOperators && not (ltb byte n)) ⌝ }
+{
+    if byte < sheet::limits::MOST_OPERATORS {
+        return n <= byte;
+    }
+    false
+}
+
+// Some byte is.
+fn uses_beyond(n: u8, bytes: &[u8]) -> bool
+    ensures { λ r. ⌜ r ≡ usesBeyond n (now (bytes .entry)) ⌝ }
+{
+    let mut i: usize = 0;
+    while i < bytes.len() {
+        if is_beyond(n, bytes[i]) {
+            return true;
+        }
+        i += 1;
+    }
+    false
+}
+
+// The place holds such a byte.
+fn place_uses(n: u8, places: &[u8; 4096], place: u8) -> bool
+    ensures { λ r. ⌜ r ≡ usesBeyond n (held (now (places .entry)) place) ⌝ }
+{
+    let bytes = places::held_record(places, place);
+    uses_beyond(n, bytes)
+}
+
+// Some place does.
+pub fn in_use(n: u8, places: &[u8; 4096]) -> bool
+    ensures { λ r. ⌜ r ≡ inUseCheck n (held (now (places .entry))) .0 ⌝ }
+{
+    let mut place: u8 = 0;
+    while place < limits::PLACE_COUNT {
+        if place_uses(n, places, place) {
+            return true;
+        }
+        place += 1;
+    }
+    false
+}
