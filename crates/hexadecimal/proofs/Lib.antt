@@ -1,0 +1,4 @@
+pub mod DigitWays
+pub mod PairWays
+pub mod TextWays
+pub mod Laws

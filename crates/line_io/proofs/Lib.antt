@@ -1,0 +1,3 @@
+pub mod LineWays
+pub mod MoveWays
+pub mod Laws
