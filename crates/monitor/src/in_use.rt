@@ -5,7 +5,7 @@ ghost use lib.Dec.{ltb};
 ghost use Rattle.expression.specs.Limits.{mostOperators};
 ghost use Rattle.places.specs.Store.{held};
 ghost use Rattle.monitor.specs.Panel.{usesBeyond, inUseCheck};
-use crate::limits;
+use places::limits;
 
 // The byte is an operator not below n.
 fn is_beyond(n: u8, byte: u8) -> bool

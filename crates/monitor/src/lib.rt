@@ -5,6 +5,7 @@ ghost use Rattle.expression.specs.Checks.{recordNumber};
 ghost use Rattle.expression.specs.Operand.{operandPart};
 ghost use Rattle.record.specs.Answers.{judgement};
 ghost use Rattle.monitor.specs.Contracts.{panel, AnswersBuild, AnswersRepair, AnswersYield, AnswersRecord, AnswersRow, AnswersImage, LoadsPanel, PutsRow, PutsRecord, Drops};
+use places::limits;
 use record::Answer;
 use record::Judgement;
 use sheet::Loaded;
@@ -12,7 +13,6 @@ use sheet::Sheet;
 use sheet::refusal;
 
 mod in_use;
-mod limits;
 mod storing;
 
 // The sheet of n operators and the rules takes the old one's place, and every held tree becomes the conflict-free tree of its row.
@@ -136,7 +136,7 @@ pub fn image(places: &[u8; 4096], place: u8, out: &mut [u8]) -> Answer
             length: 0,
         };
     }
-    if out.len() < limits::IMAGE_BYTES {
+    if out.len() < limits::SLOT_BYTES {
         return Answer {
             number: refusal::SHORT,
             length: 0,
@@ -145,7 +145,7 @@ pub fn image(places: &[u8; 4096], place: u8, out: &mut [u8]) -> Answer
     places::draw(places, place, out);
     Answer {
         number: refusal::ACCEPTED,
-        length: limits::IMAGE_BYTES,
+        length: limits::SLOT_BYTES,
     }
 }
 

@@ -6,7 +6,7 @@ ghost use Rattle.sheet.specs.Relation.{closesIn};
 ghost use Rattle.places.specs.Store.{placeCount, held};
 ghost use Rattle.monitor.specs.Panel.{rebuiltTo};
 ghost use Rattle.monitor.specs.Contracts.{StoresRow, StoresRecord, afterRecord};
-use crate::limits;
+use places::limits;
 use sheet::refusal;
 
 // The record that is built of the row, through the lent buffer.

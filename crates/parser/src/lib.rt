@@ -8,8 +8,8 @@ ghost use Rattle.expression.specs.Checks.{rowNumber};
 ghost use Rattle.sheet.specs.Relation.{closesIn};
 ghost use Rattle.parser.specs.Answers.{AnswersBuild, AnswersRepair};
 
-pub mod build;
-pub mod row;
+mod build;
+mod row;
 
 // The number of a row, where the sheet used has n operators: 1, 3, 6 or 0.
 pub fn row_number(n: u8, tokens: &[u8]) -> u8

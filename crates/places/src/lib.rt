@@ -4,6 +4,7 @@ ghost use mathlib.Core.List.{[]};
 ghost use Rattle.places.specs.Store.{held, imageOf, stored, drawn};
 
 mod layout;
+pub mod limits;
 mod write;
 
 // The record at a place, as that part of the store; empty where the place is empty or over 15.
@@ -11,7 +12,7 @@ pub fn held_record(store: &[u8; 4096], place: u8) -> &[u8]
     ensures { λ r. ⌜ now r ≡ held (now (store .entry)) place ⌝ }
 {
     let whole = &store[..];
-    if layout::PLACE_COUNT <= place {
+    if limits::PLACE_COUNT <= place {
         return &whole[0..0];
     }
     let at = layout::slot_at(place);
@@ -24,10 +25,10 @@ pub fn held_record(store: &[u8; 4096], place: u8) -> &[u8]
 pub fn put(store: &mut [u8; 4096], place: u8, bytes: &[u8])
     ensures { λ _. ⌜ now (store .exit) ≡ stored (now (store .entry)) place (now (bytes .entry)) ⌝ }
 {
-    if layout::PLACE_COUNT <= place {
+    if limits::PLACE_COUNT <= place {
         return;
     }
-    if layout::MOST_RECORD_BYTES < bytes.len() {
+    if limits::MOST_RECORD_BYTES < bytes.len() {
         return;
     }
     write::image(store, layout::slot_at(place), bytes);
@@ -37,17 +38,17 @@ pub fn put(store: &mut [u8; 4096], place: u8, bytes: &[u8])
 pub fn clear(store: &mut [u8; 4096], place: u8)
     ensures { λ _. ⌜ now (store .exit) ≡ stored (now (store .entry)) place [] ⌝ }
 {
-    if layout::PLACE_COUNT <= place {
+    if limits::PLACE_COUNT <= place {
         return;
     }
-    write::zeros(store, layout::slot_at(place), layout::SLOT_BYTES);
+    write::zeros(store, layout::slot_at(place), limits::SLOT_BYTES);
 }
 
 // The image of a place goes to the front of the output, where there is room for it.
 pub fn draw(store: &[u8; 4096], place: u8, out: &mut [u8])
     ensures { λ _. ⌜ now (out .exit) ≡ drawn (imageOf (held (now (store .entry)) place)) (now (out .entry)) ⌝ }
 {
-    if out.len() < layout::SLOT_BYTES {
+    if out.len() < limits::SLOT_BYTES {
         return;
     }
     let record = held_record(store, place);
