@@ -3,6 +3,7 @@ pub mod BuildInvariant
 pub mod BuildsTree
 pub mod BuildLaws
 pub mod InForceBuilds
+pub mod SafeBuilds
 pub mod TokenWays
 pub mod ReaderWays
 pub mod RowWays
