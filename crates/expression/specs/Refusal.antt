@@ -43,6 +43,9 @@ short = 10
 abbrev pub inUse : ℕ
 inUse = 11
 
+abbrev pub frame : ℕ
+frame = 12
+
 -- One line of a call's list: whether it applies, and its number.
 abbrev pub Check : Type 0
 Check = Bool × ℕ

@@ -27,11 +27,11 @@ use Rattle.sheet.proofs.Laws.{closes-lent, count-by-relation}
 use Rattle.record.specs.Answers.{judgement, countIn}
 use Rattle.parser.specs.Build.{built}
 use Rattle.places.specs.Store.{placeCount, slotBytes, held, imageOf}
-use Rattle.monitor.specs.Call.{Call, load, putRow, putRecord, drop, fetchRecord, fetchRow, image, build, repair, judge, yield, operand, Reply}
+use Rattle.monitor.specs.Call.{Call, lentTo, load, putRow, putRecord, drop, fetchRecord, fetchRow, image, build, repair, judge, yield, operand, Reply}
 use Rattle.monitor.specs.Panel.{Panel, placeCheck, isEmpty, emptyCheck, rebuilt}
-use Rattle.monitor.specs.Steps.{operators, reply}
+use Rattle.monitor.specs.Steps.{operators, outcome, reply}
 use Rattle.monitor.specs.Book.{Book, rowIn, slotRow, SlotTree, bookNumber}
-use Rattle.monitor.specs.Answers.{Lent, Valued, Records, Image, Output, Count, Part, Answers}
+use Rattle.monitor.specs.Answers.{Lent, Valued, Records, Image, Told, Count, Part, Answers}
 use Rattle.monitor.proofs.Slots.{HeldTree, Holds, row-back, put-row-holds, put-record-holds}
 use Rattle.monitor.proofs.Stands.{Stands, filled, same-operators, same-number}
 
@@ -78,64 +78,43 @@ module _ (p : Panel) (b : Book) (s : Stands p b) where
   slot-tree : (k : ℕ) (row : List ℕ) → b .slots k ≡ some row → (t : Tree) → HeldTree (b .n) (b .rules) row (held (p .places) k) t → SlotTree b k t
   slot-tree k row q t g = rw (ap rowIn q) (g .tree)
 
-  fetch-record-output : (k : ℕ) (out : List ℕ) → Output b (fetchRecord k out) (reply p (fetchRecord k out) .output)
-  fetch-record-output k out =
-      lent-answer (bookNumber b (fetchRecord k out)) (reply p (fetchRecord k out) .number) (same-number p b s (fetchRecord k out)) (λ answer. (t : Tree) × SlotTree b k t × (answer ≡ recordOf t)) (held (p .places) k) out
-      (λ z. let (row, q, (t, g)) = found k (shortCheck (recordBytes (slotRow b k)) (length out) ∷ []) z in (t, slot-tree k row q t g, g .recorded))
-
-  fetch-row-output : (k : ℕ) (out : List ℕ) → Output b (fetchRow k out) (reply p (fetchRow k out) .output)
-  fetch-row-output k out =
-      lent-answer (bookNumber b (fetchRow k out)) (reply p (fetchRow k out) .number) (same-number p b s (fetchRow k out)) (λ answer. answer ≡ slotRow b k)
-      (rowOf (treeOf (class (operators p)) (held (p .places) k))) out
-      (λ z.
-      let (row, q, (t, g)) = found k (shortCheck (length (slotRow b k)) (length out) ∷ []) z in
-      ap (λ n. rowOf (treeOf (class n) (held (p .places) k))) (same-operators p b s) ∙ row-back g ∙ sym (ap rowIn q))
-
-  image-output : (k : ℕ) (out : List ℕ) → Output b (image k out) (reply p (image k out) .output)
-  image-output k out =
-      lent-answer (bookNumber b (image k out)) (reply p (image k out) .number) (same-number p b s (image k out)) (Image b k (b .slots k)) (imageOf (held (p .places) k)) out
-      (λ z. let (h, f) = place-passed k (shortCheck slotBytes (length out) ∷ []) z in go (b .slots k) refl (s .holds k h))
-    where
-      go : (slot : Option (List ℕ)) → b .slots k ≡ slot → Holds (b .n) (b .rules) slot (held (p .places) k) → Image b k slot (imageOf (held (p .places) k))
-      go none q e = ap imageOf e
-      go (some row) q (t, g) = (t, slot-tree k row q t g, ap imageOf (g .recorded))
-
-  build-output : (row out : List ℕ) → Output b (build row out) (reply p (build row out) .output)
-  unfolding buildNumber rowNumber
-  build-output row out =
-      lent-answer (bookNumber b (build row out)) (reply p (build row out) .number) (same-number p b s (build row out)) (λ answer. (t : Tree) × ConflictFreeTree (b .n) (b .rules) row t × (answer ≡ recordOf t)) (built (closes (p .sheet)) row) out
-      (λ z.
-      let e = front-accepted (rowChecks (b .n) row) (shortCheck (recordBytes row) (length out) ∷ []) (row-numbered (b .n) row) z in
-      let (t, g) = put-row-holds (p .sheet) (b .n) (b .rules) (s .in-force) row e in
-      (t, g .tree, g .recorded))
-
   -- the tree that an accepted record is of
   recorded : (bytes : List ℕ) → recordNumber (b .n) bytes ≡ accepted → (t : Tree) × Records b bytes t × (treeOf (class (b .n)) bytes ≡ some t)
   recorded bytes e =
       let (t, r) = record-accepted (b .n) bytes .0 e in
       (t, (r .over, r .recorded), ap (treeOf (class (b .n))) (sym (r .recorded)) ∙ treeOf-record (class (b .n)) (brackets (b .n)) t (r .over))
 
-  repair-output : (bytes out : List ℕ) → Output b (repair bytes out) (reply p (repair bytes out) .output)
-  unfolding repairNumber recordNumber
-  repair-output bytes out =
-      lent-answer (bookNumber b (repair bytes out)) (reply p (repair bytes out) .number) (same-number p b s (repair bytes out))
-      (λ answer. (t : Tree) × (u : Tree) × Records b bytes t × ConflictFreeTree (b .n) (b .rules) (tree.yield t) u × (answer ≡ recordOf u))
-      (rebuilt (operators p) (closes (p .sheet)) bytes) out
-      (λ z.
+  -- The bytes of each accepted answer are those that the book gives.
+  pub told : (c : Call) → bookNumber b c ≡ accepted → Told b c (outcome p c .answer)
+  unfolding buildNumber rowNumber repairNumber yieldNumber recordNumber
+  told (fetchRecord k out) z = let (row, q, (t, g)) = found k (shortCheck (recordBytes (slotRow b k)) (length out) ∷ []) z in (t, slot-tree k row q t g, g .recorded)
+  told (fetchRow k out) z =
+      let (row, q, (t, g)) = found k (shortCheck (length (slotRow b k)) (length out) ∷ []) z in
+      ap (λ n. rowOf (treeOf (class n) (held (p .places) k))) (same-operators p b s) ∙ row-back g ∙ sym (ap rowIn q)
+  told (image k out) z = let (h, f) = place-passed k (shortCheck slotBytes (length out) ∷ []) z in go (b .slots k) refl (s .holds k h)
+    where
+      go : (slot : Option (List ℕ)) → b .slots k ≡ slot → Holds (b .n) (b .rules) slot (held (p .places) k) → Image b k slot (imageOf (held (p .places) k))
+      go none q e = ap imageOf e
+      go (some row) q (t, g) = (t, slot-tree k row q t g, ap imageOf (g .recorded))
+  told (build row out) z =
+      let e = front-accepted (rowChecks (b .n) row) (shortCheck (recordBytes row) (length out) ∷ []) (row-numbered (b .n) row) z in
+      let (t, g) = put-row-holds (p .sheet) (b .n) (b .rules) (s .in-force) row e in
+      (t, g .tree, g .recorded)
+  told (repair bytes out) z =
       let e = front-accepted (recordChecks (b .n) bytes) (shortCheck (length bytes) (length out) ∷ []) (record-numbered (b .n) bytes) z in
       let (t, r, q) = recorded bytes e in
       let (u, g) = put-record-holds (p .sheet) (b .n) (b .rules) (s .in-force) bytes e in
-      (t, u, r, rw (ap rowOf q) at (g .tree), ap (λ n. rebuilt n (closes (p .sheet)) bytes) (same-operators p b s) ∙ g .recorded))
-
-  yield-output : (bytes out : List ℕ) → Output b (yield bytes out) (reply p (yield bytes out) .output)
-  unfolding yieldNumber recordNumber
-  yield-output bytes out =
-      lent-answer (bookNumber b (yield bytes out)) (reply p (yield bytes out) .number) (same-number p b s (yield bytes out)) (λ answer. (t : Tree) × Records b bytes t × (answer ≡ tree.yield t))
-      (rowOf (treeOf (class (operators p)) bytes)) out
-      (λ z.
+      (t, u, r, rw (ap rowOf q) at (g .tree), ap (λ n. rebuilt n (closes (p .sheet)) bytes) (same-operators p b s) ∙ g .recorded)
+  told (yield bytes out) z =
       let e = front-accepted (recordChecks (b .n) bytes) (shortCheck (rowTokens (treeOf (class (b .n)) bytes)) (length out) ∷ []) (record-numbered (b .n) bytes) z in
       let (t, r, q) = recorded bytes e in
-      (t, r, ap (λ n. rowOf (treeOf (class n) bytes)) (same-operators p b s) ∙ ap rowOf q))
+      (t, r, ap (λ n. rowOf (treeOf (class n) bytes)) (same-operators p b s) ∙ ap rowOf q)
+  told (load n rules) z = refl
+  told (putRow k row) z = refl
+  told (putRecord k bytes) z = refl
+  told (drop k) z = refl
+  told (judge bytes) z = refl
+  told (operand right bytes) z = refl
 
   judge-count : (bytes : List ℕ) → Count b (judge bytes) (reply p (judge bytes) .count)
   unfolding judgement closes
@@ -159,16 +138,39 @@ module _ (p : Panel) (b : Book) (s : Stands p b) where
       let (t, r, q) = recorded bytes z in
       (t, r, ap (λ n. operandIn right (treeOf (class n) bytes)) (same-operators p b s) ∙ ap (operandIn right) q))
 
+  count : (c : Call) → Count b c (outcome p c .count)
+  count (judge bytes) = judge-count bytes
+  count (load n rules) = refl
+  count (putRow k row) = refl
+  count (putRecord k bytes) = refl
+  count (drop k) = refl
+  count (fetchRecord k out) = refl
+  count (fetchRow k out) = refl
+  count (image k out) = refl
+  count (build row out) = refl
+  count (repair bytes out) = refl
+  count (yield bytes out) = refl
+  count (operand right bytes) = refl
+
+  part : (c : Call) → Part b c (outcome p c .part)
+  part (operand right bytes) = operand-part right bytes
+  part (load n rules) = refl
+  part (putRow k row) = refl
+  part (putRecord k bytes) = refl
+  part (drop k) = refl
+  part (fetchRecord k out) = refl
+  part (fetchRow k out) = refl
+  part (image k out) = refl
+  part (build row out) = refl
+  part (repair bytes out) = refl
+  part (judge bytes) = refl
+  part (yield bytes out) = refl
+
   pub answers : (c : Call) → Answers b c (reply p c)
-  answers (load n rules) = record { number = same-number p b s (load n rules); output = refl; count = refl; part = refl }
-  answers (putRow k row) = record { number = same-number p b s (putRow k row); output = refl; count = refl; part = refl }
-  answers (putRecord k bytes) = record { number = same-number p b s (putRecord k bytes); output = refl; count = refl; part = refl }
-  answers (drop k) = record { number = same-number p b s (drop k); output = refl; count = refl; part = refl }
-  answers (fetchRecord k out) = record { number = same-number p b s (fetchRecord k out); output = fetch-record-output k out; count = refl; part = refl }
-  answers (fetchRow k out) = record { number = same-number p b s (fetchRow k out); output = fetch-row-output k out; count = refl; part = refl }
-  answers (image k out) = record { number = same-number p b s (image k out); output = image-output k out; count = refl; part = refl }
-  answers (build row out) = record { number = same-number p b s (build row out); output = build-output row out; count = refl; part = refl }
-  answers (repair bytes out) = record { number = same-number p b s (repair bytes out); output = repair-output bytes out; count = refl; part = refl }
-  answers (judge bytes) = record { number = same-number p b s (judge bytes); output = refl; count = judge-count bytes; part = refl }
-  answers (yield bytes out) = record { number = same-number p b s (yield bytes out); output = yield-output bytes out; count = refl; part = refl }
-  answers (operand right bytes) = record { number = same-number p b s (operand right bytes); output = refl; count = refl; part = operand-part right bytes }
+  answers c =
+      record {
+        number = same-number p b s c;
+        output = lent-answer (bookNumber b c) (outcome p c .number) (same-number p b s c) (Told b c) (outcome p c .answer) (lentTo c) (told c);
+        count = count c;
+        part = part c;
+      }

@@ -12,7 +12,7 @@ use Rattle.expression.specs.Tree as tree
 use Rattle.expression.specs.Operand.{operandRecord}
 use Rattle.disambiguation.specs.Conflicts.{conflictCount, ConflictFreeTree}
 use Rattle.places.specs.Store.{imageOf}
-use Rattle.monitor.specs.Call.{Call, load, putRow, putRecord, fetchRecord, fetchRow, image, build, repair, judge, yield, operand, Reply}
+use Rattle.monitor.specs.Call.{Call, lentTo, load, putRow, putRecord, fetchRecord, fetchRow, image, build, repair, judge, yield, operand, Reply}
 use Rattle.monitor.specs.Call as call
 use Rattle.monitor.specs.Book.{Book, slotRow, SlotTree, bookNumber}
 
@@ -35,22 +35,24 @@ module _ (b : Book) where
   Image k none answer = answer ≡ imageOf []
   Image k (some row) answer = (t : Tree) × SlotTree b k t × (answer ≡ imageOf (recordOf t))
 
+  -- the answer's bytes, of an accepted call
+  abbrev pub Told : Call → List ℕ → Type 0
+  Told (fetchRecord k out) answer = (t : Tree) × SlotTree b k t × (answer ≡ recordOf t)
+  Told (fetchRow k out) answer = answer ≡ slotRow b k
+  Told (image k out) answer = Image k (b .slots k) answer
+  Told (build row out) answer = (t : Tree) × ConflictFreeTree (b .n) (b .rules) row t × (answer ≡ recordOf t)
+  Told (repair bytes out) answer = (t : Tree) × (u : Tree) × Records bytes t × ConflictFreeTree (b .n) (b .rules) (tree.yield t) u × (answer ≡ recordOf u)
+  Told (yield bytes out) answer = (t : Tree) × Records bytes t × (answer ≡ tree.yield t)
+  Told (load n rules) answer = answer ≡ []
+  Told (putRow k row) answer = answer ≡ []
+  Told (putRecord k bytes) answer = answer ≡ []
+  Told (call.drop k) answer = answer ≡ []
+  Told (judge bytes) answer = answer ≡ []
+  Told (operand right bytes) answer = answer ≡ []
+
+  -- the whole lent output
   abbrev pub Output : Call → List ℕ → Type 0
-  Output (load n rules) after = after ≡ []
-  Output (putRow k row) after = after ≡ []
-  Output (putRecord k bytes) after = after ≡ []
-  Output (call.drop k) after = after ≡ []
-  Output (fetchRecord k out) after = Lent (bookNumber b (fetchRecord k out)) (λ answer. (t : Tree) × SlotTree b k t × (answer ≡ recordOf t)) out after
-  Output (fetchRow k out) after = Lent (bookNumber b (fetchRow k out)) (λ answer. answer ≡ slotRow b k) out after
-  Output (image k out) after = Lent (bookNumber b (image k out)) (Image k (b .slots k)) out after
-  Output (build row out) after =
-      Lent (bookNumber b (build row out)) (λ answer. (t : Tree) × ConflictFreeTree (b .n) (b .rules) row t × (answer ≡ recordOf t)) out after
-  Output (repair bytes out) after =
-      Lent (bookNumber b (repair bytes out))
-      (λ answer. (t : Tree) × (u : Tree) × Records bytes t × ConflictFreeTree (b .n) (b .rules) (tree.yield t) u × (answer ≡ recordOf u)) out after
-  Output (judge bytes) after = after ≡ []
-  Output (yield bytes out) after = Lent (bookNumber b (yield bytes out)) (λ answer. (t : Tree) × Records bytes t × (answer ≡ tree.yield t)) out after
-  Output (operand right bytes) after = after ≡ []
+  Output c after = Lent (bookNumber b c) (Told c) (lentTo c) after
 
   -- a judge's count
   abbrev pub Count : Call → ℕ → Type 0
@@ -79,8 +81,8 @@ module _ (b : Book) where
   Part (image k out) part = part ≡ []
   Part (build row out) part = part ≡ []
   Part (repair bytes out) part = part ≡ []
-  Part (yield bytes out) part = part ≡ []
   Part (judge bytes) part = part ≡ []
+  Part (yield bytes out) part = part ≡ []
 
   -- The reply is the book's.
   pub record Answers (c : Call) (r : Reply) : Type 0 where

@@ -1,7 +1,7 @@
 -- The calls of demand 3 with all their arguments, a lent output's contents among them, and what a call answers. Assumes nothing.
 use Prim.Native.Nat.{ℕ}
 use mathlib.Core.Bool.{Bool}
-use mathlib.Core.List.{List}
+use mathlib.Core.List.{List, []}
 
 -- `out` is what the lent output holds before the call.
 pub data Call : Type 0 where
@@ -17,6 +17,21 @@ pub data Call : Type 0 where
   judge : (bytes : List ℕ) → Call
   yield : (bytes : List ℕ) (out : List ℕ) → Call
   operand : (right : Bool) (bytes : List ℕ) → Call
+
+-- what the lent output holds before the call; nothing where none is lent
+abbrev pub lentTo : Call → List ℕ
+lentTo (fetchRecord k out) = out
+lentTo (fetchRow k out) = out
+lentTo (image k out) = out
+lentTo (build row out) = out
+lentTo (repair bytes out) = out
+lentTo (yield bytes out) = out
+lentTo (load n rules) = []
+lentTo (putRow k row) = []
+lentTo (putRecord k bytes) = []
+lentTo (drop k) = []
+lentTo (judge bytes) = []
+lentTo (operand right bytes) = []
 
 -- What is compared at every call: its number; the whole lent output after it, empty where none is lent; a judge's count, 0 for others;
 -- an operand's part, empty for others.

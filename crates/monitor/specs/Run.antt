@@ -65,10 +65,10 @@ inForce (operand right bytes ∷ cs) = inForce cs
 -- The row, or the record's row, of the last accepted put at the place k; none where there was no such put, or a drop there was accepted since.
 unfoldable pub lastPut : ℕ → List Call → Option (List ℕ)
 lastPut k [] = none
-lastPut k (load n rules ∷ cs) = lastPut k cs
 lastPut k (putRow j row ∷ cs) = cond (isAccepted cs (putRow j row) && eqb k j) (some row) (lastPut k cs)
 lastPut k (putRecord j bytes ∷ cs) = cond (isAccepted cs (putRecord j bytes) && eqb k j) (some (rowOf (treeOf (class (inForce cs .n)) bytes))) (lastPut k cs)
 lastPut k (drop j ∷ cs) = cond (isAccepted cs (drop j) && eqb k j) none (lastPut k cs)
+lastPut k (load n rules ∷ cs) = lastPut k cs
 lastPut k (fetchRecord j out ∷ cs) = lastPut k cs
 lastPut k (fetchRow j out ∷ cs) = lastPut k cs
 lastPut k (image j out ∷ cs) = lastPut k cs

@@ -16,8 +16,15 @@ use Rattle.sheet.specs.declared.Sheet.{Sheet}
 use Rattle.record.specs.Answers.{judgement}
 use Rattle.parser.specs.Build.{built}
 use Rattle.places.specs.Store.{placeCount, slotBytes, held, imageOf, stored}
-use Rattle.monitor.specs.Call.{Call, load, putRow, putRecord, drop, fetchRecord, fetchRow, image, build, repair, judge, yield, operand, Reply}
+use Rattle.monitor.specs.Call.{Call, lentTo, load, putRow, putRecord, drop, fetchRecord, fetchRow, image, build, repair, judge, yield, operand, Reply}
 use Rattle.monitor.specs.Panel.{Panel, placeCheck, emptyCheck, inUseCheck, sheetChecks, ifAccepted, rebuilt, rebuiltTo}
+
+-- What a call gives: its number; accepted, the bytes that it writes into its lent output; a judge's count; an operand's part.
+pub record Outcome : Type 0 where
+  pub number : ℕ
+  pub answer : List ℕ
+  pub count : ℕ
+  pub part : List ℕ
 
 module _ (p : Panel) where
   abbrev pub operators : ℕ
@@ -81,22 +88,32 @@ module _ (p : Panel) where
   after (operand right bytes) = p
 
   -- The replies.
-  abbrev pub numbered : ℕ → Reply
-  numbered number = record { number = number; output = []; count = 0; part = [] }
+  abbrev pub numbered : ℕ → Outcome
+  numbered number = record { number = number; answer = []; count = 0; part = [] }
 
-  abbrev pub answered : ℕ → List ℕ → List ℕ → Reply
-  answered number answer out = record { number = number; output = outputAfter number answer out; count = 0; part = [] }
+  abbrev pub answered : ℕ → List ℕ → Outcome
+  answered number answer = record { number = number; answer = answer; count = 0; part = [] }
 
+  abbrev pub outcome : Call → Outcome
+  outcome (load n rules) = numbered (loadNumber n rules)
+  outcome (putRow k row) = numbered (putRowNumber k row)
+  outcome (putRecord k bytes) = numbered (putRecordNumber k bytes)
+  outcome (drop k) = numbered (dropNumber k)
+  outcome (fetchRecord k out) = answered (fetchRecordNumber k (length out)) (held (p .places) k)
+  outcome (fetchRow k out) = answered (fetchRowNumber k (length out)) (rowOf (treeOf (class operators) (held (p .places) k)))
+  outcome (image k out) = answered (imageNumber k (length out)) (imageOf (held (p .places) k))
+  outcome (build row out) = answered (buildNumber operators row (length out)) (built (closes (p .sheet)) row)
+  outcome (repair bytes out) = answered (repairNumber operators bytes (length out)) (rebuilt operators (closes (p .sheet)) bytes)
+  outcome (judge bytes) = record { number = recordNumber operators bytes; answer = []; count = judgement operators (p .sheet .closes) bytes .count; part = [] }
+  outcome (yield bytes out) = answered (yieldNumber operators bytes (length out)) (rowOf (treeOf (class operators) bytes))
+  outcome (operand right bytes) = record { number = recordNumber operators bytes; answer = []; count = 0; part = operandPart operators right bytes }
+
+  -- The reply: the output past the answer's bytes, and after a refusal all of it, is as before.
   abbrev pub reply : Call → Reply
-  reply (load n rules) = numbered (loadNumber n rules)
-  reply (putRow k row) = numbered (putRowNumber k row)
-  reply (putRecord k bytes) = numbered (putRecordNumber k bytes)
-  reply (drop k) = numbered (dropNumber k)
-  reply (fetchRecord k out) = answered (fetchRecordNumber k (length out)) (held (p .places) k) out
-  reply (fetchRow k out) = answered (fetchRowNumber k (length out)) (rowOf (treeOf (class operators) (held (p .places) k))) out
-  reply (image k out) = answered (imageNumber k (length out)) (imageOf (held (p .places) k)) out
-  reply (build row out) = answered (buildNumber operators row (length out)) (built (closes (p .sheet)) row) out
-  reply (repair bytes out) = answered (repairNumber operators bytes (length out)) (rebuilt operators (closes (p .sheet)) bytes) out
-  reply (judge bytes) = record { number = recordNumber operators bytes; output = []; count = judgement operators (p .sheet .closes) bytes .count; part = [] }
-  reply (yield bytes out) = answered (yieldNumber operators bytes (length out)) (rowOf (treeOf (class operators) bytes)) out
-  reply (operand right bytes) = record { number = recordNumber operators bytes; output = []; count = 0; part = operandPart operators right bytes }
+  reply c =
+      record {
+        number = outcome c .number;
+        output = outputAfter (outcome c .number) (outcome c .answer) (lentTo c);
+        count = outcome c .count;
+        part = outcome c .part;
+      }

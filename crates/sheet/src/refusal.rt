@@ -22,3 +22,5 @@ pub const EMPTY: u8 = 9;
 pub const SHORT: u8 = 10;
 
 pub const IN_USE: u8 = 11;
+
+pub const FRAME: u8 = 12;
