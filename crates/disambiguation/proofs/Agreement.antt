@@ -1,10 +1,9 @@
 -- Relations that agree on the operators of a tree give it one conflict count and one repair. Assumes nothing.
-use Prim.Native.Nat.{ℕ, _+_}
-use native.Mathlib.Omega.{arith}
-use mathlib.Core.Path.{_≡_, refl, ap, sym, _∙_}
-use mathlib.Core.Bool.{Bool, true, false, cond}
+use Prim.Native.Nat.{ℕ}
+use mathlib.Core.Path.{_≡_, refl, ap, _∙_}
+use mathlib.Core.Bool.{Bool}
 use mathlib.Core.List.{List, [], _∷_}
-use Rattle.expression.specs.Lists.{one, count, All}
+use Rattle.expression.specs.Lists.{count, All}
 use Rattle.expression.specs.Token.{Class, Infix}
 use Rattle.expression.specs.Tree.{Tree, reading, bracket, binary, Over}
 use Rattle.disambiguation.specs.Edges.{seenFromRight, seenFromLeft}

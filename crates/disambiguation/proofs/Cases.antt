@@ -2,7 +2,7 @@
 use Prim.Native.Nat.{ℕ}
 use native.Mathlib.Omega.{arith}
 use mathlib.Core.Path.{_≡_, refl}
-use mathlib.Core.List.{List, [], _∷_}
+use mathlib.Core.List.{[], _∷_}
 use Rattle.expression.specs.Lists.{All}
 use Rattle.expression.specs.Token.{class}
 use Rattle.expression.specs.Tree.{Tree, reading, bracket, binary}
@@ -11,11 +11,10 @@ use Rattle.expression.specs.Decode.{treeOf}
 use Rattle.expression.specs.Checks.{rowNumber, recordNumber}
 use Rattle.disambiguation.specs.Rules.{L, R}
 use Rattle.disambiguation.specs.Below.{allBelow}
-use Rattle.disambiguation.specs.Conflicts.{ConflictFreeTree}
 use Rattle.disambiguation.specs.Verdict.{safe, total, within, level}
 use Rattle.disambiguation.specs.SheetChecks.{rulesOf, sheetNumber}
 use Rattle.disambiguation.specs.ExactlyOne.{HasTwo}
-use Rattle.disambiguation.specs.Cases.{Case, Holds, Sheet, sheetA, round, table}
+use Rattle.disambiguation.specs.Cases.{Holds, round, table}
 use Rattle.disambiguation.specs.Misreadings.{misreadings}
 
 abbrev w : Tree

@@ -4,8 +4,8 @@ use native.Mathlib.Omega.{arith}
 use mathlib.Core.Path.{_≡_, refl, ap, sym, _∙_}
 use mathlib.Core.Bool.{Bool, true, false, true≢false}
 use mathlib.Core.Logic.{_⊎_, inl, inr}
-use Rattle.expression.specs.Token.{Class, Infix, Opening, Closing, Reading, Meaningless}
-use Rattle.expression.specs.Tree.{Tree, reading, bracket, binary, yield, Over}
+use Rattle.expression.specs.Token.{Class, Infix, Reading}
+use Rattle.expression.specs.Tree.{Tree, reading, binary, yield, Over}
 use Rattle.expression.proofs.Classes.{Brackets}
 use Rattle.disambiguation.specs.Conflicts.{conflicts}
 use Rattle.disambiguation.proofs.Free.{is-false, Free, free-of-count, count-of-free}

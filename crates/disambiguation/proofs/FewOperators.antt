@@ -4,9 +4,9 @@ use native.Mathlib.Omega.{arith}
 use mathlib.Core.Path.{_≡_, refl, ap, sym, _∙_}
 use mathlib.Core.Bool.{Bool, true, false}
 use mathlib.Core.Logic.{_⊎_, inl, inr}
-use mathlib.Core.List.{List, [], _∷_, _++_}
+use mathlib.Core.List.{[], _∷_}
 use Rattle.expression.specs.Lists.{one, count, All}
-use Rattle.expression.specs.Token.{Class, Infix, Opening, Closing, Reading, Meaningless, opening, closing}
+use Rattle.expression.specs.Token.{Class, Infix, Opening, Closing, Reading, opening, closing}
 use Rattle.expression.specs.Tree.{Tree, reading, bracket, binary, yield, Over}
 use Rattle.expression.proofs.Classes.{Brackets}
 use Rattle.expression.proofs.Lengths.{count-append}

@@ -1,16 +1,16 @@
 -- What the left-to-right machine needs of a tree, and that it makes of such a tree's yield that very tree. Assumes nothing.
 use Prim.Native.Nat.{ℕ}
 use mathlib.Core.Path.{_≡_, refl, ap, sym, _∙_}
-use mathlib.Core.Bool.{Bool, true, false}
-use mathlib.Core.Option.{Option, none, some, Option·some-injective}
-use mathlib.Core.List.{List, [], _∷_, _++_}
+use mathlib.Core.Bool.{Bool, true}
+use mathlib.Core.Option.{some, Option·some-injective}
+use mathlib.Core.List.{[], _∷_, _++_}
 use Rattle.expression.specs.Lists.{All}
-use Rattle.expression.specs.Token.{Class, Infix, opening, closing}
+use Rattle.expression.specs.Token.{Class, opening, closing}
 use Rattle.expression.specs.Tree.{Tree, reading, bracket, binary, yield, Over}
 use Rattle.expression.proofs.Classes.{Brackets}
 use Rattle.disambiguation.specs.Edges.{rightEdge, leftEdge}
 use Rattle.disambiguation.proofs.Free.{all, None}
-use Rattle.disambiguation.proofs.LeftToRight.{Frame, after, operatorOf, fill, Stack, bottom, opened, waiting, State, due, have, stuck, close, everything, whole, finish, whereDue, before, run, parse, run-append, Holds}
+use Rattle.disambiguation.proofs.LeftToRight.{after, Stack, bottom, opened, waiting, due, have, close, everything, whole, finish, whereDue, before, run, parse, run-append, Holds}
 
 -- t with its right edge open on the stack, and the operand at the edge's end
 abbrev laid : Tree → Stack → Stack

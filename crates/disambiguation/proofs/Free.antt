@@ -1,13 +1,12 @@
 -- Conflict-free as a statement, node by node, and what is known of edges. Assumes nothing.
 use Prim.Native.Nat.{ℕ}
 use native.Mathlib.Omega.{arith}
-use mathlib.Core.Path.{_≡_, refl, ap, sym, _∙_}
+use mathlib.Core.Path.{_≡_, refl}
 use mathlib.Core.Bool.{Bool, true, false}
 use mathlib.Core.List.{List, [], _∷_}
 use Rattle.expression.specs.Lists.{one, count, All}
-use Rattle.expression.specs.Token.{Class}
-use Rattle.expression.specs.Tree.{Tree, reading, bracket, binary, Over}
-use Rattle.disambiguation.specs.Edges.{rightEdge, leftEdge, seenFromRight, seenFromLeft}
+use Rattle.expression.specs.Tree.{Tree, reading, bracket, binary}
+use Rattle.disambiguation.specs.Edges.{rightEdge, seenFromRight, seenFromLeft}
 use Rattle.disambiguation.specs.Conflicts.{conflicts}
 
 pub is-false : (b : Bool) → (b ≡ true → ⊥) → b ≡ false

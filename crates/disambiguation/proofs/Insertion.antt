@@ -1,13 +1,13 @@
 -- A conflict-free tree exists under a safe sheet: repair keeps the yield and leaves no conflict. Assumes nothing.
 use Prim.Native.Nat.{ℕ}
 use mathlib.Core.Path.{_≡_, refl, ap, sym, _∙_}
-use mathlib.Core.Bool.{Bool, true, false, cond}
-use mathlib.Core.List.{List, [], _∷_, _++_, append-assoc}
+use mathlib.Core.Bool.{Bool, false}
+use mathlib.Core.List.{[], _∷_, _++_, append-assoc}
 use Rattle.expression.specs.Lists.{All}
 use Rattle.expression.specs.Token.{Class, Infix, opening, closing}
 use Rattle.expression.specs.Tree.{Tree, reading, bracket, binary, yield, Over}
 use Rattle.expression.proofs.Cond.{by-cond}
-use Rattle.disambiguation.specs.Edges.{seenFromRight, seenFromLeft}
+use Rattle.disambiguation.specs.Edges.{seenFromRight}
 use Rattle.disambiguation.specs.Conflicts.{conflicts}
 use Rattle.disambiguation.specs.Repair.{insert, insertAll, repair}
 use Rattle.disambiguation.proofs.Free.{is-false, None, Free, count-of-free}

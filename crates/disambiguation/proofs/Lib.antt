@@ -10,6 +10,7 @@ pub mod BelowLaws
 pub mod TestsDecide
 pub mod VerdictDecides
 pub mod SheetNumbers
+pub mod RuleBytes
 pub mod Agreement
 pub mod Accepted
 pub mod Cases

@@ -1,7 +1,6 @@
 -- The number of a sheet in bytes: in order it is the verdict on its rules, and so 4, 5 and 0 exactly if. Assumes nothing.
 use Prim.Native.Nat.{ℕ, _≤_}
-use mathlib.Core.Path.{_≡_, refl, ap, sym, _∙_}
-use mathlib.Core.Bool.{Bool, true, false, _||_, true≢false}
+use mathlib.Core.Path.{_≡_}
 use mathlib.Core.Logic.{_↔_}
 use mathlib.Core.List.{List}
 use lib.Dec.{ltb}
@@ -9,20 +8,16 @@ use lib.ListN.{length}
 use borrow.Author.Tests.{ltb-false}
 use Rattle.expression.specs.Limits.{mostOperators, mostRuleBytes}
 use Rattle.expression.specs.Refusal.{accepted, dead, double}
-use Rattle.expression.proofs.Numbers.{Passed, first-append}
-use Rattle.disambiguation.specs.Rules.{Rule, L, R}
+use Rattle.expression.proofs.Numbers.{first-append}
+use Rattle.disambiguation.specs.Rules.{L, R}
 use Rattle.disambiguation.specs.ExactlyOne.{SomeRowHasNone, EveryRowHasOne, SomeRowHasTwo, EveryRowHasExactlyOne}
 use Rattle.disambiguation.specs.Verdict.{ruleChecks, verdict}
-use Rattle.disambiguation.specs.SheetChecks.{rulesOf, orderChecks, sheetNumber}
+use Rattle.disambiguation.specs.SheetChecks.{rulesOf, orderChecks, InOrder, sheetNumber}
 use Rattle.disambiguation.proofs.TestsDecide.{neither}
 use Rattle.disambiguation.proofs.VerdictDecides.{dead-exactly-if, double-exactly-if, accepted-exactly-if}
 
 module _ (n : ℕ) (bytes : List ℕ) where
-  -- A sheet's bytes are in order if 1, 2 and 3 don't apply.
-  abbrev pub InOrder : Type 0
-  InOrder = Passed (orderChecks n bytes)
-
-  module _ (order : InOrder) where
+  module _ (order : InOrder n bytes) where
     pub operators-fit : n ≤ mostOperators
     operators-fit = ltb-false mostOperators n ((neither (ltb mostOperators n) (ltb mostRuleBytes (length bytes)) (order .0)) .0)
 

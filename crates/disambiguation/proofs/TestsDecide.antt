@@ -4,13 +4,12 @@ use native.Mathlib.Omega.{arith}
 use mathlib.Core.Path.{_≡_, refl, ap, sym, _∙_}
 use mathlib.Core.Bool.{Bool, true, false, not, _&&_, _||_, cond, true≢false, false≢true}
 use mathlib.Core.Logic.{_⊎_, inl, inr}
-use borrow.Author.Tests.{not-true, not-false}
+use borrow.Author.Tests.{not-false}
 use Rattle.expression.specs.Limits.{mostOperators}
-use Rattle.expression.specs.Token.{Class, Infix, class}
+use Rattle.expression.specs.Token.{Infix, class}
 use Rattle.expression.proofs.Classes.{class-operator, operator-below}
-use Rattle.disambiguation.specs.Below.{allBelow, allPairs}
 use Rattle.disambiguation.specs.Verdict.{safe, total, within, level}
-use Rattle.disambiguation.proofs.BelowLaws.{and-true, and-false, allBelow-at, allBelow-fails, allPairs-at, allPairs-fails}
+use Rattle.disambiguation.proofs.BelowLaws.{and-true, allBelow-at, allBelow-fails, allPairs-at, allPairs-fails}
 use Rattle.disambiguation.proofs.Conditions.{waits, takes, Safe, Total, Transitive, Cotransitive}
 
 -- what a test of two or three relations says

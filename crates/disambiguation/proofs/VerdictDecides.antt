@@ -1,7 +1,7 @@
 -- The verdict on a sheet's rules, in the terms of rows and their conflict-free trees: 4, 5 and 0, each exactly if. Assumes nothing.
 use Prim.Native.Nat.{ℕ, _≤_}
 use native.Mathlib.Omega.{arith}
-use mathlib.Core.Path.{_≡_, refl, ap, sym, _∙_}
+use mathlib.Core.Path.{_≡_, refl, sym, _∙_}
 use mathlib.Core.Bool.{Bool, true, false, not, _&&_, cond}
 use mathlib.Core.Logic.{_↔_, _⊎_, inl, inr}
 use mathlib.Core.List.{List}
@@ -13,8 +13,8 @@ use Rattle.expression.specs.Grammar.{Row}
 use Rattle.expression.proofs.Classes.{brackets, class-reading}
 use Rattle.expression.proofs.RowsAndTrees.{row-exactly-if-yielded}
 use Rattle.disambiguation.specs.Rules.{Rule, L, R}
-use Rattle.disambiguation.specs.Conflicts.{conflicts, ConflictFreeTree}
-use Rattle.disambiguation.specs.ExactlyOne.{HasNone, HasOne, HasTwo, HasExactlyOne, SomeRowHasNone, EveryRowHasOne, SomeRowHasTwo, EveryRowHasExactlyOne}
+use Rattle.disambiguation.specs.Conflicts.{ConflictFreeTree}
+use Rattle.disambiguation.specs.ExactlyOne.{SomeRowHasNone, EveryRowHasOne, SomeRowHasTwo, EveryRowHasExactlyOne}
 use Rattle.disambiguation.specs.Verdict.{safe, total, level, verdict}
 use Rattle.disambiguation.specs.Repair.{repair}
 use Rattle.disambiguation.proofs.BelowLaws.{and-true, and-false}

@@ -1,11 +1,11 @@
 -- Document 01's marked cases as one table of what is given and what is answered. Assumes nothing.
 use Prim.Native.Nat.{ℕ}
 use mathlib.Core.Path.{_≡_}
-use mathlib.Core.List.{List, [], _∷_, _++_}
-use mathlib.Core.Option.{Option, some}
+use mathlib.Core.List.{List, [], _∷_}
+use mathlib.Core.Option.{some}
 use Rattle.expression.specs.Refusal.{accepted, dead, double, noRow, noTree}
 use Rattle.expression.specs.Token.{class}
-use Rattle.expression.specs.Tree.{Tree, yield, recordOf}
+use Rattle.expression.specs.Tree.{Tree, yield}
 use Rattle.expression.specs.Decode.{treeOf}
 use Rattle.expression.specs.Checks.{rowNumber, recordNumber}
 use Rattle.disambiguation.specs.Rules.{Rule, priority, left, right, R}

@@ -1,7 +1,7 @@
 -- A sheet's rules as written, and the patterns that they exclude. Assumes nothing.
 use Prim.Native.Nat.{ℕ}
 use mathlib.Core.Bool.{Bool, _&&_, _||_}
-use mathlib.Core.List.{List, [], _∷_}
+use mathlib.Core.List.{List}
 use lib.Dec.{eqb}
 use Rattle.expression.specs.Lists.{any}
 

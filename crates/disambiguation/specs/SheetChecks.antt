@@ -1,13 +1,13 @@
--- The checks of a sheet in bytes, in document 01's order; 11 comes after them. Assumes nothing.
+-- The checks of a sheet whose rules come in bytes, or as a list of records, in document 01's order; 11 comes after them. Assumes nothing.
 use Prim.Native.Nat.{ℕ, _%_}
-use mathlib.Core.Bool.{Bool, not, _&&_, _||_}
+use mathlib.Core.Bool.{Bool, not, _||_}
 use mathlib.Core.List.{List, [], _∷_, _++_}
 use lib.Dec.{eqb, ltb}
 use lib.ListN.{length}
 use Rattle.expression.specs.Lists.{any}
-use Rattle.expression.specs.Limits.{mostOperators, mostRuleBytes, bytesOfRule}
-use Rattle.expression.specs.Refusal.{Check, first, oversize, torn, stranger}
-use Rattle.disambiguation.specs.Rules.{Rule, rule, priority, left, right, L, R}
+use Rattle.expression.specs.Limits.{mostOperators, mostRules, mostRuleBytes, bytesOfRule}
+use Rattle.expression.specs.Refusal.{Check, Passed, first, oversize, torn, stranger}
+use Rattle.disambiguation.specs.Rules.{Rule, rule, priority, right, L, R}
 use Rattle.disambiguation.specs.Verdict.{ruleChecks}
 
 -- The rules that bytes list, three a rule: kind, first, second. What is left over is none.
@@ -17,12 +17,17 @@ rulesOf (k ∷ []) = []
 rulesOf (k ∷ a ∷ []) = []
 rulesOf (k ∷ a ∷ b ∷ rest) = rule k a b ∷ rulesOf rest
 
+-- the bytes of rules, three a rule
+unfoldable pub ruleBytes : List Rule → List ℕ
+ruleBytes [] = []
+ruleBytes (r ∷ rs) = r .kind ∷ r .first ∷ r .second ∷ ruleBytes rs
+
 -- the kind is not 01 to 03, or an operator is not below n
 abbrev pub strangeRule : ℕ → Rule → Bool
 strangeRule n r = ltb (r .kind) priority || ltb right (r .kind) || not (ltb (r .first) n) || not (ltb (r .second) n)
 
 module _ (n : ℕ) (bytes : List ℕ) where
-  -- 1, 2, 3: a sheet's bytes are in order if none of these applies
+  -- 1, 2, 3
   abbrev pub orderChecks : List Check
   orderChecks =
       (ltb mostOperators n || ltb mostRuleBytes (length bytes), oversize)
@@ -30,6 +35,21 @@ module _ (n : ℕ) (bytes : List ℕ) where
       ∷ (any (strangeRule n) (rulesOf bytes), stranger)
       ∷ []
 
+  -- A sheet's bytes are in order if 1, 2 and 3 don't apply.
+  abbrev pub InOrder : Type 0
+  InOrder = Passed orderChecks
+
   -- The number of a sheet: 1, 2, 3, 4, 5 or 0.
   unfoldable pub sheetNumber : ℕ
   sheetNumber = first (orderChecks ++ ruleChecks n (L (rulesOf bytes)) (R (rulesOf bytes)))
+
+-- Rules as a list of records: over 2,048 records is 1, and there is no 2.
+module _ (n : ℕ) (rules : List Rule) where
+  abbrev pub listOrderChecks : List Check
+  listOrderChecks = (ltb mostOperators n || ltb mostRules (length rules), oversize) ∷ (any (strangeRule n) rules, stranger) ∷ []
+
+  abbrev pub ListInOrder : Type 0
+  ListInOrder = Passed listOrderChecks
+
+  unfoldable pub listNumber : ℕ
+  listNumber = first (listOrderChecks ++ ruleChecks n (L rules) (R rules))

@@ -1,6 +1,6 @@
 -- The verdict on a sheet's rules, computed. Operator a stands left of b in a row: R(a,b) makes a close before b, and L(b,a) makes a yield to b. Assumes nothing.
 use Prim.Native.Nat.{ℕ}
-use mathlib.Core.Bool.{Bool, true, false, not, _&&_, _||_, cond}
+use mathlib.Core.Bool.{Bool, not, _&&_, _||_, cond}
 use mathlib.Core.List.{List, [], _∷_}
 use Rattle.expression.specs.Refusal.{Check, first, dead, double}
 use Rattle.disambiguation.specs.Rules.{Rule, L, R}

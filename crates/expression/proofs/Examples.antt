@@ -1,7 +1,6 @@
 -- The numbers of some rows and records, by computation: the order of the checks, at their edges. Assumes nothing.
-use Prim.Native.Nat.{ℕ}
 use mathlib.Core.Path.{_≡_, refl}
-use mathlib.Core.List.{List, [], _∷_, _++_}
+use mathlib.Core.List.{[], _∷_, _++_}
 use lib.ListN.{replicate}
 use Rattle.expression.specs.Refusal.{accepted, oversize, stranger, noRow, noTree, short}
 use Rattle.expression.specs.Token.{class}

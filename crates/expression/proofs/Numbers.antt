@@ -10,7 +10,7 @@ use lib.ListN.{length}
 use borrow.Author.Tests.{ltb-false, lt-ltb, le-ltb, not-false}
 use Rattle.expression.specs.Lists.{All}
 use Rattle.expression.specs.Limits.{mostTokens, mostRecordBytes}
-use Rattle.expression.specs.Refusal.{Check, first, accepted, short}
+use Rattle.expression.specs.Refusal.{Check, Passed, first, accepted, short}
 use Rattle.expression.specs.Token.{class}
 use Rattle.expression.specs.Tree.{Tree, yield, recordOf, Over}
 use Rattle.expression.specs.Grammar.{Row}
@@ -25,10 +25,6 @@ use Rattle.expression.proofs.Strangers.{row-has-no-stranger, record-has
 -- no number of the list is 0
 abbrev pub Numbered : List Check → Type 0
 Numbered cs = All (λ c. c .1 ≡ accepted → ⊥) cs
-
--- none of the checks applies
-abbrev pub Passed : List Check → Type 0
-Passed cs = All (λ c. c .0 ≡ false) cs
 
 pub first-passed : (cs : List Check) → Passed cs → first cs ≡ accepted
 first-passed [] h = refl

@@ -1,9 +1,9 @@
 -- The row test decides whether tokens are one expression. Assumes nothing.
 use Prim.Native.Nat.{ℕ, zero, suc}
 use mathlib.Core.Path.{_≡_, refl, ap, sym, _∙_}
-use mathlib.Core.Bool.{Bool, true, false, false≢true}
+use mathlib.Core.Bool.{true, false, false≢true}
 use mathlib.Core.Logic.{_↔_}
-use mathlib.Core.List.{List, [], _∷_, _++_, append-assoc, append-nil}
+use mathlib.Core.List.{List, [], _∷_, _++_, append-assoc}
 use Rattle.expression.specs.Token.{Class, Infix, Opening, Closing, Reading, Meaningless, opening, closing, class}
 use Rattle.expression.specs.Grammar.{Operand, single, bracketed, Expression, operand-then, Tail, end, operator-then, Row}
 use Rattle.expression.specs.RowTest.{Progress, due, done, wrong, whereDue, whereDone, closed, complete, advance, scan, isRow}

@@ -1,7 +1,9 @@
 -- The numbers of document 01's table of turned-down calls, and "the first that applies". Assumes nothing.
 use Prim.Native.Nat.{ℕ}
-use mathlib.Core.Bool.{Bool, cond}
+use mathlib.Core.Path.{_≡_}
+use mathlib.Core.Bool.{Bool, false, cond}
 use mathlib.Core.List.{List, [], _∷_}
+use Rattle.expression.specs.Lists.{All}
 
 -- success
 abbrev pub accepted : ℕ
@@ -49,6 +51,10 @@ frame = 12
 -- One line of a call's list: whether it applies, and its number.
 abbrev pub Check : Type 0
 Check = Bool × ℕ
+
+-- none of the checks applies
+abbrev pub Passed : List Check → Type 0
+Passed cs = All (λ c. c .0 ≡ false) cs
 
 -- Document 01's "the first that applies, from left to right"; 0 where none applies.
 abbrev pub first : List Check → ℕ

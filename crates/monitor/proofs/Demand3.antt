@@ -1,50 +1,42 @@
--- Demand 3 as one theorem over every list of calls from the fresh panel. Assumes nothing.
+-- Demand 3 holds of every list of calls from the fresh panel. Assumes nothing.
 use Prim.Native.Nat.{ℕ, _≤_}
 use native.Mathlib.Omega.{arith}
 use native.Mathlib.Decide.{ℕ-discrete}
-use mathlib.Core.Path.{_≡_, refl, ap, sym, _∙_}
+use mathlib.Core.Path.{_≡_, refl, ap, sym, subst, _∙_}
 use mathlib.Core.Bool.{Bool, true, false, not, _&&_, cond}
 use mathlib.Core.Logic.{_↔_, _⊎_, inl, inr}
-use mathlib.Core.Option.{Option, some}
 use mathlib.Core.List.{List, [], _∷_, _++_, append-nil}
 use lib.ListN.{length, drop-of-length-le}
 use lib.ListN as lists
-use Rattle.expression.specs.Refusal.{first, accepted, dead, double}
-use Rattle.expression.specs.Limits.{mostTokens, mostRecordBytes}
+use Rattle.expression.specs.Refusal.{accepted}
 use Rattle.expression.specs.Token.{class}
 use Rattle.expression.specs.Tree.{Tree, recordOf, Over}
 use Rattle.expression.specs.Tree as tree
-use Rattle.expression.specs.Decode.{treeOf}
 use Rattle.expression.specs.Operand.{rowOf}
-use Rattle.expression.specs.Checks.{shortCheck, recordChecks, recordNumber, repairNumber}
+use Rattle.expression.specs.Checks.{recordChecks, recordNumber, repairNumber}
 use Rattle.expression.proofs.Classes.{brackets}
 use Rattle.expression.proofs.RecordsAndTrees.{treeOf-record}
-use Rattle.expression.proofs.Numbers.{first-refused, first-append, first-roomy, passed-first, record-numbered, Recorded, record-accepted}
+use Rattle.expression.proofs.Numbers.{first-refused, first-append, first-roomy, passed-first, record-numbered}
 use Rattle.disambiguation.specs.Rules.{Rule, L, R}
-use Rattle.disambiguation.specs.Conflicts.{ConflictFreeTree}
-use Rattle.disambiguation.specs.ExactlyOne.{SomeRowHasNone, EveryRowHasOne, SomeRowHasTwo, EveryRowHasExactlyOne}
+use Rattle.disambiguation.specs.ExactlyOne.{SomeRowHasNone, SomeRowHasTwo}
 use Rattle.disambiguation.specs.Verdict.{safe, total, level, verdict}
-use Rattle.disambiguation.specs.SheetChecks.{rulesOf, sheetNumber}
-use Rattle.disambiguation.proofs.SheetNumbers.{InOrder, sheetNumber-verdict, sheet-dead-exactly-if, sheet-double-exactly-if, sheet-accepted-exactly-if}
+use Rattle.disambiguation.specs.SheetChecks.{rulesOf, ruleBytes, InOrder, ListInOrder, sheetNumber}
+use Rattle.disambiguation.proofs.RuleBytes.{rules-back, list-order}
+use Rattle.disambiguation.proofs.SheetNumbers.{sheetNumber-verdict, sheet-dead-exactly-if, sheet-double-exactly-if, sheet-accepted-exactly-if}
 use Rattle.sheet.specs.Relation.{closes}
 use Rattle.parser.specs.Build.{built}
 use Rattle.parser.proofs.InForceBuilds.{built-equal-exactly-if, built-keeps-length}
 use Rattle.places.specs.Store.{held}
-use Rattle.monitor.specs.Call.{Call, load, repair}
+use Rattle.monitor.specs.Call.{Call, load, loadList, repair}
 use Rattle.monitor.specs.Panel.{inUseCheck, sheetChecks, rebuilt}
-use Rattle.monitor.specs.Steps.{operators, loadNumber, reply}
-use Rattle.monitor.specs.Book.{Book, bookNumber}
-use Rattle.monitor.specs.Answers.{Answers}
-use Rattle.monitor.specs.Run.{panelAfter, answer, bookAfter, inForce, lastPut, AnsweredBy, HoldsTree, Filled, RepairsTo}
+use Rattle.monitor.specs.Steps.{operators, loadNumber}
+use Rattle.monitor.specs.Run.{panelAfter, answer, bookAfter, RepairsTo}
+use Rattle.monitor.specs.Promises.{Within, ForItsRules, Demand3}
 use Rattle.monitor.proofs.Replies.{answers}
 use Rattle.monitor.proofs.Keeping.{sheet-numbered}
 use Rattle.monitor.proofs.Histories.{stands}
-use Rattle.monitor.proofs.Placed.{n, rules, sheet-in-force, exactly-one}
+use Rattle.monitor.proofs.Placed.{n, rules, sheet-in-force, exactly-one, within-accepted}
 use Rattle.monitor.proofs.Filling.{holds-last-put, filled-exactly-if-put}
-
--- Refused for its rules means 4 or 5.
-abbrev pub ForItsRules : ℕ → Type 0
-ForItsRules number = (number ≡ dead) ⊎ (number ≡ double)
 
 -- a verdict is 4, 5 or 0
 verdict-values : (m : ℕ) (given : List Rule) → ForItsRules (verdict m given) ⊎ (verdict m given ≡ accepted)
@@ -98,6 +90,13 @@ module _ (cs : List Call) where
         from (inr (row, r, (t, u, ht, hu, different))) =
             as-load (not-accepted (λ e. let (v, hv, only) = sheet-accepted-exactly-if m bytes order .0 e row r in different (only t ht ∙ sym (only u hu))))
 
+  -- the same with a list of rules
+  refused-list-exactly-if : (m : ℕ) (given : List Rule) → ListInOrder m given
+      → ForItsRules (answer cs (loadList m given) .number) ↔ (SomeRowHasNone m given ⊎ SomeRowHasTwo m given)
+  refused-list-exactly-if m given order =
+      subst (λ (r : List Rule). ForItsRules (answer cs (load m (ruleBytes given)) .number) ↔ (SomeRowHasNone m r ⊎ SomeRowHasTwo m r)) (rules-back given)
+      (refused-exactly-if m (ruleBytes given) (list-order m given .0 order))
+
   -- ---- repair
   module _ (t : Tree) (over : Over (class (n cs)) t) (fits : recordNumber (n cs) (recordOf t) ≡ accepted) where
     same-operators : operators (panelAfter cs) ≡ n cs
@@ -126,50 +125,28 @@ module _ (cs : List Call) where
     repairs-only-to : (bytes : List ℕ) → RepairsTo cs t bytes → bytes ≡ built (closes (panelAfter cs .sheet)) (tree.yield t)
     repairs-only-to bytes f = sym (f (recordOf t) refl .1) ∙ repairs-to (recordOf t) refl .1
 
-  -- within the lengths: 1 does not apply to the record
-  abbrev pub Within : Tree → Type 0
-  Within t = (length (recordOf t) ≤ mostRecordBytes) × (length (tree.yield t) ≤ mostTokens)
-
-  within-accepted : (t : Tree) → Over (class (n cs)) t → Within t → recordNumber (n cs) (recordOf t) ≡ accepted
-  within-accepted t over w = record-accepted (n cs) (recordOf t) .1 (t, record { over = over; recorded = refl; bytes-fit = w .0; tokens-fit = w .1 })
-
   same-bytes-exactly-if : (t u : Tree) → Over (class (n cs)) t → Over (class (n cs)) u → Within t → Within u
       → ((bytes : List ℕ) × RepairsTo cs t bytes × RepairsTo cs u bytes) ↔ (tree.yield t ≡ tree.yield u)
   same-bytes-exactly-if t u ot ou wt wu = (
     λ f.
         let (bytes, p, q) = f in
-        equal .0 (sym (repairs-only-to t ot (within-accepted t ot wt) bytes p) ∙ repairs-only-to u ou (within-accepted u ou wu) bytes q),
+        equal .0 (sym (repairs-only-to t ot (within-accepted cs t ot wt) bytes p) ∙ repairs-only-to u ou (within-accepted cs u ou wu) bytes q),
     λ e.
-        (built (closes (panelAfter cs .sheet)) (tree.yield t), repairs-to t ot (within-accepted t ot wt), rw (equal .1 e) (repairs-to u ou (within-accepted u ou wu))),
+        (built (closes (panelAfter cs .sheet)) (tree.yield t), repairs-to t ot (within-accepted cs t ot wt), rw (equal .1 e) (repairs-to u ou (within-accepted cs u ou wu))),
   )
     where
       equal : (built (closes (panelAfter cs .sheet)) (tree.yield t) ≡ built (closes (panelAfter cs .sheet)) (tree.yield u)) ↔ (tree.yield t ≡ tree.yield u)
       equal = built-equal-exactly-if (panelAfter cs .sheet) (n cs) (rules cs) (sheet-in-force cs) t u ot ou
 
--- After the calls of a list, the last one first, from a fresh panel:
-pub record Demand3 (cs : List Call) : Type 0 where
-  -- every row of any length over the operators of the sheet in force, that of the last accepted load or the fresh panel's, has exactly one conflict-free tree;
-  pub one-tree : EveryRowHasExactlyOne (inForce cs .n) (inForce cs .rules)
-  -- a place is filled exactly when a put there was accepted and no drop there was accepted since,
-  pub filled : (k : ℕ) → Filled cs k ↔ ((row : List ℕ) × (lastPut k cs ≡ some row))
-  -- and it then holds that tree, for the row, or the record's row, of the last accepted put there;
-  pub held-tree : (k : ℕ) (row : List ℕ) → lastPut k cs ≡ some row → (t : Tree) × ConflictFreeTree (inForce cs .n) (inForce cs .rules) row t × HoldsTree cs k t
-  -- whatever is called next, the answer is the one that the book gives;
-  pub answered : (c : Call) → Answers (bookAfter cs) c (answer cs c)
-  -- a sheet whose bytes are in order is refused for its rules exactly when some row has no conflict-free tree under it, or two or more;
-  pub refused : (m : ℕ) (bytes : List ℕ) → InOrder m bytes
-      → ForItsRules (answer cs (load m bytes) .number) ↔ (SomeRowHasNone m (rulesOf bytes) ⊎ SomeRowHasTwo m (rulesOf bytes))
-  -- two trees over the operators of the sheet in force, within the lengths, repair to the same bytes exactly when their rows are the same.
-  pub same-bytes : (t u : Tree) → Over (class (inForce cs .n)) t → Over (class (inForce cs .n)) u → Within cs t → Within cs u
-      → ((bytes : List ℕ) × RepairsTo cs t bytes × RepairsTo cs u bytes) ↔ (tree.yield t ≡ tree.yield u)
-
 pub demand-3 : (cs : List Call) → Demand3 cs
 demand-3 cs =
     record {
+      sheet = sheet-in-force cs;
       one-tree = exactly-one cs;
       filled = filled-exactly-if-put cs;
       held-tree = holds-last-put cs;
       answered = answers (panelAfter cs) (bookAfter cs) (stands cs);
       refused = refused-exactly-if cs;
+      refused-list = refused-list-exactly-if cs;
       same-bytes = same-bytes-exactly-if cs;
     }

@@ -2,7 +2,7 @@
 use Prim.Native.Nat.{ℕ, _≤_, _<_}
 use native.Mathlib.Omega.{arith}
 use native.Mathlib.Decide.{decLt}
-use mathlib.Core.Path.{_≡_, refl, ap, sym, _∙_}
+use mathlib.Core.Path.{_≡_, refl, sym, _∙_}
 use mathlib.Core.Bool.{Bool, true, false, _&&_, cond, true≢false}
 use mathlib.Core.Logic.{_↔_}
 use mathlib.Core.Option.{Option, none, some, Option·none-ne-some}
@@ -17,13 +17,13 @@ use Rattle.expression.specs.Decode.{treeOf}
 use Rattle.expression.specs.Operand.{rowOf}
 use Rattle.expression.specs.Checks.{shortCheck, recordBytes, rowChecks, recordChecks}
 use Rattle.disambiguation.specs.Conflicts.{ConflictFreeTree}
-use Rattle.places.specs.Store.{placeCount, held}
-use Rattle.monitor.specs.Call.{Call, load, putRow, putRecord, drop, fetchRecord, fetchRow, image, build, repair, judge, yield, operand}
+use Rattle.places.specs.Store.{placeCount}
+use Rattle.monitor.specs.Call.{Call, load, loadList, putRow, putRecord, drop, fetchRecord, fetchRow, image, build, repair, judge, yield, operand}
 use Rattle.monitor.specs.Panel.{placeCheck, isEmpty, emptyCheck}
 use Rattle.monitor.specs.Steps.{operators, putRowNumber, putRecordNumber}
-use Rattle.monitor.specs.Book.{rowIn, slotRow, bookNumber}
-use Rattle.monitor.specs.Run.{panelAfter, answer, bookAfter, isAccepted, inForce, lastPut, HoldsTree, Filled}
-use Rattle.monitor.proofs.Stands.{Stands, same-number}
+use Rattle.monitor.specs.Book.{rowIn, slotRow}
+use Rattle.monitor.specs.Run.{panelAfter, bookAfter, isAccepted, inForce, lastPut, HoldsTree, Filled}
+use Rattle.monitor.proofs.Stands.{same-number}
 use Rattle.monitor.proofs.Replies.{place-passed, empty-passed}
 use Rattle.monitor.proofs.Histories.{stands, book-slot}
 use Rattle.monitor.proofs.Placed.{slot-holds, holds-tree}
@@ -64,6 +64,7 @@ beyond : (k : ℕ) → placeCount ≤ k → (cs : List Call) → lastPut k cs �
 unfolding lastPut
 beyond k h [] = refl
 beyond k h (load n rules ∷ cs) = beyond k h cs
+beyond k h (loadList n rules ∷ cs) = beyond k h cs
 beyond k h (putRow j row ∷ cs) = blank-still k j (isAccepted cs (putRow j row)) (some row) (lastPut k cs) (λ e. row-refused j row cs (omega arith)) (beyond k h cs)
 beyond k h (putRecord j bytes ∷ cs) = blank-still k j (isAccepted cs (putRecord j bytes)) (some (rowOf (treeOf (class (inForce cs .n)) bytes))) (lastPut k cs) (λ e. record-refused j bytes cs (omega arith)) (beyond k h cs)
 beyond k h (drop j ∷ cs) = either-none (isAccepted cs (drop j) && eqb k j) (lastPut k cs) (beyond k h cs)

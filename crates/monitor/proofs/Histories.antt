@@ -1,6 +1,5 @@
 -- The book after a list of calls, said of the list. Assumes nothing.
 use Prim.Native.Nat.{ℕ}
-use native.Mathlib.Decide.{ℕ-discrete}
 use mathlib.Core.Path.{_≡_, refl, ap, sym, _∙_}
 use mathlib.Core.Bool.{Bool, true, false, _&&_, cond}
 use mathlib.Core.Option.{Option, none, some}
@@ -10,12 +9,10 @@ use Rattle.expression.specs.Refusal.{accepted}
 use Rattle.expression.specs.Token.{class}
 use Rattle.expression.specs.Decode.{treeOf}
 use Rattle.expression.specs.Operand.{rowOf}
-use Rattle.disambiguation.specs.Rules.{Rule}
 use Rattle.disambiguation.specs.SheetChecks.{rulesOf}
-use Rattle.monitor.specs.Call.{Call, load, putRow, putRecord, drop, fetchRecord, fetchRow, image, build, repair, judge, yield, operand}
-use Rattle.monitor.specs.Panel.{Panel}
-use Rattle.monitor.specs.Book.{Book, blank, bookNumber, entered, next}
-use Rattle.monitor.specs.Run.{panelAfter, answer, bookAfter, isAccepted, Rules, rulesIn, inForce, lastPut}
+use Rattle.monitor.specs.Call.{Call, load, loadList, putRow, putRecord, drop, fetchRecord, fetchRow, image, build, repair, judge, yield, operand}
+use Rattle.monitor.specs.Book.{Book, entered, next}
+use Rattle.monitor.specs.Run.{panelAfter, bookAfter, isAccepted, Rules, rulesIn, inForce, lastPut}
 use Rattle.monitor.proofs.Stands.{Stands, fresh-stands, same-number}
 use Rattle.monitor.proofs.Keeping.{keeps}
 
@@ -52,6 +49,9 @@ book-in-force [] = refl
 book-in-force (load n rules ∷ cs) =
     ap rulesOn (after-call (load n rules) cs) ∙ either rulesOn (isAccepted cs (load n rules)) (entered (bookAfter cs) (load n rules)) (bookAfter cs)
     ∙ ap (cond (isAccepted cs (load n rules)) (rulesIn n (rulesOf rules))) (book-in-force cs)
+book-in-force (loadList n rules ∷ cs) =
+    ap rulesOn (after-call (loadList n rules) cs) ∙ either rulesOn (isAccepted cs (loadList n rules)) (entered (bookAfter cs) (loadList n rules)) (bookAfter cs)
+    ∙ ap (cond (isAccepted cs (loadList n rules)) (rulesIn n rules)) (book-in-force cs)
 book-in-force (putRow k row ∷ cs) = unchanged rulesOn (putRow k row) cs refl ∙ book-in-force cs
 book-in-force (putRecord k bytes ∷ cs) = unchanged rulesOn (putRecord k bytes) cs refl ∙ book-in-force cs
 book-in-force (drop k ∷ cs) = unchanged rulesOn (drop k) cs refl ∙ book-in-force cs
@@ -80,6 +80,7 @@ pub book-slot : (k : ℕ) (cs : List Call) → bookAfter cs .slots k ≡ lastPut
 unfolding bookAfter lastPut
 book-slot k [] = refl
 book-slot k (load n rules ∷ cs) = unchanged (λ b. b .slots k) (load n rules) cs refl ∙ book-slot k cs
+book-slot k (loadList n rules ∷ cs) = unchanged (λ b. b .slots k) (loadList n rules) cs refl ∙ book-slot k cs
 book-slot k (putRow j row ∷ cs) =
     slot-after k j (putRow j row) cs (some row) refl ∙ ap (cond (isAccepted cs (putRow j row) && eqb k j) (some row)) (book-slot k cs)
 book-slot k (putRecord j bytes ∷ cs) =

@@ -1,37 +1,38 @@
 -- Each call leaves a panel value that stands for the book after the call. Assumes nothing.
-use Prim.Native.Nat.{ℕ, _≤_, _<_}
+use Prim.Native.Nat.{ℕ, _<_}
 use native.Mathlib.Omega.{arith}
 use native.Mathlib.Decide.{ℕ-discrete}
-use mathlib.Core.Path.{_≡_, refl, ap, sym, subst, _∙_}
+use mathlib.Core.Path.{_≡_, refl, ap₂, sym, subst, _∙_}
 use mathlib.Core.Bool.{Bool, true, false, not, cond}
 use mathlib.Core.Option.{Option, none, some}
-use mathlib.Core.List.{List, [], _∷_, _++_}
+use mathlib.Core.List.{List, [], _∷_}
 use lib.Dec.{eqb}
-use lib.ListN.{length}
-use borrow.Author.Tests.{eq-eqb, ne-eqb, not-true, not-false}
-use Rattle.expression.specs.Refusal.{Check, first, accepted}
+use borrow.Author.Tests.{eq-eqb, ne-eqb, not-true}
+use Rattle.expression.specs.Refusal.{first, accepted}
 use Rattle.expression.specs.Token.{class}
 use Rattle.expression.specs.Decode.{treeOf}
 use Rattle.expression.specs.Operand.{rowOf}
 use Rattle.expression.specs.Checks.{rowChecks, recordChecks, rowNumber, recordNumber}
-use Rattle.expression.proofs.Numbers.{Numbered, Passed, passed-first, first-append}
+use Rattle.expression.proofs.Numbers.{Numbered, passed-first, first-append}
+use Rattle.disambiguation.specs.Rules.{Rule}
 use Rattle.disambiguation.specs.Below.{allBelow}
-use Rattle.disambiguation.specs.SheetChecks.{rulesOf, sheetNumber}
+use Rattle.disambiguation.specs.SheetChecks.{rulesOf, ruleBytes, sheetNumber}
+use Rattle.disambiguation.proofs.RuleBytes.{rules-back}
 use Rattle.disambiguation.proofs.BelowLaws.{allBelow-at}
 use Rattle.sheet.specs.Relation.{closes}
 use Rattle.sheet.specs.Loading.{sheetOf}
 use Rattle.sheet.specs.InForce.{InForce}
 use Rattle.sheet.proofs.Laws.{made-in-force}
 use Rattle.parser.specs.Build.{built}
-use Rattle.places.specs.Store.{placeCount, storeBytes, held, stored}
+use Rattle.places.specs.Store.{placeCount, held, stored}
 use Rattle.places.proofs.Laws.{held-stored-same, held-stored-other, length-stored}
-use Rattle.monitor.specs.Call.{Call, load, putRow, putRecord, drop, fetchRecord, fetchRow, image, build, repair, judge, yield, operand}
-use Rattle.monitor.specs.Panel.{Panel, placeCheck, emptyCheck, usesBeyond, inUseCheck, sheetChecks, ifAccepted, rebuilt, rebuiltTo}
-use Rattle.monitor.specs.Steps.{operators, loadNumber, putRowNumber, putRecordNumber, dropNumber, sheetAfter, placesAfterLoad, placesAfterRow, placesAfterRecord, placesAfterDrop, withPlaces, after, reply}
+use Rattle.monitor.specs.Call.{Call, load, loadList, putRow, putRecord, drop, fetchRecord, fetchRow, image, build, repair, judge, yield, operand}
+use Rattle.monitor.specs.Panel.{Panel, emptyCheck, usesBeyond, inUseCheck, sheetChecks, ifAccepted, rebuilt, rebuiltTo}
+use Rattle.monitor.specs.Steps.{operators, loadNumber, putRowNumber, putRecordNumber, dropNumber, sheetAfter, placesAfterLoad, placesAfterRow, placesAfterRecord, placesAfterDrop, withPlaces, after}
 use Rattle.monitor.specs.Book.{Book, slotRow, bookNumber, withSlot, entered, next}
 use Rattle.monitor.proofs.Slots.{Holds, holds-fit, put-row-holds, put-record-holds}
 use Rattle.monitor.proofs.Rebuilding.{rebuilt-size, rebuilt-holds}
-use Rattle.monitor.proofs.Stands.{Stands, same-operators, same-number}
+use Rattle.monitor.proofs.Stands.{Stands, same-operators, same-number, list-same}
 use Rattle.monitor.proofs.Replies.{front-accepted, place-passed}
 
 pub sheet-numbered : (n : ℕ) (rules : List ℕ) → Numbered (sheetChecks n rules)
@@ -141,12 +142,19 @@ module _ (p : Panel) (b : Book) (s : Stands p b) where
       by-number (load n rules) (λ e. rw (same-number p b s (load n rules) ∙ e) (load-holds n rules (same-number p b s (load n rules) ∙ e)))
       (λ h. rw (ne-eqb (loadNumber p n rules) 0 (λ z. h (sym (same-number p b s (load n rules)) ∙ z))))
 
+  -- with a list of rules the book gets what it gets with their bytes
+  list-next : (n : ℕ) (rules : List Rule) → next b (load n (ruleBytes rules)) ≡ next b (loadList n rules)
+  unfolding next
+  list-next n rules =
+      ap₂ (λ number (given : List Rule). cond (eqb number accepted) (record { n = n; rules = given; slots = b .slots }) b) (list-same p b s n rules) (rules-back rules)
+
   -- a call that changes nothing
   still : (c : Call) → after p c ≡ p → entered b c ≡ b → Stands (after p c) (next b c)
   still c e f = by-number c (λ _. rw (e, f) s) (λ _. e)
 
   pub keeps : (c : Call) → Stands (after p c) (next b c)
   keeps (load n rules) = load-stands n rules
+  keeps (loadList n rules) = rw (← list-next n rules) (load-stands n (ruleBytes rules))
   keeps (putRow k row) = row-stands k row
   keeps (putRecord k bytes) = record-stands k bytes
   keeps (drop k) = drop-stands k

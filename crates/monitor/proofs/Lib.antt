@@ -7,6 +7,8 @@ pub mod Keeping
 pub mod Histories
 pub mod Placed
 pub mod Filling
+pub mod Demand1
+pub mod Demand2
 pub mod Demand3
 pub mod AnswerWays
 pub mod StoreWays

@@ -1,41 +1,34 @@
 -- What a place holds after a list of calls: the tree of the last accepted put there. Assumes nothing.
 use Prim.Native.Nat.{ℕ, _≤_, _<_}
 use native.Mathlib.Omega.{arith}
-use native.Mathlib.Decide.{decLt, ℕ-discrete}
 use mathlib.Core.Path.{_≡_, refl, ap, sym, subst, _∙_}
-use mathlib.Core.Bool.{Bool, true, false, not, cond, true≢false}
-use mathlib.Core.Logic.{_↔_, _⊎_, inl, inr}
-use mathlib.Core.Option.{Option, none, some, Option·none-ne-some}
+use mathlib.Core.Bool.{false}
+use mathlib.Core.Option.{some}
 use mathlib.Core.List.{List, [], _∷_, _++_}
-use lib.Dec.{eqb, ltb}
 use lib.ListN.{length}
 use lib.ListN as lists
 use borrow.Author.Tests.{lt-ltb, le-ltb}
-use Rattle.expression.specs.Refusal.{first, accepted, dead, double}
+use Rattle.expression.specs.Refusal.{first, accepted}
 use Rattle.expression.specs.Token.{class}
 use Rattle.expression.specs.Tree.{Tree, recordOf, Over}
 use Rattle.expression.specs.Tree as tree
 use Rattle.expression.specs.Operand.{rowOf}
 use Rattle.expression.specs.Decode.{treeOf}
 use Rattle.expression.specs.Checks.{shortCheck, recordBytes, recordNumber}
+use Rattle.expression.proofs.Numbers.{record-accepted}
 use Rattle.disambiguation.specs.Rules.{Rule}
-use Rattle.disambiguation.specs.Conflicts.{ConflictFreeTree}
-use Rattle.disambiguation.specs.ExactlyOne.{SomeRowHasNone, EveryRowHasOne, SomeRowHasTwo, EveryRowHasExactlyOne}
-use Rattle.disambiguation.specs.SheetChecks.{rulesOf, sheetNumber}
-use Rattle.disambiguation.proofs.SheetNumbers.{InOrder, sheet-dead-exactly-if, sheet-double-exactly-if, sheet-accepted-exactly-if}
+use Rattle.disambiguation.specs.ExactlyOne.{EveryRowHasExactlyOne}
 use Rattle.sheet.specs.InForce.{InForce}
 use Rattle.sheet.proofs.Laws.{every-row-has-one}
 use Rattle.places.specs.Store.{placeCount, slotBytes, held, imageOf}
 use Rattle.places.proofs.Images.{length-image}
-use Rattle.monitor.specs.Call.{Call, load, putRow, putRecord, drop, fetchRecord, fetchRow, image, build, repair, judge, yield, operand}
-use Rattle.monitor.specs.Panel.{placeCheck, isEmpty, emptyCheck, inUseCheck, sheetChecks}
-use Rattle.monitor.specs.Steps.{reply}
-use Rattle.monitor.specs.Book.{Book, rowIn, slotRow, SlotTree, bookNumber}
-use Rattle.monitor.specs.Answers.{Answers}
-use Rattle.monitor.specs.Run.{panelAfter, answer, bookAfter, Rules, rulesIn, inForce, lastPut, AnsweredBy, HoldsTree, Filled, RepairsTo}
+use Rattle.monitor.specs.Call.{Call, drop, fetchRecord, fetchRow, image, yield}
+use Rattle.monitor.specs.Panel.{placeCheck, isEmpty, emptyCheck}
+use Rattle.monitor.specs.Book.{rowIn, slotRow, bookNumber}
+use Rattle.monitor.specs.Run.{panelAfter, answer, bookAfter, Rules, inForce, lastPut, AnsweredBy, HoldsTree}
+use Rattle.monitor.specs.Promises.{Within}
 use Rattle.monitor.proofs.Slots.{HeldTree, Holds, bytes-long, bytes-fit, row-not-empty, row-back}
-use Rattle.monitor.proofs.Stands.{Stands, same-number}
-use Rattle.monitor.proofs.Replies.{answers, place-passed, empty-passed}
+use Rattle.monitor.proofs.Stands.{same-number}
 use Rattle.monitor.proofs.Histories.{stands, book-in-force, book-slot}
 
 module _ (cs : List Call) where
@@ -45,10 +38,10 @@ module _ (cs : List Call) where
   abbrev pub rules : List Rule
   rules = inForce cs .rules
 
-  same-n : bookAfter cs .n ≡ n
+  pub same-n : bookAfter cs .n ≡ n
   same-n = ap (λ (r : Rules). r .n) (book-in-force cs)
 
-  same-rules : bookAfter cs .rules ≡ rules
+  pub same-rules : bookAfter cs .rules ≡ rules
   same-rules = ap (λ (r : Rules). r .rules) (book-in-force cs)
 
   -- The panel's sheet is that of the last accepted load.
@@ -57,6 +50,10 @@ module _ (cs : List Call) where
 
   pub exactly-one : EveryRowHasExactlyOne n rules
   exactly-one = every-row-has-one (panelAfter cs .sheet) n rules sheet-in-force
+
+  -- a tree within the lengths has a record that is accepted
+  pub within-accepted : (t : Tree) → Over (class n) t → Within t → recordNumber n (recordOf t) ≡ accepted
+  within-accepted t over w = record-accepted n (recordOf t) .1 (t, record { over = over; recorded = refl; bytes-fit = w .0; tokens-fit = w .1 })
 
   -- ---- a place with an accepted put
   pub slot-holds : (k : ℕ) → k < placeCount → (row : List ℕ) → lastPut k cs ≡ some row → (t : Tree) × HeldTree n rules row (held (panelAfter cs .places) k) t

@@ -1,15 +1,14 @@
 -- After an accepted load every place holds its row's tree under the new sheet. Assumes nothing.
 use Prim.Native.Nat.{ℕ, zero, suc, _≤_, _<_}
 use native.Mathlib.Omega.{arith}
-use native.Mathlib.Decide.{ℕ-discrete, decLt}
+use native.Mathlib.Decide.{ℕ-discrete}
 use mathlib.Core.Path.{_≡_, refl, ap, sym, _∙_}
-use mathlib.Core.Bool.{Bool, true, false, cond}
+use mathlib.Core.Bool.{false}
 use mathlib.Core.Option.{Option, none, some}
 use mathlib.Core.List.{List, []}
 use lib.Dec.{eqb}
 use lib.ListN.{length}
 use Rattle.expression.specs.Refusal.{accepted}
-use Rattle.expression.specs.Token.{class}
 use Rattle.expression.specs.Decode.{treeOf}
 use Rattle.expression.specs.Checks.{recordNumber}
 use Rattle.disambiguation.specs.Rules.{Rule}
@@ -19,7 +18,7 @@ use Rattle.sheet.specs.declared.Sheet.{Sheet}
 use Rattle.places.specs.Store.{placeCount, storeBytes, held, stored}
 use Rattle.places.proofs.Laws.{held-stored-same, held-stored-other, length-stored}
 use Rattle.monitor.specs.Panel.{usesBeyond, ifAccepted, rebuilt, rebuiltTo}
-use Rattle.monitor.proofs.Slots.{Holds, HeldTree, accepted-there, rebuilt-there, holds-fit}
+use Rattle.monitor.proofs.Slots.{Holds, accepted-there, rebuilt-there, holds-fit}
 
 -- no bytes are no tree
 empty-refused : (n : ℕ) → eqb (recordNumber n []) accepted ≡ false

@@ -1,33 +1,31 @@
 -- Where a panel value stands for a book, each call answers what the book does. Assumes nothing.
-use Prim.Native.Nat.{ℕ, _≤_, _<_}
+use Prim.Native.Nat.{ℕ, _<_}
 use native.Mathlib.Omega.{arith}
-use native.Mathlib.Decide.{decLt}
-use mathlib.Core.Path.{_≡_, refl, ap, ap₂, sym, _∙_}
-use mathlib.Core.Bool.{Bool, true, false, not, cond, true≢false}
+use mathlib.Core.Path.{_≡_, refl, ap, sym, _∙_}
+use mathlib.Core.Bool.{Bool, true, false, not, cond}
 use mathlib.Core.Option.{Option, none, some}
 use mathlib.Core.List.{List, [], _∷_, _++_}
 use lib.Dec.{eqb, ltb}
 use lib.ListN.{length}
 use lib.ListN as lists
-use borrow.Author.Tests.{ltb-true, not-false, ne-eqb}
+use borrow.Author.Tests.{ltb-true, ne-eqb}
 use Rattle.expression.specs.Refusal.{Check, first, accepted}
 use Rattle.expression.specs.Lent.{outputAfter}
 use Rattle.expression.specs.Token.{class}
-use Rattle.expression.specs.Tree.{Tree, recordOf, Over}
+use Rattle.expression.specs.Tree.{Tree}
 use Rattle.expression.specs.Tree as tree
 use Rattle.expression.specs.Decode.{treeOf}
 use Rattle.expression.specs.Operand.{rowOf, operandIn, operandRecord, operandPart}
 use Rattle.expression.specs.Checks.{shortCheck, recordBytes, rowTokens, rowChecks, recordChecks, rowNumber, recordNumber, buildNumber, repairNumber, yieldNumber}
 use Rattle.expression.proofs.Classes.{brackets}
 use Rattle.expression.proofs.RecordsAndTrees.{treeOf-record}
-use Rattle.expression.proofs.Numbers.{Numbered, Recorded, record-accepted, row-numbered, record-numbered}
-use Rattle.disambiguation.specs.Conflicts.{conflictCount, ConflictFreeTree}
+use Rattle.expression.proofs.Numbers.{Numbered, record-accepted, row-numbered, record-numbered}
+use Rattle.disambiguation.specs.Conflicts.{conflictCount}
 use Rattle.sheet.specs.Relation.{closes}
-use Rattle.sheet.proofs.Laws.{closes-lent, count-by-relation}
+use Rattle.sheet.proofs.Laws.{count-by-relation}
 use Rattle.record.specs.Answers.{judgement, countIn}
-use Rattle.parser.specs.Build.{built}
 use Rattle.places.specs.Store.{placeCount, slotBytes, held, imageOf}
-use Rattle.monitor.specs.Call.{Call, lentTo, load, putRow, putRecord, drop, fetchRecord, fetchRow, image, build, repair, judge, yield, operand, Reply}
+use Rattle.monitor.specs.Call.{Call, lentTo, load, loadList, putRow, putRecord, drop, fetchRecord, fetchRow, image, build, repair, judge, yield, operand}
 use Rattle.monitor.specs.Panel.{Panel, placeCheck, isEmpty, emptyCheck, rebuilt}
 use Rattle.monitor.specs.Steps.{operators, outcome, reply}
 use Rattle.monitor.specs.Book.{Book, rowIn, slotRow, SlotTree, bookNumber}
@@ -110,6 +108,7 @@ module _ (p : Panel) (b : Book) (s : Stands p b) where
       let (t, r, q) = recorded bytes e in
       (t, r, ap (λ n. rowOf (treeOf (class n) bytes)) (same-operators p b s) ∙ ap rowOf q)
   told (load n rules) z = refl
+  told (loadList n rules) z = refl
   told (putRow k row) z = refl
   told (putRecord k bytes) z = refl
   told (drop k) z = refl
@@ -141,6 +140,7 @@ module _ (p : Panel) (b : Book) (s : Stands p b) where
   count : (c : Call) → Count b c (outcome p c .count)
   count (judge bytes) = judge-count bytes
   count (load n rules) = refl
+  count (loadList n rules) = refl
   count (putRow k row) = refl
   count (putRecord k bytes) = refl
   count (drop k) = refl
@@ -155,6 +155,7 @@ module _ (p : Panel) (b : Book) (s : Stands p b) where
   part : (c : Call) → Part b c (outcome p c .part)
   part (operand right bytes) = operand-part right bytes
   part (load n rules) = refl
+  part (loadList n rules) = refl
   part (putRow k row) = refl
   part (putRecord k bytes) = refl
   part (drop k) = refl

@@ -1,8 +1,8 @@
 -- What a place holds where its slot in the book is blank or has a row. Assumes nothing.
 use Prim.Native.Nat.{ℕ, _≤_}
 use native.Mathlib.Omega.{arith}
-use mathlib.Core.Path.{_≡_, refl, ap, sym, _∙_}
-use mathlib.Core.Bool.{Bool, true, false, not}
+use mathlib.Core.Path.{_≡_, ap, sym, _∙_}
+use mathlib.Core.Bool.{false, not}
 use mathlib.Core.Option.{Option, none, some}
 use mathlib.Core.List.{List, []}
 use lib.Dec.{eqb}
@@ -10,7 +10,7 @@ use lib.ListN.{length}
 use Rattle.expression.specs.Limits.{mostTokens, mostRecordBytes}
 use Rattle.expression.specs.Refusal.{accepted}
 use Rattle.expression.specs.Token.{closing, class}
-use Rattle.expression.specs.Tree.{Tree, yield, recordOf, Over}
+use Rattle.expression.specs.Tree.{Tree, recordOf, Over}
 use Rattle.expression.specs.Grammar.{Row}
 use Rattle.expression.specs.Decode.{treeOf}
 use Rattle.expression.specs.Operand.{rowOf}
@@ -19,7 +19,7 @@ use Rattle.expression.proofs.Classes.{brackets}
 use Rattle.expression.proofs.RecordsAndTrees.{treeOf-record}
 use Rattle.expression.proofs.RowsAndTrees.{row-exactly-if-yielded}
 use Rattle.expression.proofs.Lengths.{record-length}
-use Rattle.expression.proofs.Numbers.{Recorded, record-accepted, row-accepted}
+use Rattle.expression.proofs.Numbers.{record-accepted, row-accepted}
 use Rattle.disambiguation.specs.Rules.{Rule}
 use Rattle.disambiguation.specs.Conflicts.{ConflictFreeTree}
 use Rattle.sheet.specs.Relation.{closes}

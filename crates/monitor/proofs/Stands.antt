@@ -1,32 +1,33 @@
 -- A panel value stands for a book, and then each call has the book's number. Assumes nothing.
-use Prim.Native.Nat.{ℕ, zero, suc, _≤_, _<_}
+use Prim.Native.Nat.{ℕ, zero, suc, _<_}
 use native.Mathlib.Omega.{arith}
 use native.Mathlib.Decide.{decLt}
 use mathlib.Core.Path.{_≡_, refl, ap, ap₂, sym, _∙_}
-use mathlib.Core.Bool.{Bool, true, false, not, _&&_, cond}
+use mathlib.Core.Bool.{Bool, true, false, not, _&&_}
 use mathlib.Core.Option.{Option, none, some}
 use mathlib.Core.List.{List, [], _∷_, _++_}
-use lib.Dec.{ltb}
 use lib.ListN.{length}
 use borrow.Author.Tests.{lt-ltb, le-ltb}
-use Rattle.expression.specs.Refusal.{Check, first, accepted}
+use Rattle.expression.specs.Refusal.{Check, first}
 use Rattle.expression.specs.Token.{class}
 use Rattle.expression.specs.Decode.{treeOf}
-use Rattle.expression.specs.Operand.{rowOf}
 use Rattle.expression.specs.Checks.{shortCheck, recordBytes, rowTokens, rowChecks, recordChecks, recordNumber, buildNumber, repairNumber, yieldNumber}
-use Rattle.expression.proofs.Numbers.{Passed, passed-first, first-append, record-numbered}
+use Rattle.expression.proofs.Numbers.{passed-first, first-append, record-numbered}
+use Rattle.disambiguation.specs.Rules.{Rule}
 use Rattle.disambiguation.specs.Below.{allBelow}
+use Rattle.disambiguation.specs.SheetChecks.{ruleBytes}
+use Rattle.disambiguation.proofs.RuleBytes.{rules-back, list-oversize, list-whole}
 use Rattle.sheet.specs.InForce.{InForce}
 use Rattle.sheet.specs.Relation as relation
 use Rattle.sheet.proofs.Laws.{fresh-in-force}
 use Rattle.places.specs.Store.{placeCount, storeBytes, held}
 use Rattle.places.specs.Store as store
 use Rattle.places.proofs.Laws.{held-fresh}
-use Rattle.monitor.specs.Call.{Call, load, putRow, putRecord, drop, fetchRecord, fetchRow, image, build, repair, judge, yield, operand, Reply}
-use Rattle.monitor.specs.Panel.{Panel, fresh, placeCheck, isEmpty, emptyCheck, usesBeyond, inUseCheck, sheetChecks}
+use Rattle.monitor.specs.Call.{Call, load, loadList, putRow, putRecord, drop, fetchRecord, fetchRow, image, build, repair, judge, yield, operand}
+use Rattle.monitor.specs.Panel.{Panel, fresh, placeCheck, isEmpty, emptyCheck, usesBeyond, sheetChecks}
 use Rattle.monitor.specs.Steps.{operators, loadNumber, putRowNumber, putRecordNumber, dropNumber, fetchRecordNumber, fetchRowNumber, imageNumber, reply}
 use Rattle.monitor.specs.Book.{Book, blank, rowIn, slotRow, bookNumber}
-use Rattle.monitor.proofs.Slots.{HeldTree, Holds, same-empty, same-length, same-uses, held-accepted, row-back, read-back}
+use Rattle.monitor.proofs.Slots.{Holds, same-empty, same-length, same-uses, held-accepted, read-back}
 
 -- The panel's sheet is the book's, and each place holds the tree of its slot's row.
 pub record Stands (p : Panel) (b : Book) : Type 0 where
@@ -85,6 +86,10 @@ module _ (p : Panel) (b : Book) (s : Stands p b) where
       (all-agree placeCount (λ k. not (usesBeyond n (held (p .places) k))) (λ k. not (usesBeyond n (slotRow b k)))
       (λ k h. ap not (same-uses (b .n) (b .rules) n (b .slots k) (held (p .places) k) (s .holds k h))))
 
+  -- the book gives a list of rules the number of their bytes
+  pub list-same : (n : ℕ) (rules : List Rule) → bookNumber b (load n (ruleBytes rules)) ≡ bookNumber b (loadList n rules)
+  list-same n rules = rw (list-oversize rules, list-whole rules, rules-back rules)
+
   fetch-record-same : (k : ℕ) (out : List ℕ) → fetchRecordNumber p k (length out) ≡ bookNumber b (fetchRecord k out)
   unfolding fetchRecordNumber
   fetch-record-same k out =
@@ -122,6 +127,7 @@ module _ (p : Panel) (b : Book) (s : Stands p b) where
   pub same-number : (c : Call) → reply p c .number ≡ bookNumber b c
   unfolding putRowNumber putRecordNumber imageNumber
   same-number (load n rules) = load-same n rules
+  same-number (loadList n rules) = load-same n (ruleBytes rules) ∙ list-same n rules
   same-number (putRow k row) = ap (λ n. first (placeCheck k ∷ rowChecks n row)) same-operators
   same-number (putRecord k bytes) = ap (λ n. first (placeCheck k ∷ recordChecks n bytes)) same-operators
   same-number (drop k) = drop-same k

@@ -9,9 +9,8 @@ use lib.ListN.{length}
 use borrow.Author.Tests.{lt-ltb, ltb-true, not-false}
 use Rattle.expression.specs.Lists.{any, one, count}
 use Rattle.expression.specs.Limits.{mostOperators}
-use Rattle.expression.specs.Token.{Class, Infix, Opening, Closing, Reading, Meaningless, opening, closing, class}
+use Rattle.expression.specs.Token.{Class, Infix, Opening, Closing, Reading, Meaningless, closing, class}
 use Rattle.expression.specs.Tree.{Tree, reading, bracket, binary, yield, recordOf, Over}
-use Rattle.expression.specs.Checks.{recordBytes}
 use Rattle.expression.proofs.Classes.{class-operator, class-reading, by-class}
 use Rattle.monitor.specs.Panel.{isEmpty, usesBeyond}
 

@@ -1,9 +1,8 @@
 -- What the book answers to a call, in document 01's terms. Assumes nothing.
 use Prim.Native.Nat.{ℕ}
 use mathlib.Core.Path.{_≡_}
-use mathlib.Core.Bool.{Bool}
 use mathlib.Core.Option.{Option, none, some}
-use mathlib.Core.List.{List, [], _∷_, _++_}
+use mathlib.Core.List.{List, [], _++_}
 use lib.ListN.{length, drop}
 use Rattle.expression.specs.Refusal.{accepted}
 use Rattle.expression.specs.Token.{class}
@@ -12,7 +11,7 @@ use Rattle.expression.specs.Tree as tree
 use Rattle.expression.specs.Operand.{operandRecord}
 use Rattle.disambiguation.specs.Conflicts.{conflictCount, ConflictFreeTree}
 use Rattle.places.specs.Store.{imageOf}
-use Rattle.monitor.specs.Call.{Call, lentTo, load, putRow, putRecord, fetchRecord, fetchRow, image, build, repair, judge, yield, operand, Reply}
+use Rattle.monitor.specs.Call.{Call, lentTo, load, loadList, putRow, putRecord, fetchRecord, fetchRow, image, build, repair, judge, yield, operand, Reply}
 use Rattle.monitor.specs.Call as call
 use Rattle.monitor.specs.Book.{Book, slotRow, SlotTree, bookNumber}
 
@@ -44,6 +43,7 @@ module _ (b : Book) where
   Told (repair bytes out) answer = (t : Tree) × (u : Tree) × Records bytes t × ConflictFreeTree (b .n) (b .rules) (tree.yield t) u × (answer ≡ recordOf u)
   Told (yield bytes out) answer = (t : Tree) × Records bytes t × (answer ≡ tree.yield t)
   Told (load n rules) answer = answer ≡ []
+  Told (loadList n rules) answer = answer ≡ []
   Told (putRow k row) answer = answer ≡ []
   Told (putRecord k bytes) answer = answer ≡ []
   Told (call.drop k) answer = answer ≡ []
@@ -58,6 +58,7 @@ module _ (b : Book) where
   abbrev pub Count : Call → ℕ → Type 0
   Count (judge bytes) count = Valued (bookNumber b (judge bytes)) (λ c. (t : Tree) × Records bytes t × (c ≡ conflictCount (b .rules) t)) 0 count
   Count (load n rules) count = count ≡ 0
+  Count (loadList n rules) count = count ≡ 0
   Count (putRow k row) count = count ≡ 0
   Count (putRecord k bytes) count = count ≡ 0
   Count (call.drop k) count = count ≡ 0
@@ -73,6 +74,7 @@ module _ (b : Book) where
   abbrev pub Part : Call → List ℕ → Type 0
   Part (operand right bytes) part = Valued (bookNumber b (operand right bytes)) (λ x. (t : Tree) × Records bytes t × (x ≡ operandRecord right t)) [] part
   Part (load n rules) part = part ≡ []
+  Part (loadList n rules) part = part ≡ []
   Part (putRow k row) part = part ≡ []
   Part (putRecord k bytes) part = part ≡ []
   Part (call.drop k) part = part ≡ []

@@ -1,25 +1,23 @@
 -- Document 01's book: it is fed the calls alone, and finds their numbers itself. Assumes nothing.
 use Prim.Native.Nat.{ℕ}
-use mathlib.Core.Path.{_≡_}
-use mathlib.Core.Bool.{Bool, true, false, cond}
+use mathlib.Core.Bool.{cond}
 use mathlib.Core.Option.{Option, none, some}
 use mathlib.Core.List.{List, [], _∷_, _++_}
 use lib.Dec.{eqb}
 use lib.ListN.{length}
-use Rattle.expression.specs.Refusal.{first, accepted}
-use Rattle.expression.specs.Lent.{outputAfter}
+use Rattle.expression.specs.Refusal.{first}
 use Rattle.expression.specs.Token.{class}
-use Rattle.expression.specs.Tree.{Tree, recordOf, Over}
+use Rattle.expression.specs.Tree.{Tree}
 use Rattle.expression.specs.Tree as tree
 use Rattle.expression.specs.Decode.{treeOf}
-use Rattle.expression.specs.Operand.{rowOf, operandPart}
-use Rattle.expression.specs.Checks.{shortCheck, recordBytes, rowChecks, recordChecks, rowNumber, recordNumber, buildNumber, repairNumber, yieldNumber}
+use Rattle.expression.specs.Operand.{rowOf}
+use Rattle.expression.specs.Checks.{shortCheck, recordBytes, rowChecks, recordChecks, recordNumber, buildNumber, repairNumber, yieldNumber}
 use Rattle.disambiguation.specs.Rules.{Rule}
-use Rattle.disambiguation.specs.Conflicts.{conflictCount, ConflictFreeTree}
+use Rattle.disambiguation.specs.Conflicts.{ConflictFreeTree}
 use Rattle.disambiguation.specs.SheetChecks.{rulesOf}
-use Rattle.places.specs.Store.{slotBytes, imageOf}
-use Rattle.monitor.specs.Call.{Call, load, putRow, putRecord, drop, fetchRecord, fetchRow, image, build, repair, judge, yield, operand, Reply}
-use Rattle.monitor.specs.Panel.{placeCheck, emptyCheck, inUseCheck, sheetChecks, ifAccepted}
+use Rattle.places.specs.Store.{slotBytes}
+use Rattle.monitor.specs.Call.{Call, load, loadList, putRow, putRecord, drop, fetchRecord, fetchRow, image, build, repair, judge, yield, operand}
+use Rattle.monitor.specs.Panel.{placeCheck, emptyCheck, inUseCheck, sheetChecks, listChecks, ifAccepted}
 
 -- n, the rules, and the slots, each blank or with one row
 pub record Book : Type 0 where
@@ -47,6 +45,7 @@ module _ (b : Book) where
   -- The number of each call: the first that applies, with the sheet in force, the empty places and the held trees read off the book.
   abbrev pub bookNumber : Call → ℕ
   bookNumber (load n rules) = first (sheetChecks n rules ++ (inUseCheck n slotRow ∷ []))
+  bookNumber (loadList n rules) = first (listChecks n rules ++ (inUseCheck n slotRow ∷ []))
   bookNumber (putRow k row) = first (placeCheck k ∷ rowChecks (b .n) row)
   bookNumber (putRecord k bytes) = first (placeCheck k ∷ recordChecks (b .n) bytes)
   bookNumber (drop k) = first (placeCheck k ∷ emptyCheck (slotRow k) ∷ [])
@@ -66,6 +65,7 @@ module _ (b : Book) where
   -- Load: n and the rules become the call's, slots stay. Put of a row: the slot gets the row; of a record: its yield. Drop: the slot goes blank.
   abbrev pub entered : Call → Book
   entered (load n rules) = record { n = n; rules = rulesOf rules; slots = b .slots }
+  entered (loadList n rules) = record { n = n; rules = rules; slots = b .slots }
   entered (putRow k row) = withSlot k (some row)
   entered (putRecord k bytes) = withSlot k (some (rowOf (treeOf (class (b .n)) bytes)))
   entered (drop k) = withSlot k none

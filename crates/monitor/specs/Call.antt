@@ -2,10 +2,12 @@
 use Prim.Native.Nat.{ℕ}
 use mathlib.Core.Bool.{Bool}
 use mathlib.Core.List.{List, []}
+use Rattle.disambiguation.specs.Rules.{Rule}
 
--- `out` is what the lent output holds before the call.
+-- `loadList` is the load whose rules come as a list of records. `out` is what the lent output holds before the call.
 pub data Call : Type 0 where
   load : (n : ℕ) (rules : List ℕ) → Call
+  loadList : (n : ℕ) (rules : List Rule) → Call
   putRow : (place : ℕ) (row : List ℕ) → Call
   putRecord : (place : ℕ) (bytes : List ℕ) → Call
   drop : (place : ℕ) → Call
@@ -27,6 +29,7 @@ lentTo (build row out) = out
 lentTo (repair bytes out) = out
 lentTo (yield bytes out) = out
 lentTo (load n rules) = []
+lentTo (loadList n rules) = []
 lentTo (putRow k row) = []
 lentTo (putRecord k bytes) = []
 lentTo (drop k) = []

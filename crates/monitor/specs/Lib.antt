@@ -5,3 +5,4 @@ pub mod Book
 pub mod Answers
 pub mod Run
 pub mod Contracts
+pub mod Promises

@@ -2,28 +2,22 @@
 use Prim.Native.Nat.{ℕ, zero, suc}
 use mathlib.Core.Bool.{Bool, true, false, not, _&&_, cond}
 use mathlib.Core.List.{List, [], _∷_, _++_}
-use mathlib.Core.Option.{Option}
 use lib.Dec.{eqb, ltb}
-use lib.ListN.{length}
 use Rattle.expression.specs.Lists.{any}
 use Rattle.expression.specs.Limits.{mostOperators}
-use Rattle.expression.specs.Refusal.{Check, first, accepted, place, empty, inUse}
-use Rattle.expression.specs.Lent.{outputAfter}
+use Rattle.expression.specs.Refusal.{Check, accepted, place, empty, inUse}
 use Rattle.expression.specs.Token.{class}
-use Rattle.expression.specs.Tree.{Tree}
 use Rattle.expression.specs.Decode.{treeOf}
-use Rattle.expression.specs.Operand.{rowOf, operandPart}
-use Rattle.expression.specs.Checks.{shortCheck, rowTokens, rowChecks, recordChecks, recordNumber, buildNumber, repairNumber, yieldNumber}
-use Rattle.disambiguation.specs.Rules.{L, R}
+use Rattle.expression.specs.Operand.{rowOf}
+use Rattle.expression.specs.Checks.{recordNumber}
+use Rattle.disambiguation.specs.Rules.{Rule, L, R}
 use Rattle.disambiguation.specs.Below.{allBelow}
 use Rattle.disambiguation.specs.Verdict.{ruleChecks}
-use Rattle.disambiguation.specs.SheetChecks.{rulesOf, orderChecks}
-use Rattle.sheet.specs.Relation.{closes}
+use Rattle.disambiguation.specs.SheetChecks.{rulesOf, orderChecks, listOrderChecks}
 use Rattle.sheet.specs.Relation as relation
-use Rattle.sheet.specs.Loading.{sheetOf}
 use Rattle.sheet.specs.declared.Sheet.{Sheet}
 use Rattle.parser.specs.Build.{built}
-use Rattle.places.specs.Store.{placeCount, slotBytes, held, imageOf, stored}
+use Rattle.places.specs.Store.{placeCount, held, stored}
 use Rattle.places.specs.Store as store
 
 -- the sheet in force, and the store of the sixteen places
@@ -57,6 +51,10 @@ inUseCheck n holds = (not (allBelow placeCount (λ k. not (usesBeyond n (holds k
 -- 1, 2, 3, 4, 5 of a sheet
 abbrev pub sheetChecks : ℕ → List ℕ → List Check
 sheetChecks n bytes = orderChecks n bytes ++ ruleChecks n (L (rulesOf bytes)) (R (rulesOf bytes))
+
+-- 1, 3, 4, 5 of a sheet whose rules come as a list
+abbrev pub listChecks : ℕ → List Rule → List Check
+listChecks n rules = listOrderChecks n rules ++ ruleChecks n (L rules) (R rules)
 
 -- x, where the number is 0, and else y
 abbrev pub ifAccepted : {A : Type 0} → ℕ → A → A → A

@@ -16,7 +16,7 @@ use Rattle.expression.specs.Operand.{rowOf}
 use Rattle.disambiguation.specs.Rules.{Rule}
 use Rattle.disambiguation.specs.SheetChecks.{rulesOf}
 use Rattle.places.specs.Store.{imageOf}
-use Rattle.monitor.specs.Call.{Call, load, putRow, putRecord, drop, fetchRecord, fetchRow, image, build, repair, judge, yield, operand, Reply}
+use Rattle.monitor.specs.Call.{Call, load, loadList, putRow, putRecord, drop, fetchRecord, fetchRow, image, build, repair, judge, yield, operand, Reply}
 use Rattle.monitor.specs.Panel.{Panel, fresh}
 use Rattle.monitor.specs.Steps.{after, reply}
 use Rattle.monitor.specs.Book.{Book, blank, next}
@@ -50,6 +50,7 @@ rulesIn n rules = record { n = n; rules = rules }
 unfoldable pub inForce : List Call → Rules
 inForce [] = rulesIn 0 []
 inForce (load n rules ∷ cs) = cond (isAccepted cs (load n rules)) (rulesIn n (rulesOf rules)) (inForce cs)
+inForce (loadList n rules ∷ cs) = cond (isAccepted cs (loadList n rules)) (rulesIn n rules) (inForce cs)
 inForce (putRow k row ∷ cs) = inForce cs
 inForce (putRecord k bytes ∷ cs) = inForce cs
 inForce (drop k ∷ cs) = inForce cs
@@ -65,6 +66,7 @@ inForce (operand right bytes ∷ cs) = inForce cs
 -- The row, or the record's row, of the last accepted put at the place k; none where there was no such put, or a drop there was accepted since.
 unfoldable pub lastPut : ℕ → List Call → Option (List ℕ)
 lastPut k [] = none
+lastPut k (loadList n rules ∷ cs) = lastPut k cs
 lastPut k (putRow j row ∷ cs) = cond (isAccepted cs (putRow j row) && eqb k j) (some row) (lastPut k cs)
 lastPut k (putRecord j bytes ∷ cs) = cond (isAccepted cs (putRecord j bytes) && eqb k j) (some (rowOf (treeOf (class (inForce cs .n)) bytes))) (lastPut k cs)
 lastPut k (drop j ∷ cs) = cond (isAccepted cs (drop j) && eqb k j) none (lastPut k cs)

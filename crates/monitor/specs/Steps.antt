@@ -1,6 +1,5 @@
 -- What each call makes of a panel value, and what it answers. Assumes nothing.
 use Prim.Native.Nat.{ℕ}
-use mathlib.Core.Bool.{Bool}
 use mathlib.Core.List.{List, [], _∷_, _++_}
 use lib.ListN.{length}
 use Rattle.expression.specs.Refusal.{first}
@@ -9,14 +8,14 @@ use Rattle.expression.specs.Token.{class}
 use Rattle.expression.specs.Decode.{treeOf}
 use Rattle.expression.specs.Operand.{rowOf, operandPart}
 use Rattle.expression.specs.Checks.{shortCheck, rowTokens, rowChecks, recordChecks, recordNumber, buildNumber, repairNumber, yieldNumber}
-use Rattle.disambiguation.specs.SheetChecks.{rulesOf}
+use Rattle.disambiguation.specs.SheetChecks.{rulesOf, ruleBytes}
 use Rattle.sheet.specs.Relation.{closes}
 use Rattle.sheet.specs.Loading.{sheetOf}
 use Rattle.sheet.specs.declared.Sheet.{Sheet}
 use Rattle.record.specs.Answers.{judgement}
 use Rattle.parser.specs.Build.{built}
 use Rattle.places.specs.Store.{placeCount, slotBytes, held, imageOf, stored}
-use Rattle.monitor.specs.Call.{Call, lentTo, load, putRow, putRecord, drop, fetchRecord, fetchRow, image, build, repair, judge, yield, operand, Reply}
+use Rattle.monitor.specs.Call.{Call, lentTo, load, loadList, putRow, putRecord, drop, fetchRecord, fetchRow, image, build, repair, judge, yield, operand, Reply}
 use Rattle.monitor.specs.Panel.{Panel, placeCheck, emptyCheck, inUseCheck, sheetChecks, ifAccepted, rebuilt, rebuiltTo}
 
 -- What a call gives: its number; accepted, the bytes that it writes into its lent output; a judge's count; an operand's part.
@@ -73,8 +72,10 @@ module _ (p : Panel) where
   abbrev pub withPlaces : List ℕ → Panel
   withPlaces places = record { sheet = p .sheet; places = places }
 
+  -- A load with a list of rules is the load of their bytes.
   abbrev pub after : Call → Panel
   after (load n rules) = record { sheet = sheetAfter n rules; places = placesAfterLoad n rules }
+  after (loadList n rules) = record { sheet = sheetAfter n (ruleBytes rules); places = placesAfterLoad n (ruleBytes rules) }
   after (putRow k row) = withPlaces (placesAfterRow k row)
   after (putRecord k bytes) = withPlaces (placesAfterRecord k bytes)
   after (drop k) = withPlaces (placesAfterDrop k)
@@ -96,6 +97,7 @@ module _ (p : Panel) where
 
   abbrev pub outcome : Call → Outcome
   outcome (load n rules) = numbered (loadNumber n rules)
+  outcome (loadList n rules) = numbered (loadNumber n (ruleBytes rules))
   outcome (putRow k row) = numbered (putRowNumber k row)
   outcome (putRecord k bytes) = numbered (putRecordNumber k bytes)
   outcome (drop k) = numbered (dropNumber k)

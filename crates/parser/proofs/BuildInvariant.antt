@@ -1,23 +1,22 @@
 -- What holds of the trees and the operators that wait while a row is read from the right. Assumes nothing.
-use Prim.Native.Nat.{ℕ, _≤_, _<_}
+use Prim.Native.Nat.{ℕ}
 use native.Mathlib.Omega.{arith}
-use mathlib.Core.Path.{_≡_, refl, ap, sym, _∙_}
-use mathlib.Core.Bool.{Bool, true, false, not, _&&_, cond, true≢false, false≢true}
-use mathlib.Core.List.{List, [], _∷_, _++_, append-assoc, append-nil}
+use mathlib.Core.Path.{_≡_, refl, _∙_}
+use mathlib.Core.Bool.{Bool, true, false, not}
+use mathlib.Core.List.{List, _∷_, _++_, append-assoc}
 use lib.Dec.{eqb, ltb}
-use borrow.Author.Tests.{lt-ltb, le-ltb, ne-eqb, not-true, not-false}
+use borrow.Author.Tests.{lt-ltb, le-ltb, ne-eqb, not-true}
 use Rattle.expression.specs.Lists.{All}
 use Rattle.expression.specs.Limits.{mostOperators}
 use Rattle.expression.specs.Token.{Class, Infix, Opening, Closing, Reading, Meaningless, opening, closing, class}
-use Rattle.expression.specs.Tree.{Tree, reading, bracket, binary, yield, recordOf, Over}
+use Rattle.expression.specs.Tree.{Tree, reading, bracket, binary, yield, Over}
 use Rattle.expression.proofs.Classes.{by-class}
 use Rattle.expression.proofs.Cond.{by-cond}
 use Rattle.disambiguation.specs.Edges.{seenFromRight, seenFromLeft}
-use Rattle.disambiguation.specs.Conflicts.{conflicts}
-use Rattle.disambiguation.proofs.BelowLaws.{and-true, and-false}
-use Rattle.disambiguation.proofs.Free.{None, Free, count-of-free}
-use Rattle.parser.specs.Build.{Progress, progress, settled, settle, settleAll, wait, enclose, operand, step, progressOf, built}
-use Rattle.parser.proofs.Edges.{Edge, end, closed, waits, waitingOf, doneOf, tokensOf, base, due, have, fold, settle-fold}
+use Rattle.disambiguation.proofs.BelowLaws.{and-true}
+use Rattle.disambiguation.proofs.Free.{None, Free}
+use Rattle.parser.specs.Build.{settled}
+use Rattle.parser.proofs.Edges.{Edge, end, closed, waits, tokensOf, base, fold}
 
 -- an operand that shows no operator
 abbrev pub Bare : Tree → Type 0

@@ -1,7 +1,7 @@
 -- What is built of a row, in terms of rows, trees and sheets. Assumes nothing.
 use Prim.Native.Nat.{ℕ}
-use mathlib.Core.Path.{_≡_, refl, ap, sym, _∙_}
-use mathlib.Core.Bool.{Bool, true, false, not}
+use mathlib.Core.Path.{_≡_, refl, ap, _∙_}
+use mathlib.Core.Bool.{Bool, false}
 use mathlib.Core.List.{List}
 use lib.ListN.{length}
 use Rattle.expression.specs.Refusal.{accepted}
@@ -17,7 +17,7 @@ use Rattle.disambiguation.specs.Conflicts.{conflicts}
 use Rattle.sheet.specs.Relation.{closesIn}
 use Rattle.parser.specs.Build.{built}
 use Rattle.parser.proofs.BuildInvariant.{yields}
-use Rattle.parser.proofs.BuildsTree.{Builds, built-builds}
+use Rattle.parser.proofs.BuildsTree.{built-builds}
 
 -- a bracket closes before nothing
 pub quiet : (words : List ℕ) (b : ℕ) → closesIn words opening b ≡ false

@@ -1,19 +1,17 @@
 -- What each way through `build_into` gives, from what is known on it. Assumes nothing.
 use mathlib.Core.Path.{_≡_, refl, sym, ap, ap₂, _∙_}
 use mathlib.Core.Bool.{Bool, not}
-use mathlib.Core.List.{List, [], _∷_, _++_}
-use Prim.Native.Nat.{ℕ, zero, suc, _+_, _-_, _<_, _≤_}
+use mathlib.Core.List.{List, [], _∷_}
+use Prim.Native.Nat.{ℕ, suc, _+_, _-_, _<_, _≤_}
 use native.Mathlib.Omega.{arith}
 use lib.Dec.{eqb}
 use lib.ListN.{length, getD, take, drop, drop-of-length-le}
 use lib.Seq.{drop-cons, take-suc, take-length, drop-length}
 use borrow.Author.Needs.{needs}
-use Rattle.expression.specs.Lists.{one, count}
-use Rattle.expression.specs.Limits.{mostTokens}
 use Rattle.expression.specs.Token.{opening, closing}
 use Rattle.expression.specs.Checks.{recordBytes}
 use Rattle.expression.proofs.Lengths.{count-append}
-use Rattle.parser.specs.Build.{Progress, progress, settleAll, step, progressOf, built}
+use Rattle.parser.specs.Build.{progress, settleAll, step, progressOf, built}
 use Rattle.parser.specs.Fronts.{heldFrom, operatorsIn, share, Roomy, Settles, Takes, Lays}
 use Rattle.parser.specs.declared.build.Fronts.{Fronts}
 

@@ -1,7 +1,7 @@
 -- What is built of a row is the record of a conflict-free tree of that row. Assumes nothing.
 use Prim.Native.Nat.{ℕ}
 use mathlib.Core.Path.{_≡_, refl, ap, sym, _∙_}
-use mathlib.Core.Bool.{Bool, true, false}
+use mathlib.Core.Bool.{Bool, false}
 use mathlib.Core.List.{List, [], _∷_, _++_, append-assoc, append-nil}
 use Rattle.expression.specs.Token.{Class, Infix, Reading, opening, closing, class}
 use Rattle.expression.specs.Tree.{Tree, reading, bracket, binary, yield, recordOf, Over}

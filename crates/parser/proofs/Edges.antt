@@ -1,14 +1,10 @@
 -- The state of a build as trees: the operators that wait, each with its right operand. Assumes nothing.
 use Prim.Native.Nat.{ℕ}
 use mathlib.Core.Path.{_≡_, refl, ap, sym, _∙_}
-use mathlib.Core.Bool.{Bool, true, false, not, _&&_, cond}
+use mathlib.Core.Bool.{Bool, true, false, cond}
 use mathlib.Core.List.{List, [], _∷_, _++_, append-assoc}
-use Rattle.expression.specs.Lists.{All}
-use Rattle.expression.specs.Token.{Class, Infix, opening, closing}
-use Rattle.expression.specs.Tree.{Tree, reading, bracket, binary, yield, recordOf, Over}
-use Rattle.expression.proofs.Cond.{by-cond}
-use Rattle.disambiguation.specs.Edges.{seenFromRight, seenFromLeft}
-use Rattle.disambiguation.proofs.Free.{None, Free}
+use Rattle.expression.specs.Token.{closing}
+use Rattle.expression.specs.Tree.{Tree, binary, yield, recordOf}
 use Rattle.parser.specs.Build.{Progress, progress, settled, settle}
 
 -- what waits, the nearest first: operators with their right operands, closing brackets, back to the row's right end

@@ -1,7 +1,7 @@
 -- Under a sheet in force, what is built of a row is the record of the row's conflict-free tree, the only one. Assumes nothing.
 use Prim.Native.Nat.{ℕ}
 use mathlib.Core.Path.{_≡_, refl, ap, sym, _∙_}
-use mathlib.Core.Bool.{Bool, false, not}
+use mathlib.Core.Bool.{false}
 use mathlib.Core.Logic.{_↔_}
 use mathlib.Core.List.{List}
 use lib.ListN.{length}
@@ -13,15 +13,15 @@ use Rattle.expression.proofs.RecordsAndTrees.{record-injective}
 use Rattle.expression.proofs.RowsAndTrees.{row-exactly-if-yielded}
 use Rattle.expression.proofs.Lengths.{same-row-same-length}
 use Rattle.disambiguation.specs.Rules.{Rule, R}
-use Rattle.disambiguation.specs.Conflicts.{conflicts, conflictCount, ConflictFreeTree}
+use Rattle.disambiguation.specs.Conflicts.{conflictCount, ConflictFreeTree}
 use Rattle.disambiguation.specs.Repair.{repair}
 use Rattle.disambiguation.proofs.Accepted.{accepted-passes, repair-is, only-one}
-use Rattle.sheet.specs.Relation.{closesIn, closes}
+use Rattle.sheet.specs.Relation.{closes}
 use Rattle.sheet.specs.InForce.{InForce}
 use Rattle.sheet.specs.declared.Sheet.{Sheet}
 use Rattle.sheet.proofs.Laws.{closes-lent, count-by-relation}
 use Rattle.parser.specs.Build.{built}
-use Rattle.parser.proofs.BuildLaws.{quiet, BuiltTree, built-tree}
+use Rattle.parser.proofs.BuildLaws.{quiet, built-tree}
 
 module _ (s : Sheet) (n : ℕ) (rules : List Rule) (in-force : InForce s n rules) where
   silent : (b : ℕ) → closes s opening b ≡ false

@@ -2,7 +2,7 @@
 use mathlib.Core.Path.{_≡_, refl, sym, ap, _∙_}
 use mathlib.Core.Bool.{Bool, true, false, cond, true≢false, false≢true}
 use mathlib.Core.List.{List, [], _∷_}
-use Prim.Native.Nat.{ℕ, zero, suc, _+_, _*_, _-_, _^_, _<_, _≤_}
+use Prim.Native.Nat.{ℕ, suc, _+_, _*_, _-_, _^_, _<_, _≤_}
 use native.Mathlib.Omega.{arith}
 use native.Mathlib.Decide.{decLt}
 use native.Mathlib.Numerals.{add-one}
@@ -15,7 +15,7 @@ use borrow.Author.Tests.{lt-ltb, le-ltb}
 use borrow.Author.Needs.{needs}
 use Rattle.expression.specs.Token.{Class, class}
 use Rattle.expression.specs.Token as token
-use Rattle.expression.specs.RowTest.{Progress, due, done, wrong, whereDue, whereDone, closed, complete, advance, scan}
+use Rattle.expression.specs.RowTest.{Progress, due, done, wrong, whereDue, whereDone, complete, advance, scan}
 use Rattle.expression.proofs.Strangers.{scan-wrong}
 use Rattle.parser.specs.Rows.{tokenOf, tokenAt, isOperator, isClosing, Passes, ReadsOperand, Stops, ReadsExpression}
 use Rattle.parser.specs.declared.row.Token.{Token}

@@ -1,19 +1,15 @@
 -- What each way through a repair gives, from what is known on it. Assumes nothing.
 use mathlib.Core.Path.{_≡_, refl, sym, ap, ap₂, _∙_}
-use mathlib.Core.Bool.{Bool, true, false}
 use mathlib.Core.List.{List, [], _∷_, _++_}
-use mathlib.Core.Option.{Option, some}
 use Prim.Native.Nat.{ℕ, _+_, _-_, _<_, _≤_}
 use native.Mathlib.Omega.{arith}
 use native.Mathlib.Decide.{ℕ-discrete}
-use lib.Dec.{eqb}
 use lib.ListN.{length, take, drop, length-drop, length-append}
 use lib.Seq.{take-at, length-take-le}
 use borrow.Author.Tests.{ne-eqb}
 use borrow.Author.Needs.{needs}
 use Rattle.expression.specs.Refusal.{first, accepted}
 use Rattle.expression.specs.Token.{class}
-use Rattle.expression.specs.Tree.{Tree, yield, recordOf}
 use Rattle.expression.specs.Grammar.{Row}
 use Rattle.expression.specs.Decode.{treeOf}
 use Rattle.expression.specs.Operand.{rowOf}
@@ -22,7 +18,7 @@ use Rattle.expression.proofs.Classes.{brackets}
 use Rattle.expression.proofs.RecordsAndTrees.{treeOf-record}
 use Rattle.expression.proofs.RowsAndTrees.{row-exactly-if-yielded}
 use Rattle.expression.proofs.Lengths.{record-length}
-use Rattle.expression.proofs.Numbers.{first-refused, first-short, first-roomy, record-numbered, Recorded, record-accepted}
+use Rattle.expression.proofs.Numbers.{first-refused, first-short, first-roomy, record-numbered, record-accepted}
 use Rattle.sheet.specs.Relation.{closesIn}
 use Rattle.record.specs.Answers.{Yields}
 use Rattle.record.specs.declared.Answer.{Answer}

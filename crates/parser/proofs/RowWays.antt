@@ -1,24 +1,24 @@
 -- What each way through the checks of a row gives, from what is known on it. Assumes nothing.
 use mathlib.Core.Path.{_≡_, refl, sym, ap, _∙_}
 use mathlib.Core.Bool.{Bool, true, false, not, _||_, cond}
-use mathlib.Core.List.{List, [], _∷_}
-use Prim.Native.Nat.{ℕ, zero, suc, _+_, _-_, _^_, _<_, _≤_}
+use mathlib.Core.List.{List}
+use Prim.Native.Nat.{ℕ, _+_, _-_, _<_, _≤_}
 use native.Mathlib.Omega.{arith}
 use native.Mathlib.Numerals.{add-one}
 use mir.Val.{Fits}
 use mir.Syntax.{w8}
-use lib.Dec.{eqb, ltb, leb}
+use lib.Dec.{ltb, leb}
 use lib.ListN.{length, getD, drop, drop-of-length-le}
 use lib.Seq.{drop-cons}
-use borrow.Author.Tests.{lt-ltb, le-ltb, le-leb, lt-leb, eq-eqb, ne-eqb}
+use borrow.Author.Tests.{lt-ltb, le-ltb, le-leb, lt-leb, ne-eqb}
 use borrow.Author.Needs.{needs}
 use native.Mathlib.Decide.{decLt, ℕ-discrete}
 use Rattle.expression.specs.Lists.{any}
 use Rattle.expression.specs.Limits.{mostOperators, mostTokens}
-use Rattle.expression.specs.Token.{Class, Infix, Opening, Closing, Reading, Meaningless, opening, closing, firstReading, lastReading, class}
-use Rattle.expression.specs.RowTest.{due, done, complete, scan, isRow}
+use Rattle.expression.specs.Token.{opening, closing, firstReading, lastReading, class}
+use Rattle.expression.specs.RowTest.{done, complete, scan, isRow}
 use Rattle.expression.specs.Checks.{strangeInRow, rowNumber}
-use Rattle.parser.specs.Rows.{tokenAt, isOperator, Passes, ReadsExpression, hasStranger}
+use Rattle.parser.specs.Rows.{tokenAt, ReadsExpression, hasStranger}
 use Rattle.parser.specs.declared.row.Reach.{Reach}
 use Rattle.parser.specs.declared.row.Reach.the-variants.{At, Refused}
 use Rattle.parser.proofs.ReaderWays.{there, row-ends}

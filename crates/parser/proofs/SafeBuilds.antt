@@ -1,11 +1,10 @@
 -- Where the excluded patterns are safe, what is built of a row has no conflict under them. Assumes nothing.
 use Prim.Native.Nat.{ℕ}
 use mathlib.Core.Path.{_≡_, ap}
-use mathlib.Core.Bool.{Bool, true, false, not}
+use mathlib.Core.Bool.{Bool, true, false}
 use mathlib.Core.List.{List}
 use borrow.Author.Tests.{not-false}
-use Rattle.expression.specs.Lists.{All}
-use Rattle.expression.specs.Token.{Class, Infix, opening, class}
+use Rattle.expression.specs.Token.{Class, opening, class}
 use Rattle.expression.specs.Tree.{Tree, reading, bracket, binary, Over}
 use Rattle.expression.specs.Grammar.{Row}
 use Rattle.disambiguation.specs.Edges.{seenFromRight}

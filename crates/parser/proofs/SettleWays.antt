@@ -1,22 +1,19 @@
 -- What each way through `settles` and `settle` gives, from what is known on it. Assumes nothing.
-use mathlib.Core.Path.{_≡_, refl, sym, ap, ap₂, _∙_}
-use mathlib.Core.Bool.{Bool, true, false, not, _&&_, cond}
+use mathlib.Core.Path.{_≡_, refl, sym, ap, _∙_}
+use mathlib.Core.Bool.{Bool, true, false, not, cond}
 use mathlib.Core.List.{List, [], _∷_}
-use Prim.Native.Nat.{ℕ, zero, suc, _+_, _-_, _^_, _<_, _≤_}
+use Prim.Native.Nat.{ℕ, zero, suc, _+_, _-_, _<_, _≤_}
 use native.Mathlib.Omega.{arith}
 use native.Mathlib.Numerals.{add-one}
-use mir.Val.{Fits}
-use mir.Syntax.{w8, w64}
-use lib.Dec.{eqb, ltb}
+use lib.Dec.{ltb}
 use lib.ListN.{length, getD, drop, set, length-set, drop-of-length-le}
-use lib.Seq.{drop-cons, drop-set-add}
+use lib.Seq.{drop-cons}
 use borrow.Author.Tests.{lt-ltb, le-ltb, not-true, not-false}
 use borrow.Author.Needs.{needs}
-use Rattle.expression.specs.Lists.{one, count}
+use Rattle.expression.specs.Lists.{one}
 use Rattle.expression.specs.Limits.{mostOperators, mostTokens}
 use Rattle.disambiguation.proofs.BelowLaws.{and-true}
-use Rattle.sheet.specs.Relation.{closesIn}
-use Rattle.parser.specs.Build.{Progress, progress, settled, settle, settleAll}
+use Rattle.parser.specs.Build.{progress, settled, settle, settleAll}
 use Rattle.parser.specs.Fronts.{heldFrom, operatorsIn, Roomy, Settles}
 use Rattle.parser.specs.declared.build.Fronts.{Fronts}
 

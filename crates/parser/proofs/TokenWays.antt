@@ -1,20 +1,16 @@
 -- What each way through `token_of` and `token_at` gives, from what is known on it. Assumes nothing.
-use mathlib.Core.Path.{_≡_, refl, sym, ap, _∙_}
-use mathlib.Core.Bool.{Bool, true, false, cond}
-use mathlib.Core.List.{List, [], _∷_}
-use Prim.Native.Nat.{ℕ, _+_, _<_, _≤_}
+use mathlib.Core.Path.{_≡_, sym, ap, _∙_}
+use mathlib.Core.Bool.{Bool}
+use mathlib.Core.List.{List}
+use Prim.Native.Nat.{ℕ, _<_, _≤_}
 use native.Mathlib.Omega.{arith}
-use native.Mathlib.Decide.{decLt}
-use native.Mathlib.Numerals.{add-one}
 use mir.Val.{Fits}
 use mir.Syntax.{w8}
-use lib.Dec.{eqb, ltb}
-use lib.ListN.{length, getD, drop, drop-of-length-le}
-use lib.Seq.{drop-cons}
-use borrow.Author.Tests.{lt-ltb, le-ltb, eq-eqb, ne-eqb}
+use lib.ListN.{length, getD}
+use borrow.Author.Tests.{lt-ltb, le-ltb, ne-eqb}
 use borrow.Author.Needs.{needs}
 use Rattle.expression.specs.Limits.{mostOperators}
-use Rattle.expression.specs.Token.{Class, opening, closing, firstReading, lastReading, class}
+use Rattle.expression.specs.Token.{opening, closing, firstReading, lastReading, class}
 use Rattle.parser.specs.Rows.{tokenOf, tokenAt, isOperator, isClosing}
 use Rattle.parser.specs.declared.row.Token.{Token}
 use Rattle.parser.specs.declared.row.Token.the-variants.{Operator, Opening, Closing, Reading, Other, End}

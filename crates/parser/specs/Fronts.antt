@@ -7,7 +7,7 @@ use lib.Dec.{eqb, ltb}
 use lib.ListN.{length, drop}
 use Rattle.expression.specs.Lists.{one, count}
 use Rattle.expression.specs.Limits.{mostOperators, mostTokens}
-use Rattle.expression.specs.Token.{opening, closing}
+use Rattle.expression.specs.Token.{closing}
 use Rattle.parser.specs.Build.{Progress, progress, settleAll, step, built}
 use Rattle.parser.specs.declared.build.Fronts.{Fronts}
 

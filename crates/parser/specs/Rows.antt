@@ -10,7 +10,7 @@ use Rattle.expression.specs.Token.{Class, Infix, class}
 use Rattle.expression.specs.Token as token
 use Rattle.expression.specs.Lists.{any}
 use Rattle.expression.specs.Checks.{strangeInRow}
-use Rattle.expression.specs.RowTest.{Progress, due, done, complete, scan}
+use Rattle.expression.specs.RowTest.{due, done, complete, scan}
 use Rattle.parser.specs.declared.row.Token.{Token}
 use Rattle.parser.specs.declared.row.Token.the-variants.{Operator, Opening, Closing, Reading, Other, End}
 use Rattle.parser.specs.declared.row.Reach.{Reach}

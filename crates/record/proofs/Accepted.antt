@@ -8,14 +8,14 @@ use mathlib.Core.List.{List, [], _∷_, _++_}
 use lib.ListN.{length}
 use borrow.Author.Tests.{ltb-false}
 use Rattle.expression.specs.Limits.{mostRecordBytes}
-use Rattle.expression.specs.Refusal.{Check, first, accepted}
+use Rattle.expression.specs.Refusal.{Check, Passed, first, accepted}
 use Rattle.expression.specs.Token.{class}
 use Rattle.expression.specs.Tree.{Tree, yield}
 use Rattle.expression.specs.Decode.{treeOf}
 use Rattle.expression.specs.Checks.{isNone, rowTokens, recordChecks, recordNumber}
 use Rattle.expression.proofs.Classes.{brackets}
 use Rattle.expression.proofs.Lengths.{row-length-of-record}
-use Rattle.expression.proofs.Numbers.{Passed, passed-first}
+use Rattle.expression.proofs.Numbers.{passed-first}
 use Rattle.record.specs.TreeAt.{TreeAt}
 use Rattle.record.specs.Checks.{rowLength}
 use Rattle.record.proofs.Trees.{whole}

@@ -13,7 +13,7 @@ use sheet::token;
 mod checks;
 mod conflicts;
 mod ends;
-mod operands;
+pub mod operands;
 mod rows;
 
 // What stands at a place of a record. Other: no byte, or one that begins no tree under n operators.
@@ -67,6 +67,7 @@ pub fn record_number(n: u8, bytes: &[u8]) -> u8
 }
 
 // The number of a call that writes an answer, and the answer's length; 0 after a refusal.
+#[repr(C)]
 pub struct Answer {
     pub number: u8,
     pub length: usize,
@@ -104,6 +105,7 @@ pub fn yield_row(n: u8, bytes: &[u8], out: &mut [u8]) -> Answer
 }
 
 // The number of a record, and the conflict count of its tree; 0 after a refusal.
+#[repr(C)]
 pub struct Judgement {
     pub number: u8,
     pub count: u8,

@@ -8,6 +8,7 @@ use crate::record_number;
 use sheet::refusal;
 
 // A part of a record, from a place up to another.
+#[repr(C)]
 pub struct Part {
     pub from: usize,
     pub to: usize,

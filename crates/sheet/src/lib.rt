@@ -12,12 +12,14 @@ mod verdict;
 mod words;
 
 // A sheet in force: n operators, and which of them closes before which. Bit b of word a: a closes before b.
+#[repr(C)]
 pub struct Sheet {
     pub n: u8,
     pub closes: [u32; 32],
 }
 
 // The number of a load, and the sheet in force after it.
+#[repr(C)]
 pub struct Loaded {
     pub number: u8,
     pub sheet: Sheet,

@@ -1,6 +1,8 @@
 // The counts and lengths that document 01 fixes, as in the specification's `Limits`.
 pub const MOST_OPERATORS: u8 = 32;
 
+pub const MOST_RULES: usize = 2048;
+
 pub const MOST_RULE_BYTES: usize = 6144;
 
 pub const BYTES_OF_RULE: usize = 3;

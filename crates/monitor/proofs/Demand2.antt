@@ -1,0 +1,108 @@
+-- Demand 2 holds of every list of calls from the fresh panel. Assumes nothing.
+use Prim.Native.Nat.{ℕ, _≤_}
+use native.Mathlib.Omega.{arith}
+use mathlib.Core.Path.{_≡_, ap, sym, subst, _∙_}
+use mathlib.Core.Option.{some}
+use mathlib.Core.List.{List, _++_}
+use lib.ListN.{length}
+use lib.ListN as lists
+use Rattle.expression.specs.Refusal.{accepted}
+use Rattle.expression.specs.Limits.{mostTokens}
+use Rattle.expression.specs.Token.{class}
+use Rattle.expression.specs.Grammar.{Row}
+use Rattle.expression.specs.Tree.{Tree, recordOf, Over}
+use Rattle.expression.specs.Tree as tree
+use Rattle.expression.specs.Decode.{treeOf}
+use Rattle.expression.specs.Operand.{rowOf}
+use Rattle.expression.specs.Checks.{recordBytes, rowTokens, rowChecks, recordChecks, rowNumber, recordNumber, buildNumber, repairNumber, yieldNumber}
+use Rattle.expression.proofs.Classes.{brackets}
+use Rattle.expression.proofs.RecordsAndTrees.{treeOf-record, record-injective}
+use Rattle.expression.proofs.Lengths.{same-row-same-length}
+use Rattle.expression.proofs.Numbers.{first-roomy, row-numbered, record-numbered, row-accepted}
+use Rattle.disambiguation.specs.Conflicts.{conflictCount, ConflictFreeTree}
+use Rattle.sheet.specs.Relation.{closes}
+use Rattle.parser.specs.Build.{built}
+use Rattle.monitor.specs.Call.{Call, build, repair, judge, yield}
+use Rattle.monitor.specs.Panel.{rebuilt}
+use Rattle.monitor.specs.Steps.{operators}
+use Rattle.monitor.specs.Answers.{Records}
+use Rattle.monitor.specs.Run.{panelAfter, answer, bookAfter, AnsweredBy}
+use Rattle.monitor.specs.Promises.{Within, Demand2}
+use Rattle.monitor.proofs.Slots.{HeldTree, bytes-long, put-row-holds, put-record-holds}
+use Rattle.monitor.proofs.Stands.{same-number}
+use Rattle.monitor.proofs.Replies.{answers}
+use Rattle.monitor.proofs.Histories.{stands}
+use Rattle.monitor.proofs.Placed.{n, rules, same-n, same-rules, sheet-in-force, within-accepted}
+
+module _ (cs : List Call) where
+  same-operators : operators (panelAfter cs) ≡ n cs
+  same-operators = sheet-in-force cs .operators
+
+  built-tree : (row : List ℕ) → Row (n cs) row → length row ≤ mostTokens
+      → (t : Tree) × ConflictFreeTree (n cs) (rules cs) row t × ((out : List ℕ) → length (recordOf t) ≤ length out → AnsweredBy cs (build row out) out (recordOf t))
+  unfolding buildNumber rowNumber
+  built-tree row r l =
+      let e = row-accepted (n cs) row .1 (l, r) in
+      let (t, g) = put-row-holds (panelAfter cs .sheet) (n cs) (rules cs) (sheet-in-force cs) row e in
+      (t, g .tree, λ out room. answered t g e out room)
+    where
+      answered : (t : Tree) (g : HeldTree (n cs) (rules cs) row (built (closes (panelAfter cs .sheet)) row) t) → rowNumber (n cs) row ≡ accepted → (out : List ℕ) → length (recordOf t) ≤ length out
+          → AnsweredBy cs (build row out) out (recordOf t)
+      answered t g e out room =
+          let z : answer cs (build row out) .number ≡ accepted =
+          ap (λ m. buildNumber m row (length out)) same-operators
+          ∙ first-roomy (rowChecks (n cs) row) (recordBytes row) (length out) e (row-numbered (n cs) row) (omega (arith, bytes-long g, ap length (g .recorded))) in
+          (z, rw z (ap (λ x. x ++ lists.drop (length x) out) (g .recorded)))
+
+  module _ (t : Tree) (over : Over (class (n cs)) t) (within : Within t) where
+    fits : recordNumber (n cs) (recordOf t) ≡ accepted
+    fits = within-accepted cs t over within
+
+    read-back : treeOf (class (n cs)) (recordOf t) ≡ some t
+    read-back = treeOf-record (class (n cs)) (brackets (n cs)) t over
+
+    given-back : (out : List ℕ) → length (tree.yield t) ≤ length out → AnsweredBy cs (yield (recordOf t) out) out (tree.yield t)
+    unfolding yieldNumber recordNumber
+    given-back out room =
+        let z : answer cs (yield (recordOf t) out) .number ≡ accepted =
+        ap (λ m. yieldNumber m (recordOf t) (length out)) same-operators
+        ∙ first-roomy (recordChecks (n cs) (recordOf t)) (rowTokens (treeOf (class (n cs)) (recordOf t))) (length out) fits (record-numbered (n cs) (recordOf t))
+        (omega (arith, ap rowTokens read-back)) in (
+          z,
+          rw z (ap (λ x. x ++ lists.drop (length x) out)
+              (ap (λ m. rowOf (treeOf (class m) (recordOf t))) same-operators ∙ ap rowOf read-back)),
+        )
+
+    repaired-tree : (u : Tree) × ConflictFreeTree (n cs) (rules cs) (tree.yield t) u
+        × ((out : List ℕ) → length (recordOf u) ≤ length out → AnsweredBy cs (repair (recordOf t) out) out (recordOf u))
+    unfolding repairNumber recordNumber
+    repaired-tree =
+        let (u, g) = put-record-holds (panelAfter cs .sheet) (n cs) (rules cs) (sheet-in-force cs) (recordOf t) fits in
+        (u, free u (g .tree), λ out room. answered u (free u (g .tree)) (g .recorded) out room)
+      where
+        free : (u : Tree) → ConflictFreeTree (n cs) (rules cs) (rowOf (treeOf (class (n cs)) (recordOf t))) u → ConflictFreeTree (n cs) (rules cs) (tree.yield t) u
+        free u h = subst (λ row. ConflictFreeTree (n cs) (rules cs) row u) (ap rowOf read-back) h
+
+        answered : (u : Tree) → ConflictFreeTree (n cs) (rules cs) (tree.yield t) u → rebuilt (n cs) (closes (panelAfter cs .sheet)) (recordOf t) ≡ recordOf u
+            → (out : List ℕ) → length (recordOf u) ≤ length out → AnsweredBy cs (repair (recordOf t) out) out (recordOf u)
+        answered u h e out room =
+            let z : answer cs (repair (recordOf t) out) .number ≡ accepted =
+            ap (λ m. repairNumber m (recordOf t) (length out)) same-operators
+            ∙ first-roomy (recordChecks (n cs) (recordOf t)) (length (recordOf t)) (length out) fits (record-numbered (n cs) (recordOf t))
+            (omega (arith, same-row-same-length (class (n cs)) (brackets (n cs)) t u over (h .over) (sym (h .yields)))) in
+            (z, rw z (ap (λ x. x ++ lists.drop (length x) out) (ap (λ m. rebuilt m (closes (panelAfter cs .sheet)) (recordOf t)) same-operators ∙ e)))
+
+    counted : (answer cs (judge (recordOf t)) .number ≡ accepted) × (answer cs (judge (recordOf t)) .count ≡ conflictCount (rules cs) t)
+    counted = (number, same (answers (panelAfter cs) (bookAfter cs) (stands cs) (judge (recordOf t)) .count .0 (sym (same-number (panelAfter cs) (bookAfter cs) (stands cs) (judge (recordOf t))) ∙ number)))
+      where
+        number : answer cs (judge (recordOf t)) .number ≡ accepted
+        number = ap (λ m. recordNumber m (recordOf t)) same-operators ∙ fits
+
+        same : (v : Tree) × Records (bookAfter cs) (recordOf t) v × (answer cs (judge (recordOf t)) .count ≡ conflictCount (bookAfter cs .rules) v)
+            → answer cs (judge (recordOf t)) .count ≡ conflictCount (rules cs) t
+        same (v, r, e) =
+            e ∙ ap (λ given. conflictCount given v) (same-rules cs)
+            ∙ ap (conflictCount (rules cs)) (record-injective (class (n cs)) (brackets (n cs)) v t (subst (λ m. Over (class m) v) (same-n cs) (r .0)) over (r .1))
+
+pub demand-2 : (cs : List Call) → Demand2 cs
+demand-2 cs = record { built = built-tree cs; given-back = given-back cs; repaired = repaired-tree cs; counted = counted cs }

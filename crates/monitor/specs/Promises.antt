@@ -1,0 +1,82 @@
+-- Demands 1, 2 and 3 of the panel's calls, on one page. Assumes nothing.
+--     Demand 1 speaks of every panel value and every call with any bytes: no call has a `requires`, and each is proved to end.
+--     Demands 2 and 3 speak of the panel after every list of calls, refused ones included, from a fresh panel. A list has the last call first.
+use Prim.Native.Nat.{ℕ, _≤_}
+use mathlib.Core.Path.{_≡_}
+use mathlib.Core.Logic.{_↔_, _⊎_}
+use mathlib.Core.Option.{some}
+use mathlib.Core.List.{List}
+use lib.ListN.{length}
+use Rattle.expression.specs.Limits.{mostTokens, mostRecordBytes}
+use Rattle.expression.specs.Refusal.{accepted, dead, double}
+use Rattle.expression.specs.Token.{class}
+use Rattle.expression.specs.Grammar.{Row}
+use Rattle.expression.specs.Tree.{Tree, recordOf, Over}
+use Rattle.expression.specs.Tree as tree
+use Rattle.disambiguation.specs.Rules.{Rule}
+use Rattle.disambiguation.specs.Conflicts.{conflictCount, ConflictFreeTree}
+use Rattle.disambiguation.specs.ExactlyOne.{SomeRowHasNone, SomeRowHasTwo, EveryRowHasExactlyOne}
+use Rattle.disambiguation.specs.SheetChecks.{rulesOf, InOrder, ListInOrder}
+use Rattle.sheet.specs.InForce.{InForce}
+use Rattle.monitor.specs.Call.{Call, lentTo, load, loadList, build, repair, judge, yield}
+use Rattle.monitor.specs.Panel.{Panel}
+use Rattle.monitor.specs.Steps.{after, reply}
+use Rattle.monitor.specs.Answers.{Answers}
+use Rattle.monitor.specs.Run.{panelAfter, answer, bookAfter, inForce, lastPut, AnsweredBy, HoldsTree, Filled, RepairsTo}
+
+-- Demand 1. A refusal changes neither the panel nor a lent buffer. (That its number is document 01's is `answered` below, and each call's contract.)
+pub record Demand1 (p : Panel) (c : Call) : Type 0 where
+  pub unchanged : (reply p c .number ≡ accepted → ⊥) → (after p c ≡ p) × (reply p c .output ≡ lentTo c)
+
+-- A tree is within the lengths if 1 doesn't apply to its record: not for its bytes, and not for its row.
+abbrev pub Within : Tree → Type 0
+Within t = (length (recordOf t) ≤ mostRecordBytes) × (length (tree.yield t) ≤ mostTokens)
+
+-- Refused for its rules means 4 or 5.
+abbrev pub ForItsRules : ℕ → Type 0
+ForItsRules number = (number ≡ dead) ⊎ (number ≡ double)
+
+module _ (cs : List Call) where
+  -- n and the rules of the sheet in force
+  abbrev n : ℕ
+  n = inForce cs .n
+
+  abbrev rules : List Rule
+  rules = inForce cs .rules
+
+  -- Demand 2. Within the lengths, and with room for the answer,
+  pub record Demand2 : Type 0 where
+    -- a row is built into its conflict-free tree;
+    pub built : (row : List ℕ) → Row n row → length row ≤ mostTokens
+        → (t : Tree) × ConflictFreeTree n rules row t × ((out : List ℕ) → length (recordOf t) ≤ length out → AnsweredBy cs (build row out) out (recordOf t))
+    -- a tree gives back its row;
+    pub given-back : (t : Tree) → Over (class n) t → Within t → (out : List ℕ) → length (tree.yield t) ≤ length out
+        → AnsweredBy cs (yield (recordOf t) out) out (tree.yield t)
+    -- repair turns any tree over the sheet's operators into the conflict-free tree of the same row;
+    pub repaired : (t : Tree) → Over (class n) t → Within t
+        → (u : Tree) × ConflictFreeTree n rules (tree.yield t) u × ((out : List ℕ) → length (recordOf u) ≤ length out → AnsweredBy cs (repair (recordOf t) out) out (recordOf u))
+    -- a tree's conflict count is the number of excluded patterns that it shows.
+    pub counted : (t : Tree) → Over (class n) t → Within t
+        → (answer cs (judge (recordOf t)) .number ≡ accepted) × (answer cs (judge (recordOf t)) .count ≡ conflictCount rules t)
+
+  -- Demand 3.
+  pub record Demand3 : Type 0 where
+    -- The sheet in force is that of the last accepted load of the list, or the fresh panel's: the panel's has its n, and its relation is that of its rules.
+    pub sheet : InForce (panelAfter cs .sheet) n rules
+    -- Every row of any length over the operators of the sheet in force has exactly one conflict-free tree.
+    pub one-tree : EveryRowHasExactlyOne n rules
+    -- A place is filled exactly when a put there was accepted and no drop there was accepted since,
+    pub filled : (k : ℕ) → Filled cs k ↔ ((row : List ℕ) × (lastPut k cs ≡ some row))
+    -- and it then holds that tree, for the row, or the record's row, of the last accepted put there.
+    pub held-tree : (k : ℕ) (row : List ℕ) → lastPut k cs ≡ some row → (t : Tree) × ConflictFreeTree n rules row t × HoldsTree cs k t
+    -- Whatever is called next, the answer is the one that the book gives.
+    pub answered : (c : Call) → Answers (bookAfter cs) c (answer cs c)
+    -- A sheet in order is refused for its rules exactly when some row of any length has no conflict-free tree under it, or two or more: in bytes,
+    pub refused : (m : ℕ) (bytes : List ℕ) → InOrder m bytes
+        → ForItsRules (answer cs (load m bytes) .number) ↔ (SomeRowHasNone m (rulesOf bytes) ⊎ SomeRowHasTwo m (rulesOf bytes))
+    -- and with its rules as a list of records.
+    pub refused-list : (m : ℕ) (given : List Rule) → ListInOrder m given
+        → ForItsRules (answer cs (loadList m given) .number) ↔ (SomeRowHasNone m given ⊎ SomeRowHasTwo m given)
+    -- Two trees over the operators of the sheet in force, within the lengths, repair to the same bytes exactly when their rows are the same.
+    pub same-bytes : (t u : Tree) → Over (class n) t → Over (class n) u → Within t → Within u
+        → ((bytes : List ℕ) × RepairsTo cs t bytes × RepairsTo cs u bytes) ↔ (tree.yield t ≡ tree.yield u)
