@@ -1,0 +1,99 @@
+-- Document 01's listing, and the edges of a line, by computation. Assumes nothing.
+use Prim.Native.Nat.{ℕ}
+use mathlib.Core.Path.{_≡_, refl}
+use mathlib.Core.List.{List, [], _∷_}
+use mathlib.Core.Option.{none, some}
+use lib.ListN.{replicate}
+use Rattle.expression.specs.Refusal.{accepted, oversize, empty, frame}
+use Rattle.expression.specs.Token.{class}
+use Rattle.expression.specs.RowTest.{isRow}
+use Rattle.expression.specs.Decode.{treeOf}
+use Rattle.expression.specs.Checks.{recordNumber}
+use Rattle.disambiguation.specs.Rules.{L, R}
+use Rattle.disambiguation.specs.Below.{allBelow}
+use Rattle.disambiguation.specs.Verdict.{safe, total, within, level}
+use Rattle.sheet.specs.Relation.{bitOf, closesIn, closes}
+use Rattle.sheet.specs.Marking.{marked, marksR, marksAll}
+use Rattle.sheet.specs.Loading.{sheetOf}
+use Rattle.parser.specs.Build.{step, progressOf, built}
+use Rattle.places.specs.Store.{held, imageOf, stored}
+use Rattle.places.specs.Store as store
+use Rattle.monitor.specs.Call.{load, putRow, putRecord, drop, fetchRecord, repair, judge}
+use Rattle.monitor.specs.Panel.{Panel, usesBeyond, rebuiltTo}
+use Rattle.monitor.specs.Steps.{loadNumber, putRowNumber, dropNumber, fetchRecordNumber, sheetAfter, placesAfterLoad, placesAfterRow, placesAfterDrop}
+use Rattle.hexadecimal.specs.Digits.{isDigit, digitOf, allDigits, byteOf, characterOf}
+use Rattle.hexadecimal.specs.Text.{pairBytes, bytesOf, textOf}
+use Rattle.frame.specs.Frames.{room, callOf}
+use Rattle.frame.specs.Lines.{lineCall, lineBytes, lineReply, lineAfter}
+use Rattle.frame.specs.Runs.{panelAfterLines}
+
+-- ---- the listing
+abbrev first : List ℕ
+first = textOf (0x01 ∷ 0x02 ∷ 0x01 ∷ 0x01 ∷ 0x00 ∷ 0x02 ∷ 0x01 ∷ 0x01 ∷ 0x02 ∷ 0x00 ∷ 0x00 ∷ [])
+
+abbrev second : List ℕ
+second = textOf (0x02 ∷ 0x03 ∷ 0x80 ∷ 0x00 ∷ 0x81 ∷ 0x01 ∷ 0x82 ∷ [])
+
+abbrev third : List ℕ
+third = textOf (0x04 ∷ 0x03 ∷ [])
+
+abbrev fourth : List ℕ
+fourth = textOf (0x03 ∷ 0x04 ∷ [])
+
+abbrev fifth : List ℕ
+fifth = textOf (0x01 ∷ 0x02 ∷ 0x01 ∷ 0x00 ∷ 0x01 ∷ 0x02 ∷ 0x01 ∷ 0x01 ∷ 0x02 ∷ 0x00 ∷ 0x00 ∷ [])
+
+pub calls-of-listing :
+    (lineCall first ≡ some (load 2 (0x01 ∷ 0x01 ∷ 0x00 ∷ 0x02 ∷ 0x01 ∷ 0x01 ∷ 0x02 ∷ 0x00 ∷ 0x00 ∷ [])))
+    × (lineCall second ≡ some (putRow 3 (0x80 ∷ 0x00 ∷ 0x81 ∷ 0x01 ∷ 0x82 ∷ [])))
+    × (lineCall third ≡ some (fetchRecord 3 room))
+    × (lineCall fourth ≡ some (drop 4))
+unfolding lineCall callOf bytesOf allDigits pairBytes isDigit digitOf byteOf textOf characterOf
+calls-of-listing = (refl, refl, refl, refl)
+
+-- Each line's reply over the panel after the lines before it; the third line comes again as the sixth.
+pub replies-of-listing :
+    (lineReply (panelAfterLines []) first ≡ textOf (accepted ∷ []))
+    × (lineReply (panelAfterLines (first ∷ [])) second ≡ textOf (accepted ∷ []))
+    × (lineReply (panelAfterLines (second ∷ first ∷ [])) third ≡ textOf (accepted ∷ 0x00 ∷ 0x80 ∷ 0x01 ∷ 0x81 ∷ 0x82 ∷ []))
+    × (lineReply (panelAfterLines (third ∷ second ∷ first ∷ [])) fourth ≡ textOf (empty ∷ []))
+    × (lineReply (panelAfterLines (fourth ∷ third ∷ second ∷ first ∷ [])) fifth ≡ textOf (accepted ∷ []))
+    × (lineReply (panelAfterLines (fifth ∷ fourth ∷ third ∷ second ∷ first ∷ [])) third ≡ textOf (accepted ∷ 0x01 ∷ 0x00 ∷ 0x80 ∷ 0x81 ∷ 0x82 ∷ []))
+unfolding panelAfterLines lineAfter lineReply lineBytes lineCall callOf room bytesOf allDigits pairBytes isDigit digitOf byteOf textOf characterOf loadNumber putRowNumber dropNumber fetchRecordNumber sheetAfter placesAfterLoad placesAfterRow placesAfterDrop usesBeyond rebuiltTo store.fresh held imageOf stored built progressOf step sheetOf marksAll marksR marked closes closesIn bitOf safe total within level allBelow L R recordNumber treeOf isRow class
+replies-of-listing = (refl, refl, refl, refl, refl, refl)
+
+-- ---- edges
+-- The text of 12 is 0c. An empty line, an odd number of digits, a carriage return, a kind over 9.
+pub refused-lines : (p : Panel)
+    → (lineReply p [] ≡ 0x30 ∷ 0x63 ∷ [])
+    × (lineReply p (0x30 ∷ 0x33 ∷ 0x30 ∷ []) ≡ textOf (frame ∷ []))
+    × (lineReply p (0x30 ∷ 0x33 ∷ 0x30 ∷ 0x0d ∷ []) ≡ textOf (frame ∷ []))
+    × (lineReply p (textOf (0x0a ∷ 0x00 ∷ [])) ≡ textOf (frame ∷ []))
+unfolding lineReply lineBytes callOf bytesOf allDigits pairBytes isDigit digitOf byteOf textOf characterOf
+refused-lines p = (refl, refl, refl, refl)
+
+-- One character too many comes before 12.
+pub long-line-first : (p : Panel) → lineReply p (replicate 12293 0x0d) ≡ textOf (oversize ∷ [])
+unfolding lineReply lineBytes
+long-line-first p = refl
+
+-- Kinds 01, 02 and 06 need one byte; 03, 04, 05 and 09 have just one; 07 and 08 need none.
+pub bytes-after-kind :
+    (lineCall (textOf (0x01 ∷ [])) ≡ none)
+    × (lineCall (textOf (0x01 ∷ 0x00 ∷ [])) ≡ some (load 0 []))
+    × (lineCall (textOf (0x06 ∷ [])) ≡ none)
+    × (lineCall (textOf (0x06 ∷ 0x10 ∷ [])) ≡ some (putRecord 0x10 []))
+    × (lineCall (textOf (0x03 ∷ [])) ≡ none)
+    × (lineCall (textOf (0x03 ∷ 0x01 ∷ 0xff ∷ [])) ≡ none)
+    × (lineCall (textOf (0x09 ∷ 0x01 ∷ 0xff ∷ [])) ≡ none)
+    × (lineCall (textOf (0x07 ∷ [])) ≡ some (judge []))
+    × (lineCall (textOf (0x08 ∷ [])) ≡ some (repair [] room))
+unfolding lineCall callOf bytesOf allDigits pairBytes isDigit digitOf byteOf textOf characterOf
+bytes-after-kind = (refl, refl, refl, refl, refl, refl, refl, refl, refl)
+
+-- Either letter case.
+pub either-case :
+    (lineCall (0x30 ∷ 0x37 ∷ 0x61 ∷ 0x42 ∷ []) ≡ some (judge (0xab ∷ [])))
+    × (lineCall (0x30 ∷ 0x37 ∷ 0x41 ∷ 0x62 ∷ []) ≡ some (judge (0xab ∷ [])))
+unfolding lineCall callOf bytesOf allDigits pairBytes isDigit digitOf byteOf
+either-case = (refl, refl)

@@ -1,0 +1,5 @@
+pub mod KindWays
+pub mod LineWays
+pub mod LineRuns
+pub mod Examples
+pub mod NeverShort

@@ -1,0 +1,119 @@
+-- A line never meets 10: each call of a line has room for its answer. Assumes nothing.
+use Prim.Native.Nat.{ℕ, _≤_}
+use native.Mathlib.Omega.{arith}
+use mathlib.Core.Path.{_≡_, refl, ap, subst, sym, _∙_}
+use mathlib.Core.Bool.{Bool, true, false, not, _&&_, cond, true≢false}
+use mathlib.Core.List.{List, [], _∷_, _++_}
+use mathlib.Core.Option.{Option, none, some}
+use lib.Dec.{eqb, ltb}
+use lib.ListN.{length}
+use borrow.Author.Tests.{le-ltb, ltb-false, eq-eqb}
+use Rattle.expression.specs.Refusal.{Check, first, accepted, short}
+use Rattle.expression.specs.Limits.{mostTokens, mostRecordBytes}
+use Rattle.expression.specs.Token.{class}
+use Rattle.expression.specs.Decode.{treeOf}
+use Rattle.expression.specs.Checks.{shortCheck, rowTokens, rowChecks, recordChecks, recordNumber, repairNumber}
+use Rattle.expression.proofs.Cond.{by-cond}
+use Rattle.expression.proofs.Numbers.{passed-first, record-numbered}
+use Rattle.places.specs.Store.{slotBytes, held}
+use Rattle.places.proofs.Laws.{held-length}
+use Rattle.monitor.specs.Call.{Call, load, putRow, putRecord, drop, fetchRecord, fetchRow, image, repair}
+use Rattle.monitor.specs.Panel.{Panel, placeCheck, emptyCheck, inUseCheck, sheetChecks}
+use Rattle.monitor.specs.Steps.{operators, outcome, loadNumber, putRowNumber, putRecordNumber, dropNumber, fetchRecordNumber, fetchRowNumber, imageNumber}
+use Rattle.monitor.specs.Book.{bookNumber}
+use Rattle.monitor.specs.Run.{panelAfter, bookAfter}
+use Rattle.monitor.proofs.Stands.{same-number}
+use Rattle.monitor.proofs.Histories.{stands}
+use Rattle.hexadecimal.specs.Text.{bytesOf}
+use Rattle.frame.specs.Frames.{room, named, alone, callOf}
+use Rattle.frame.specs.Lines.{isLong, textCall, lineCall}
+use Rattle.frame.specs.Runs.{callsOf}
+use Rattle.frame.proofs.KindWays.{length-room}
+
+-- none of the checks is 10
+abbrev plain : List Check → Bool
+plain [] = true
+plain (c ∷ cs) = not (eqb (c .1) short) && plain cs
+
+-- Such checks give no 10, with others after them that give none where these are passed.
+no-short : (cs ds : List Check) → plain cs ≡ true → (first cs ≡ accepted → first ds ≡ short → ⊥) → first (cs ++ ds) ≡ short → ⊥
+no-short [] ds h f e = f refl e
+no-short (c ∷ cs) ds h f e = go (c .0) (eqb (c .1) short) refl (no-short cs ds) h f e
+  where
+    go : (b is : Bool) → eqb (c .1) short ≡ is → (plain cs ≡ true → (first cs ≡ accepted → first ds ≡ short → ⊥) → first (cs ++ ds) ≡ short → ⊥) → (not is && plain cs) ≡ true
+        → (cond b (c .1) (first cs) ≡ accepted → first ds ≡ short → ⊥) → cond b (c .1) (first (cs ++ ds)) ≡ short → ⊥
+    go b true q again h f e = absurd (true≢false (sym h))
+    go true false q again h f e = true≢false (sym (eq-eqb (c .1) short e) ∙ q)
+    go false false q again h f e = again h f e
+
+plain-only : (cs : List Check) → plain cs ≡ true → first (cs ++ []) ≡ short → ⊥
+plain-only cs h = no-short cs [] h (λ z e. omega arith)
+
+-- 10 comes last, and not where the answer has room.
+roomy : (cs : List Check) (answer : ℕ) → plain cs ≡ true → (first cs ≡ accepted → answer ≤ 256) → first (cs ++ (shortCheck answer (length room) ∷ [])) ≡ short → ⊥
+roomy cs answer h f = no-short cs (shortCheck answer (length room) ∷ []) h (λ z e. fits (f z) e)
+  where
+    fits : answer ≤ 256 → cond (ltb (length room) answer) short accepted ≡ short → ⊥
+    fits l e = let z : _≡_ {A = ℕ} 0 10 = ap (λ b. cond b 10 0) (sym (le-ltb (length room) answer (omega (arith, length-room)))) ∙ e in omega arith
+
+module _ (p : Panel) where
+  abbrev Fits : Option Call → Type 0
+  Fits none = Unit {0}
+  Fits (some c) = outcome p c .number ≡ short → ⊥
+
+  named-fits : (call : ℕ → List ℕ → Call) (rest : List ℕ) → ((x : ℕ) (l : List ℕ) → Fits (some (call x l))) → Fits (named call rest)
+  named-fits call [] h = tt
+  named-fits call (x ∷ l) h = h x l
+
+  alone-fits : (call : ℕ → Call) (rest : List ℕ) → ((x : ℕ) → Fits (some (call x))) → Fits (alone call rest)
+  alone-fits call [] h = tt
+  alone-fits call (x ∷ []) h = h x
+  alone-fits call (x ∷ y ∷ l) h = tt
+
+  kind-fits : (kind : ℕ) (rest : List ℕ) → Fits (callOf kind rest)
+  unfolding callOf loadNumber putRowNumber putRecordNumber dropNumber fetchRecordNumber fetchRowNumber imageNumber recordNumber repairNumber
+  kind-fits kind rest =
+      by-cond Fits (eqb kind 1) (λ _. named-fits load rest (λ m l. plain-only (sheetChecks m l ++ (inUseCheck m at ∷ [])) refl)) (λ _.
+      by-cond Fits (eqb kind 2) (λ _. named-fits putRow rest (λ k l. plain-only (placeCheck k ∷ rowChecks n l) refl)) (λ _.
+      by-cond Fits (eqb kind 3) (λ _. alone-fits drop rest (λ k. plain-only (placeCheck k ∷ emptyCheck (at k) ∷ []) refl)) (λ _.
+      by-cond Fits (eqb kind 4) (λ _. alone-fits (λ k. fetchRecord k room) rest record-fits) (λ _.
+      by-cond Fits (eqb kind 5) (λ _. alone-fits (λ k. fetchRow k room) rest row-fits) (λ _.
+      by-cond Fits (eqb kind 6) (λ _. named-fits putRecord rest (λ k l. plain-only (placeCheck k ∷ recordChecks n l) refl)) (λ _.
+      by-cond Fits (eqb kind 7) (λ _. plain-only (recordChecks n rest) refl) (λ _.
+      by-cond Fits (eqb kind 8) (λ _. repair-fits) (λ _.
+      by-cond Fits (eqb kind 9) (λ _. alone-fits (λ k. image k room) rest (λ k. roomy (placeCheck k ∷ []) slotBytes refl (λ z. omega arith))) (λ _. tt)))))))))
+    where
+      n : ℕ
+      n = operators p
+
+      at : ℕ → List ℕ
+      at k = held (p .places) k
+
+      record-fits : (k : ℕ) → Fits (some (fetchRecord k room))
+      record-fits k = roomy (placeCheck k ∷ emptyCheck (at k) ∷ []) (length (at k)) refl (λ z. omega (arith, held-length (p .places) k))
+
+      row-fits : (k : ℕ) → Fits (some (fetchRow k room))
+      row-fits k =
+          let cs = placeCheck k ∷ emptyCheck (at k) ∷ recordChecks n (at k) in
+          let tokens = rowTokens (treeOf (class n) (at k)) in
+          roomy cs tokens refl (λ z. omega (arith, ltb-false mostTokens tokens (passed-first cs (λ e. omega arith, (λ e. omega arith, record-numbered n (at k))) z .1 .1 .1 .1 .1 .0)))
+
+      repair-fits : Fits (some (repair rest room))
+      repair-fits =
+          roomy (recordChecks n rest) (length rest) refl
+          (λ z. omega (arith, ltb-false mostRecordBytes (length rest) (passed-first (recordChecks n rest) (record-numbered n rest) z .0)))
+
+  line-fits : (line : List ℕ) → Fits (lineCall line)
+  unfolding lineCall
+  line-fits line = by-cond Fits (isLong line) (λ _. tt) (λ _. go (bytesOf line))
+    where
+      go : (bytes : Option (List ℕ)) → Fits (textCall bytes)
+      go none = tt
+      go (some []) = tt
+      go (some (kind ∷ rest)) = kind-fits kind rest
+
+-- After a run of lines, no call that a line makes has the number 10.
+pub never-short : (lines : List (List ℕ)) (line : List ℕ) (c : Call) → lineCall line ≡ some c → bookNumber (bookAfter (callsOf lines)) c ≡ short → ⊥
+never-short lines line c e z =
+    let cs = callsOf lines in
+    subst (Fits (panelAfter cs)) e (line-fits (panelAfter cs) line) (same-number (panelAfter cs) (bookAfter cs) (stands cs) c ∙ z)

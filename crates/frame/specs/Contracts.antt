@@ -1,0 +1,62 @@
+-- What answering a frame and a line promise. Assumes nothing.
+use Prim.Native.Nat.{ℕ, _≤_}
+use mathlib.Core.Path.{_≡_}
+use mathlib.Core.Bool.{Bool, cond}
+use mathlib.Core.List.{List, [], _∷_}
+use mathlib.Core.Option.{Option, some}
+use lib.Dec.{ltb}
+use lib.ListN.{length}
+use Rattle.expression.specs.Lent.{outputAfter, lengthAfter}
+use Rattle.sheet.specs.declared.Sheet.{Sheet}
+use Rattle.monitor.specs.Call.{Call, judge}
+use Rattle.monitor.specs.Panel.{Panel}
+use Rattle.monitor.specs.Contracts.{panel}
+use Rattle.hexadecimal.specs.Text.{textOf, withFront}
+use Rattle.frame.specs.Frames.{frameNumber, frameAnswer, frameAfter}
+use Rattle.frame.specs.Lines.{lineReply, lineAfter}
+use Rattle.frame.specs.declared.kinds.Told.{Told}
+use Rattle.frame.specs.declared.Replied.{Replied}
+
+-- a call's number, how many answer bytes it gave, and the sheet in force after it
+abbrev pub told : (number length : ℕ) → Sheet → Told
+told number length sheet = record { number = number; length = length; sheet = sheet }
+
+-- The call of a frame was run: the output was `before` and became `after`, and the places became `places`.
+pub record Tells (p : Panel) (call : Option Call) (before after places : List ℕ) (r : Told) : Type 0 where
+  pub numbered : r .number ≡ frameNumber p call
+  pub measured : r .length ≡ lengthAfter (frameNumber p call) (frameAnswer p call)
+  pub output : after ≡ outputAfter (frameNumber p call) (frameAnswer p call) before
+  pub in-force : r .sheet ≡ frameAfter p call .sheet
+  pub stands : places ≡ frameAfter p call .places
+
+-- characters of the longest reply
+abbrev pub mostReply : ℕ
+mostReply = 514
+
+-- The judge call of a line, on a panel with this sheet and any places.
+pub record Judges (sheet : Sheet) (bytes before after : List ℕ) (r : Told) : Type 0 where
+  pub tells : (places : List ℕ) → Tells (panel sheet places) (some (judge bytes)) before after places r
+
+-- A number and an answer written as text: the output was `before` and became `after`, and r is the text's length.
+pub record Writes (number : ℕ) (answer before after : List ℕ) (r : ℕ) : Type 0 where
+  pub measured : r ≡ length (textOf (number ∷ answer))
+  pub output : after ≡ withFront (textOf (number ∷ answer)) before
+  pub inside : r ≤ mostReply
+
+-- an output without room for the longest reply: nothing is written, and the line is not run
+abbrev pub isShort : List ℕ → Bool
+isShort out = ltb (length out) mostReply
+
+abbrev pub text : Panel → (line out : List ℕ) → List ℕ
+text p line out = cond (isShort out) [] (lineReply p line)
+
+abbrev pub panelAfter : Panel → (line out : List ℕ) → Panel
+panelAfter p line out = cond (isShort out) p (lineAfter p line)
+
+-- A line was answered: the output was `before` and became `after`, and the places became `places`.
+pub record Replies (p : Panel) (line before after places : List ℕ) (r : Replied) : Type 0 where
+  pub measured : r .length ≡ length (text p line before)
+  pub output : after ≡ withFront (text p line before) before
+  pub in-force : r .sheet ≡ panelAfter p line before .sheet
+  pub stands : places ≡ panelAfter p line before .places
+  pub inside : r .length ≤ mostReply

@@ -1,0 +1,4 @@
+pub mod Frames
+pub mod Lines
+pub mod Contracts
+pub mod Runs

@@ -1,0 +1,37 @@
+-- Lines: the call that a line makes, the reply to it and the panel after it. Assumes nothing.
+use Prim.Native.Nat.{ℕ}
+use mathlib.Core.Bool.{Bool, cond}
+use mathlib.Core.List.{List, [], _∷_}
+use mathlib.Core.Option.{Option, none, some}
+use lib.Dec.{ltb}
+use lib.ListN.{length}
+use Rattle.expression.specs.Refusal.{oversize}
+use Rattle.monitor.specs.Call.{Call}
+use Rattle.monitor.specs.Panel.{Panel}
+use Rattle.hexadecimal.specs.Text.{bytesOf, textOf}
+use Rattle.line_io.specs.Lines.{mostCharacters}
+use Rattle.frame.specs.Frames.{frameCall, frameAfter, frameReply}
+
+-- a line over 12,292 characters
+abbrev pub isLong : List ℕ → Bool
+isLong line = ltb mostCharacters (length line)
+
+-- a line that is not made of digit pairs is no call
+abbrev pub textCall : Option (List ℕ) → Option Call
+textCall none = none
+textCall (some bytes) = frameCall bytes
+
+-- the call that a line makes; none where the line is refused with 1 or 12
+unfoldable pub lineCall : List ℕ → Option Call
+lineCall line = cond (isLong line) none (textCall (bytesOf line))
+
+-- A line tests 1, then 12, then the call's list.
+unfoldable pub lineBytes : Panel → List ℕ → List ℕ
+lineBytes p line = cond (isLong line) (oversize ∷ []) (frameReply p (textCall (bytesOf line)))
+
+-- the characters of the reply, without a line end
+unfoldable pub lineReply : Panel → List ℕ → List ℕ
+lineReply p line = textOf (lineBytes p line)
+
+unfoldable pub lineAfter : Panel → List ℕ → Panel
+lineAfter p line = frameAfter p (lineCall line)

@@ -1,0 +1,68 @@
+-- Runs of lines from the fresh panel, and the replies that document 01's book gives. A list of lines has the last one first. Assumes nothing.
+use Prim.Native.Nat.{ℕ}
+use mathlib.Core.Path.{_≡_}
+use mathlib.Core.Bool.{Bool, true, false}
+use mathlib.Core.List.{List, [], _∷_}
+use mathlib.Core.Option.{Option, none, some}
+use Rattle.expression.specs.Refusal.{oversize, frame}
+use Rattle.expression.specs.Tree.{Tree}
+use Rattle.disambiguation.specs.Conflicts.{conflictCount}
+use Rattle.monitor.specs.Call.{Call, load, loadList, putRow, putRecord, drop, fetchRecord, fetchRow, image, build, repair, judge, yield, operand}
+use Rattle.monitor.specs.Panel.{Panel, fresh}
+use Rattle.monitor.specs.Book.{Book, bookNumber}
+use Rattle.monitor.specs.Run.{bookAfter}
+use Rattle.monitor.specs.Promises.{Demand3}
+use Rattle.monitor.specs.Answers.{Records, Told, Valued}
+use Rattle.hexadecimal.specs.Text.{bytesOf, textOf}
+use Rattle.frame.specs.Lines.{isLong, textCall, lineCall, lineReply, lineAfter}
+
+-- each line gets the panel that the one before it left
+unfoldable pub panelAfterLines : List (List ℕ) → Panel
+panelAfterLines [] = fresh
+panelAfterLines (line ∷ lines) = lineAfter (panelAfterLines lines) line
+
+-- the calls that the lines make
+abbrev pub withCall : Option Call → List Call → List Call
+withCall none cs = cs
+withCall (some c) cs = c ∷ cs
+
+unfoldable pub callsOf : List (List ℕ) → List Call
+callsOf [] = []
+callsOf (line ∷ lines) = withCall (lineCall line) (callsOf lines)
+
+module _ (b : Book) where
+  -- the bytes that the book answers to an accepted call in a line
+  abbrev pub Said : Call → List ℕ → Type 0
+  Said (judge bytes) answer = (t : Tree) × Records b bytes t × (answer ≡ conflictCount (b .rules) t ∷ [])
+  Said (load n rules) answer = Told b (load n rules) answer
+  Said (loadList n rules) answer = Told b (loadList n rules) answer
+  Said (putRow k row) answer = Told b (putRow k row) answer
+  Said (putRecord k bytes) answer = Told b (putRecord k bytes) answer
+  Said (drop k) answer = Told b (drop k) answer
+  Said (fetchRecord k out) answer = Told b (fetchRecord k out) answer
+  Said (fetchRow k out) answer = Told b (fetchRow k out) answer
+  Said (image k out) answer = Told b (image k out) answer
+  Said (build row out) answer = Told b (build row out) answer
+  Said (repair bytes out) answer = Told b (repair bytes out) answer
+  Said (yield bytes out) answer = Told b (yield bytes out) answer
+  Said (operand right bytes) answer = Told b (operand right bytes) answer
+
+  -- the call's number, then on success those bytes
+  abbrev pub SaysFrame : Option Call → List ℕ → Type 0
+  SaysFrame none bytes = bytes ≡ frame ∷ []
+  SaysFrame (some c) bytes = (answer : List ℕ) × (bytes ≡ bookNumber b c ∷ answer) × Valued (bookNumber b c) (Said c) [] answer
+
+  abbrev pub SaysLine : (long : Bool) → List ℕ → List ℕ → Type 0
+  SaysLine true line bytes = bytes ≡ oversize ∷ []
+  SaysLine false line bytes = SaysFrame (textCall (bytesOf line)) bytes
+
+  -- The reply to a line is the book's.
+  abbrev pub Says : List ℕ → List ℕ → Type 0
+  Says line reply = (bytes : List ℕ) × SaysLine (isLong line) line bytes × (reply ≡ textOf bytes)
+
+-- After a run of lines, the last one first, from a fresh panel:
+pub record Demand3OfLines (lines : List (List ℕ)) : Type 0 where
+  -- demand 3 holds of the calls that the lines make;
+  pub demand : Demand3 (callsOf lines)
+  -- whatever line comes next, the reply is the one that the book gives.
+  pub answered : (line : List ℕ) → Says (bookAfter (callsOf lines)) line (lineReply (panelAfterLines lines) line)
