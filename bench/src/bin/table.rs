@@ -1,0 +1,94 @@
+//! Prints a table of nanoseconds a call: the proved panel, the fast one, and the ratio.
+use std::hint::black_box;
+use tihvomen::Refusal;
+use tihvomen_bench::cases::{records, rows, rules, Shape, SHAPES, TOKENS};
+use tihvomen_bench::fast::{self, Answer};
+use tihvomen_bench::timing::by_turns;
+
+/// The proved panel and the fast one, in the same state.
+struct Both {
+    proved: tihvomen::Panel,
+    fast: fast::Panel,
+}
+
+/// Times a call over the inputs and prints a line. Both panels must give the same first.
+fn line<T: PartialEq + std::fmt::Debug>(
+    name: &str,
+    inputs: &[Vec<u8>],
+    mut proved: impl FnMut(&[u8]) -> Result<T, Refusal>,
+    mut fast: impl FnMut(&[u8]) -> Result<T, u8>,
+) {
+    for input in inputs {
+        assert_eq!(proved(input).map_err(Refusal::number), fast(input), "{name}: {input:02x?}");
+    }
+    let (here, there) = by_turns(
+        inputs.len(),
+        || inputs.iter().for_each(|input| drop(black_box(proved(black_box(input))))),
+        || inputs.iter().for_each(|input| drop(black_box(fast(black_box(input))))),
+    );
+    println!("| {name} | {here:.0} | {there:.0} | {:.2} |", here / there);
+}
+
+/// The same for a call that writes an answer: the outputs must be the same too.
+fn written(
+    name: &str,
+    inputs: &[Vec<u8>],
+    proved: impl Fn(&[u8], &mut [u8]) -> Result<usize, Refusal>,
+    fast: impl Fn(&[u8], &mut [u8]) -> Answer,
+) {
+    let (mut one, mut other) = ([0; 300], [0; 300]);
+    for input in inputs {
+        let accepted = proved(input, &mut one).is_ok() && fast(input, &mut other).is_ok();
+        assert!(accepted && one == other, "{name}: {input:02x?}");
+    }
+    line(name, inputs, |input| proved(input, &mut one), |input| fast(input, &mut other));
+}
+
+fn load(both: &mut Both, name: &str, groups: u8) {
+    let Both { proved, fast } = both;
+    line(name, &[rules(groups)], |rules| proved.load(32, rules), |rules| fast.load(32, rules));
+}
+
+/// Build, repair, judge and yield.
+fn trees(both: &Both, size: &str, tokens: usize, shape: Shape) {
+    let Both { proved, fast } = both;
+    let (rows, records) = (rows(tokens, shape), records(tokens, shape));
+    written(&format!("build, {size}"), &rows, |row, out| proved.build_into(row, out), |row, out| fast.build(row, out));
+    let repair = |record: &[u8], out: &mut [u8]| proved.repair_into(record, out);
+    written(&format!("repair, {size}"), &records, repair, |record, out| fast.repair(record, out));
+    line(&format!("judge, {size}"), &records, |record| proved.judge(record), |record| fast.judge(record));
+    let yield_row = |record: &[u8], out: &mut [u8]| proved.yield_row_into(record, out);
+    written(&format!("yield, {size}"), &records, yield_row, |record, out| fast.yield_row(record, out));
+}
+
+/// Put and the two fetches; the places then hold sixteen rows.
+fn places(both: &mut Both, size: &str, tokens: usize, shape: Shape) {
+    let Both { proved, fast } = both;
+    let rows = rows(tokens, shape);
+    line(&format!("put row, {size}"), &rows, |row| proved.put_row(3, row), |row| fast.put_row(3, row));
+    for (place, row) in (0..16).zip(&rows) {
+        assert!(proved.put_row(place, row).is_ok() && fast.put_row(place, row).is_ok());
+    }
+    let places: Vec<Vec<u8>> = (0..16).map(|place| vec![place]).collect();
+    let fetch_record = |place: &[u8], out: &mut [u8]| proved.fetch_record_into(place[0], out);
+    written(&format!("fetch record, {size}"), &places, fetch_record, |place, out| fast.fetch_record(place[0], out));
+    let fetch_row = |place: &[u8], out: &mut [u8]| proved.fetch_row_into(place[0], out);
+    written(&format!("fetch row, {size}"), &places, fetch_row, |place, out| fast.fetch_row(place[0], out));
+    let image = |place: &[u8], out: &mut [u8]| proved.image_into(place[0], out);
+    written(&format!("image, {size}"), &places, image, |place, out| fast.image(place[0], out));
+}
+
+fn main() {
+    println!("| call | proved, ns | fast, ns | ratio |\n|---|---|---|---|");
+    let mut both = Both { proved: tihvomen::Panel::new(), fast: fast::Panel::default() };
+    load(&mut both, "load, 32 operators, 1,024 rules", 1);
+    load(&mut both, "load, 32 operators, 576 rules", 8);
+    for tokens in TOKENS {
+        for (shape_name, shape) in SHAPES {
+            let size = format!("{tokens} tokens, {shape_name}");
+            trees(&both, &size, tokens, shape);
+            places(&mut both, &size, tokens, shape);
+        }
+        load(&mut both, &format!("load, 576 rules, under sixteen trees of {tokens} tokens"), 8);
+    }
+}

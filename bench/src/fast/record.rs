@@ -1,0 +1,104 @@
+//! Records: each of check, count and row is one pass.
+use super::sheet::{Sheet, CLOSING, NONE, OPENING, STRANGE};
+
+/// How many tokens the record's row has, or 1, 3, 7 or 1.
+pub fn check(sheet: &Sheet, bytes: &[u8]) -> Result<usize, u8> {
+    if bytes.len() > 255 {
+        return Err(1);
+    }
+    // How many trees are still to come; below 1 too early is no tree.
+    let (mut need, mut lowest) = (1i32, 1);
+    let (mut strange, mut brackets) = (0, 0);
+    for &byte in bytes {
+        lowest = lowest.min(need);
+        strange |= sheet.class[usize::from(byte)] | (u8::from(byte == CLOSING) * STRANGE);
+        brackets += usize::from(byte == OPENING);
+        need += step(byte);
+    }
+    if strange & STRANGE != 0 {
+        return Err(3);
+    }
+    if need != 0 || lowest < 1 {
+        return Err(7);
+    }
+    if bytes.len() + brackets > 255 {
+        return Err(1);
+    }
+    Ok(bytes.len() + brackets)
+}
+
+/// How many trees more are to come after a byte: one for an operator, one less for a reading.
+#[inline]
+fn step(byte: u8) -> i32 {
+    i32::from(byte < OPENING) - i32::from(byte >= 0x80)
+}
+
+/// The conflict count of an accepted record: from the right end, with a stack of the trees' tops.
+pub fn conflicts(sheet: &Sheet, bytes: &[u8]) -> u8 {
+    let mut tops = [NONE as u8; 256];
+    let mut top = 0u8;
+    let mut count = 0;
+    for &byte in bytes.iter().rev() {
+        let operator = byte.min(NONE as u8);
+        let left = tops[usize::from(top)];
+        let right = tops[usize::from(top.wrapping_sub(1))];
+        // Both rows are 0 at NONE, and no row has bit NONE.
+        count += u64::from(sheet.open[usize::from(left)]) >> operator & 1;
+        count += u64::from(sheet.closes[usize::from(operator)]) >> right & 1;
+        top = top.wrapping_sub(step(byte) as u8);
+        tops[usize::from(top)] = operator;
+    }
+    count as u8
+}
+
+/// Writes the row of an accepted record at the front of `out`.
+pub fn write_row(bytes: &[u8], out: &mut [u8]) {
+    // What follows the operand that is being written: its operator, or a closing bracket.
+    let mut after = [0u8; 256];
+    let mut top = 0u8;
+    let mut at = 0;
+    for &byte in bytes {
+        if byte < OPENING {
+            top += 1;
+            after[usize::from(top)] = byte;
+            continue;
+        }
+        out[at] = byte;
+        at += 1;
+        if byte == OPENING {
+            top += 1;
+            after[usize::from(top)] = CLOSING;
+            continue;
+        }
+        while top > 0 {
+            let next = after[usize::from(top)];
+            top -= 1;
+            out[at] = next;
+            at += 1;
+            if next != CLOSING {
+                break;
+            }
+        }
+    }
+}
+
+/// The operand of an accepted record's top node.
+pub fn operand(bytes: &[u8], right: bool) -> &[u8] {
+    match (bytes[0], right) {
+        (0..OPENING, _) => {
+            let mut need = 1;
+            let past = bytes[1..].iter().position(|&byte| {
+                need += step(byte);
+                need == 0
+            });
+            let middle = 2 + past.unwrap_or(0);
+            if right {
+                &bytes[middle..]
+            } else {
+                &bytes[1..middle]
+            }
+        }
+        (OPENING, false) => &bytes[1..],
+        _ => &[],
+    }
+}

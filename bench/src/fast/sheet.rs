@@ -1,0 +1,91 @@
+//! Loading a sheet: two tables of bit rows, and the tests of them a word at a time.
+
+pub const OPENING: u8 = 0x20;
+pub const CLOSING: u8 = 0x21;
+
+/// No operator: stands for a reading or a bracket where a top is asked for.
+pub const NONE: usize = 32;
+
+// What a byte is, as bits that the row's and the record's checks add up.
+/// It stands where an operand begins.
+pub const BEGINS: u8 = 1;
+/// An operand begins after it.
+pub const ASKS: u8 = 2;
+/// It has no meaning under the sheet.
+pub const STRANGE: u8 = 4;
+
+/// Bit b of `closes[a]`: R(a,b) is excluded. Bit a of `open[b]`: L(a,b) is. Both are 0 at `NONE`.
+#[derive(Clone)]
+pub struct Sheet {
+    pub n: u8,
+    pub closes: [u32; 33],
+    pub open: [u32; 33],
+    pub class: [u8; 256],
+}
+
+impl Sheet {
+    pub fn fresh() -> Sheet {
+        Sheet { n: 0, closes: [0; 33], open: [0; 33], class: CLASSES }
+    }
+}
+
+const CLASSES: [u8; 256] = {
+    let mut class = [STRANGE; 256];
+    let mut byte = 0x80;
+    while byte < 256 {
+        class[byte] = BEGINS;
+        byte += 1;
+    }
+    class[OPENING as usize] = BEGINS | ASKS;
+    class[CLOSING as usize] = 0;
+    class
+};
+
+/// The sheet, or 1, 2, 3, 4 or 5.
+pub fn load(n: u8, rules: &[u8]) -> Result<Sheet, u8> {
+    if n > 32 || rules.len() > 6144 {
+        return Err(1);
+    }
+    if rules.len() % 3 != 0 {
+        return Err(2);
+    }
+    let mut sheet = Sheet { n, ..Sheet::fresh() };
+    let mut strange = false;
+    for rule in rules.chunks_exact(3) {
+        let (kind, a, b) = (rule[0], rule[1], rule[2]);
+        strange |= kind.wrapping_sub(1) > 2 || a >= n || b >= n;
+        sheet.closes[usize::from(a & 31)] |= u32::from(kind != 3) << (b & 31);
+        sheet.open[usize::from(b & 31)] |= u32::from(kind != 2) << (a & 31);
+    }
+    if strange {
+        return Err(3);
+    }
+    let all = ((1u64 << n) - 1) as u32;
+    let (closes, open) = (&sheet.closes[..usize::from(n)], &sheet.open[..usize::from(n)]);
+    let mut both = 0;
+    let mut either = all;
+    for (&closes, &open) in closes.iter().zip(open) {
+        both |= closes & open;
+        either &= closes | open;
+    }
+    if both != 0 {
+        return Err(4);
+    }
+    if either != all || !is_level(closes) {
+        return Err(5);
+    }
+    sheet.class[..usize::from(n)].fill(ASKS);
+    Ok(sheet)
+}
+
+/// If a closes before b, b's row lies within a's, else a's within b's.
+fn is_level(closes: &[u32]) -> bool {
+    let mut outside = 0;
+    for &of_a in closes {
+        for (b, &of_b) in closes.iter().enumerate() {
+            let inner = if of_a >> b & 1 == 1 { of_b } else { of_a };
+            outside |= (of_a ^ of_b) & inner;
+        }
+    }
+    outside == 0
+}

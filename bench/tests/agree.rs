@@ -1,0 +1,119 @@
+//! The fast panel gives the proved one's answers: numbers and whole outputs, call by call over many runs.
+use tihvomen_bench::fast;
+use tihvomen_bench::inputs::{any_tree, good_rules, perhaps_damaged, sheet};
+use tihvomen_bench::line::Lines;
+use tihvomen_bench::random::Random;
+
+/// A call to both panels with equal outputs; equal numbers, lengths and outputs after it.
+fn written(
+    random: &mut Random,
+    proved: impl FnOnce(&mut [u8]) -> Result<usize, tihvomen::Refusal>,
+    fast: impl FnOnce(&mut [u8]) -> fast::Answer,
+) {
+    let room = random.below(300);
+    let mut one = random.bytes(room);
+    let mut other = one.clone();
+    assert_eq!(proved(&mut one).map_err(|refusal| refusal.number()), fast(&mut other));
+    assert_eq!(one, other);
+}
+
+fn record(random: &mut Random, n: u8) -> Vec<u8> {
+    let record = any_tree(random, n).record();
+    perhaps_damaged(random, record)
+}
+
+fn row(random: &mut Random, n: u8) -> Vec<u8> {
+    let row = any_tree(random, n).row();
+    perhaps_damaged(random, row)
+}
+
+fn call(random: &mut Random, proved: &mut tihvomen::Panel, fast: &mut fast::Panel) {
+    let n = proved.operators();
+    let place = random.below(18) as u8;
+    let number = |refusal: tihvomen::Refusal| refusal.number();
+    match random.below(14) {
+        0 | 1 => {
+            let (n, rules) = if random.once_in(2) { sheet(random, n) } else { (n, good_rules(random, n)) };
+            assert_eq!(proved.load(n, &rules).map_err(number), fast.load(n, &rules));
+            for place in 0..16 {
+                written(random, |out| proved.fetch_record_into(place, out), |out| fast.fetch_record(place, out));
+            }
+        }
+        2 | 3 => {
+            let row = row(random, n);
+            assert_eq!(proved.put_row(place, &row).map_err(number), fast.put_row(place, &row));
+        }
+        4 | 5 => {
+            let record = record(random, n);
+            assert_eq!(proved.put_record(place, &record).map_err(number), fast.put_record(place, &record));
+        }
+        6 => assert_eq!(proved.drop_place(place).map_err(number), fast.drop_place(place)),
+        7 => written(random, |out| proved.fetch_row_into(place, out), |out| fast.fetch_row(place, out)),
+        8 => written(random, |out| proved.image_into(place, out), |out| fast.image(place, out)),
+        9 => {
+            let row = row(random, n);
+            written(random, |out| proved.build_into(&row, out), |out| fast.build(&row, out));
+        }
+        10 => {
+            let record = record(random, n);
+            written(random, |out| proved.repair_into(&record, out), |out| fast.repair(&record, out));
+        }
+        11 => {
+            let record = record(random, n);
+            written(random, |out| proved.yield_row_into(&record, out), |out| fast.yield_row(&record, out));
+        }
+        12 => {
+            let record = record(random, n);
+            assert_eq!(proved.judge(&record).map_err(number), fast.judge(&record));
+        }
+        _ => {
+            let record = record(random, n);
+            for (side, right) in [(tihvomen::Side::Left, false), (tihvomen::Side::Right, true)] {
+                assert_eq!(proved.operand(&record, side).map_err(number), fast.operand(&record, right));
+            }
+        }
+    }
+}
+
+#[test]
+fn the_fast_panel_agrees() {
+    for seed in 0..4000 {
+        let mut random = Random::new(seed);
+        let (mut proved, mut fast) = (tihvomen::Panel::new(), fast::Panel::default());
+        let n = random.below(33) as u8;
+        let rules = good_rules(&mut random, n);
+        assert_eq!((proved.load(n, &rules), fast.load(n, &rules)), (Ok(()), Ok(())));
+        for _ in 0..150 {
+            call(&mut random, &mut proved, &mut fast);
+        }
+    }
+}
+
+/// Every sheet over one and two operators.
+#[test]
+fn small_sheets_agree() {
+    for n in 1..=2u8 {
+        let pairs: Vec<[u8; 2]> = (0..n).flat_map(|a| (0..n).map(move |b| [a, b])).collect();
+        for code in 0..4usize.pow(pairs.len() as u32) {
+            let kinds = pairs.iter().enumerate().map(|(at, pair)| ((code >> (2 * at) & 3) as u8, pair));
+            let rules: Vec<u8> =
+                kinds.filter(|(kind, _)| *kind > 0).flat_map(|(kind, pair)| [kind, pair[0], pair[1]]).collect();
+            let proved = tihvomen::Panel::new().load(n, &rules).map_err(|refusal| refusal.number());
+            assert_eq!(proved, fast::Panel::default().load(n, &rules), "{n} {rules:02x?}");
+        }
+    }
+}
+
+/// The run that document 01 prints, and lines of a wrong length.
+#[test]
+fn lines_are_answered() {
+    let run = "0102010100020101020000 02038000810182 0403 0304 0102010001020101020000 0403";
+    let replies = "00 00 000080018182 09 00 000100808182";
+    let longest = "00".repeat(6146);
+    let wrong = ["", "0", "0403\r", "01", "02", "0400ff", "0a", "04FF", longest.as_str(), &format!("{longest}0")];
+    let mut lines = Lines::default();
+    let mut answered = Vec::new();
+    run.split(' ').chain(wrong).for_each(|line| lines.reply(line.as_bytes(), &mut answered));
+    let expected = format!("{replies} 0c 0c 0c 0c 0c 0c 0c 08 0c 01").replace(' ', "\n") + "\n";
+    assert_eq!(String::from_utf8(answered).unwrap(), expected);
+}

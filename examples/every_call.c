@@ -1,0 +1,106 @@
+/* Every call of panel.h once or more, against document 01's cases; also lengths of 0 with NULL. Silent if all is well. */
+#include "panel.h"
+
+#include <stdio.h>
+
+static int failures = 0;
+
+#define CHECK(what)                                                  \
+    do {                                                             \
+        if (!(what)) {                                               \
+            fprintf(stderr, "every_call.c:%d: %s\n", __LINE__, #what); \
+            failures++;                                              \
+        }                                                            \
+    } while (0)
+
+static const uint8_t sheet_a[] = {1, 1, 0, 2, 1, 1, 2, 0, 0};
+static const uint8_t row[] = {0x20, 0x80, 0x00, 0x81, 0x21, 0x01, 0x82};
+static const uint8_t record[] = {0x01, 0x20, 0x00, 0x80, 0x81, 0x82};
+
+/* The number is the one given, and the output's bytes are all 0xEE still. */
+static bool untouched(struct panel_answer answer, enum panel_number number, const uint8_t *out, size_t room) {
+    for (size_t i = 0; i < room; i++)
+        if (out[i] != 0xEE)
+            return false;
+    return answer.number == number && answer.length == 0;
+}
+
+/* The answer is these bytes, and the output past them is 0xEE still. */
+static bool wrote(struct panel_answer answer, const uint8_t *bytes, size_t length, uint8_t *out, size_t room) {
+    bool right = answer.number == PANEL_ACCEPTED && answer.length == length && memcmp(out, bytes, length) == 0;
+    for (size_t i = length; i < room; i++)
+        right = right && out[i] == 0xEE;
+    memset(out, 0xEE, room);
+    return right;
+}
+
+static void check_trees(const struct panel *p, uint8_t *out) {
+    static const uint8_t torn[] = {0x01, 0x00, 0x80, 0x81, 0x82};
+    static const uint8_t repaired[] = {0x00, 0x80, 0x01, 0x81, 0x82};
+    CHECK(wrote(panel_build(p, row, sizeof row, out, 300), record, sizeof record, out, 300));
+    CHECK(wrote(panel_build(p, row, sizeof row, out, sizeof record), record, sizeof record, out, 300));
+    CHECK(untouched(panel_build(p, row, sizeof row, out, sizeof record - 1), PANEL_SHORT, out, 300));
+    CHECK(untouched(panel_build(p, NULL, 0, out, 300), PANEL_NO_ROW, out, 300));
+    CHECK(panel_build(p, row, sizeof row, NULL, 0).number == PANEL_SHORT);
+    CHECK(wrote(panel_repair(p, torn, sizeof torn, out, 300), repaired, sizeof repaired, out, 300));
+    CHECK(untouched(panel_repair(p, NULL, 0, NULL, 0), PANEL_NO_TREE, out, 300));
+    CHECK(wrote(panel_yield(p, record, sizeof record, out, 300), row, sizeof row, out, 300));
+    CHECK(untouched(panel_yield(p, record, sizeof record, out, 6), PANEL_SHORT, out, 300));
+    CHECK(panel_judge(p, torn, sizeof torn).number == PANEL_ACCEPTED);
+    CHECK(panel_judge(p, torn, sizeof torn).count == 1);
+    CHECK(panel_judge(p, row, sizeof row).number == PANEL_STRANGER);
+    CHECK(panel_judge(p, NULL, 0).number == PANEL_NO_TREE);
+}
+
+static void check_operands(const struct panel *p) {
+    struct panel_operand left = panel_operand(p, record, sizeof record, PANEL_LEFT_SIDE);
+    struct panel_operand right = panel_operand(p, record, sizeof record, PANEL_RIGHT_SIDE);
+    CHECK(left.number == PANEL_ACCEPTED && left.offset == 1 && left.length == 4);
+    CHECK(right.number == PANEL_ACCEPTED && right.offset == 5 && right.length == 1);
+    left = panel_operand(p, record + 1, 4, PANEL_LEFT_SIDE);
+    right = panel_operand(p, record + 1, 4, PANEL_RIGHT_SIDE);
+    CHECK(left.number == PANEL_ACCEPTED && left.offset == 1 && left.length == 3);
+    CHECK(right.number == PANEL_ACCEPTED && right.length == 0);
+    left = panel_operand(p, record, sizeof record - 1, PANEL_LEFT_SIDE);
+    CHECK(left.number == PANEL_NO_TREE && left.length == 0);
+    CHECK(panel_operand(p, NULL, 0, PANEL_RIGHT_SIDE).number == PANEL_NO_TREE);
+}
+
+static void check_places(struct panel *p, uint8_t *out) {
+    uint8_t image[PANEL_IMAGE_BYTES] = {sizeof record};
+    memcpy(image + 1, record, sizeof record);
+    CHECK(panel_put_row(p, 16, row, sizeof row) == PANEL_PLACE);
+    CHECK(panel_put_row(p, 15, NULL, 0) == PANEL_NO_ROW);
+    CHECK(panel_put_row(p, 15, row, sizeof row) == PANEL_ACCEPTED);
+    CHECK(panel_put_record(p, 0, record, sizeof record) == PANEL_ACCEPTED);
+    CHECK(panel_put_record(p, 0, NULL, 0) == PANEL_NO_TREE);
+    CHECK(wrote(panel_fetch_record(p, 15, out, 300), record, sizeof record, out, 300));
+    CHECK(wrote(panel_fetch_row(p, 0, out, 300), row, sizeof row, out, 300));
+    CHECK(untouched(panel_fetch_record(p, 15, out, 5), PANEL_SHORT, out, 300));
+    CHECK(untouched(panel_fetch_row(p, 0, NULL, 0), PANEL_SHORT, out, 300));
+    CHECK(wrote(panel_image(p, 15, out, 300), image, sizeof image, out, 300));
+    CHECK(untouched(panel_image(p, 15, out, 255), PANEL_SHORT, out, 300));
+    CHECK(panel_load(p, 1, NULL, 0) == PANEL_DOUBLE);
+    CHECK(panel_load(p, 0, NULL, 0) == PANEL_IN_USE);
+    CHECK(panel_drop(p, 15) == PANEL_ACCEPTED && panel_drop(p, 15) == PANEL_EMPTY);
+    CHECK(panel_drop(p, 0) == PANEL_ACCEPTED && panel_drop(p, 255) == PANEL_PLACE);
+    CHECK(untouched(panel_fetch_row(p, 0, out, 300), PANEL_EMPTY, out, 300));
+}
+
+int main(void) {
+    struct panel p;
+    uint8_t out[300];
+    memset(out, 0xEE, sizeof out);
+    panel_fresh(&p);
+    CHECK(panel_load(&p, 33, NULL, 0) == PANEL_OVERSIZE);
+    CHECK(panel_load(&p, 2, sheet_a, 8) == PANEL_TORN);
+    CHECK(panel_load(&p, 1, sheet_a, sizeof sheet_a) == PANEL_STRANGER);
+    CHECK(panel_load(&p, 2, sheet_a, sizeof sheet_a) == PANEL_ACCEPTED);
+    check_trees(&p, out);
+    check_operands(&p);
+    check_places(&p, out);
+    CHECK(panel_load(&p, 0, NULL, 0) == PANEL_ACCEPTED);
+    for (int number = PANEL_ACCEPTED; number <= PANEL_FRAME; number++)
+        CHECK(strncmp(panel_word((enum panel_number)number), "unknown", 7) != 0);
+    return failures != 0;
+}

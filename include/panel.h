@@ -1,0 +1,192 @@
+/*
+ * The condition panel for C99 and C++: an operator sheet and sixteen places, each empty or holding one tree.
+ *
+ * Link with target/staticlib/libcapi.a, which `rt staticlib capi` makes; it needs memcpy and memset and nothing else.
+ *
+ * What holds of every call:
+ *  - It takes any bytes and ends. It has no state but the panel, and allocates nothing.
+ *  - It answers a number: 0, or the first refusal that applies, in the order named with the call.
+ *  - After a refusal the panel and the lent output are as they were.
+ *  - After success the output past the answer's length is as it was.
+ *  - A pointer of length 0 may be NULL. The parts lent to one call must not overlap each other or the panel.
+ *
+ * A token is one byte: 00 to 1F an operator, 20 and 21 the brackets, 80 to FF a reading. A row is a list of tokens that
+ * is one expression. A record lists a tree top first: a reading; or 20 and one tree; or an operator, its left tree, its
+ * right tree.
+ */
+#ifndef TIHVOMEN_PANEL_H
+#define TIHVOMEN_PANEL_H
+
+#include "panel_exports.h"
+#include "panel_numbers.h"
+
+#include <string.h>
+
+enum {
+    PANEL_PLACES = 16,       /* places 0 to 15 */
+    PANEL_MOST_TOKENS = 255, /* room for every row and every record */
+    PANEL_IMAGE_BYTES = 256  /* the length of an image */
+};
+
+/* The kind of a rule, its first byte; the operators a and b are its second and third. */
+enum panel_rule_kind {
+    PANEL_PRIORITY = 1, /* a over b: b is not the top of a's left operand, nor of its right one */
+    PANEL_LEFT = 2,     /* a left b: b is not the top of a's right operand */
+    PANEL_RIGHT = 3     /* a right b: b is not the top of a's left operand */
+};
+
+/* The operand that is asked for. */
+enum panel_side {
+    PANEL_LEFT_SIDE = 0,
+    PANEL_RIGHT_SIDE = 1
+};
+
+/*
+ * A panel: the sheet in force and the sixteen places. All zero bytes are a fresh panel. It may be copied like any struct.
+ * Only the calls write it. Bytes that no call made also get one fixed answer, and the call still ends.
+ */
+struct panel {
+    struct panel_sheet sheet;
+    uint8_t places[4096];
+};
+
+/* A fresh panel, as in `struct panel p = PANEL_FRESH;` */
+#define PANEL_FRESH {{0, {0}}, {0}}
+
+/* The number of a call that writes an answer, and the answer's length; 0 after a refusal. */
+struct panel_answer {
+    enum panel_number number;
+    size_t length;
+};
+
+/* The number of a record, and the conflict count of its tree; 0 after a refusal. */
+struct panel_judgement {
+    enum panel_number number;
+    uint8_t count;
+};
+
+/* The number of a record, and where an operand stands in it. The length is 0 after a refusal and where there is none. */
+struct panel_operand {
+    enum panel_number number;
+    size_t offset;
+    size_t length;
+};
+
+/* An address for a list that is read: not NULL where its length is 0. */
+static inline const uint8_t *panel_from(const uint8_t *bytes, size_t length) {
+    return length == 0 ? (const uint8_t *)"" : bytes;
+}
+
+/* The same for one that is written. */
+static inline uint8_t *panel_into(uint8_t *out, size_t room, uint8_t *spare) {
+    return room == 0 ? spare : out;
+}
+
+static inline struct panel_answer panel_answered(struct panel_raw_answer raw) {
+    struct panel_answer answer;
+    answer.number = (enum panel_number)raw.number;
+    answer.length = raw.length;
+    return answer;
+}
+
+/* The panel is fresh: no operators, no rules, sixteen empty places. */
+static inline void panel_fresh(struct panel *p) {
+    memset(p, 0, sizeof *p);
+}
+
+/*
+ * The sheet of n operators and the rules, three bytes each, replaces the old one, and every held tree becomes the
+ * conflict-free tree of its row under the new one. Then every row of any length over the n operators has exactly one
+ * conflict-free tree. Numbers: 1, 2, 3, 4, 5, 11.
+ */
+static inline enum panel_number panel_load(struct panel *p, uint8_t n, const uint8_t *rules, size_t length) {
+    struct panel_raw_loaded loaded = tihvomen_load(p->sheet, p->places, n, panel_from(rules, length), length);
+    p->sheet = loaded.sheet;
+    return (enum panel_number)loaded.number;
+}
+
+/* The place holds the conflict-free tree of the row. Numbers: 8, 1, 3, 6. */
+static inline enum panel_number panel_put_row(struct panel *p, uint8_t place, const uint8_t *row, size_t length) {
+    return (enum panel_number)tihvomen_put_row(p->sheet, p->places, place, panel_from(row, length), length);
+}
+
+/* The place holds the conflict-free tree of the record's row. Numbers: 8, 1, 3, 7, 1. */
+static inline enum panel_number panel_put_record(struct panel *p, uint8_t place, const uint8_t *record, size_t length) {
+    return (enum panel_number)tihvomen_put_record(p->sheet, p->places, place, panel_from(record, length), length);
+}
+
+/* The place is empty afterwards. Numbers: 8, 9. */
+static inline enum panel_number panel_drop(struct panel *p, uint8_t place) {
+    return (enum panel_number)tihvomen_drop(p->places, place);
+}
+
+/* Writes the record of the tree that the place holds. Numbers: 8, 9, 10. */
+static inline struct panel_answer panel_fetch_record(const struct panel *p, uint8_t place, uint8_t *out, size_t room) {
+    uint8_t spare = 0;
+    return panel_answered(tihvomen_fetch_record(p->places, place, panel_into(out, room, &spare), room));
+}
+
+/* Writes the row of the tree that the place holds: the row last put there. Numbers: 8, 9, 10. */
+static inline struct panel_answer panel_fetch_row(const struct panel *p, uint8_t place, uint8_t *out, size_t room) {
+    uint8_t spare = 0;
+    return panel_answered(tihvomen_fetch_row(p->sheet, p->places, place, panel_into(out, room, &spare), room));
+}
+
+/* Writes 256 bytes: record length, record, then 00; all 00 when the place is empty. Numbers: 8, 10. */
+static inline struct panel_answer panel_image(const struct panel *p, uint8_t place, uint8_t *out, size_t room) {
+    uint8_t spare = 0;
+    return panel_answered(tihvomen_image(p->places, place, panel_into(out, room, &spare), room));
+}
+
+/* Writes the record of the row's conflict-free tree. Numbers: 1, 3, 6, 10. */
+static inline struct panel_answer panel_build(
+    const struct panel *p, const uint8_t *row, size_t length, uint8_t *out, size_t room) {
+    uint8_t spare = 0;
+    const uint8_t *from = panel_from(row, length);
+    return panel_answered(tihvomen_build(p->sheet, from, length, panel_into(out, room, &spare), room));
+}
+
+/*
+ * Writes the record of the conflict-free tree of the record's row; it is as long as the record. Two records repair to
+ * the same bytes exactly when their rows are the same. Numbers: 1, 3, 7, 1, 10.
+ */
+static inline struct panel_answer panel_repair(
+    const struct panel *p, const uint8_t *record, size_t length, uint8_t *out, size_t room) {
+    uint8_t spare = 0;
+    const uint8_t *from = panel_from(record, length);
+    return panel_answered(tihvomen_repair(p->sheet, from, length, panel_into(out, room, &spare), room));
+}
+
+/* Writes the row of the record's tree. Numbers: 1, 3, 7, 1, 10. */
+static inline struct panel_answer panel_yield(
+    const struct panel *p, const uint8_t *record, size_t length, uint8_t *out, size_t room) {
+    uint8_t spare = 0;
+    const uint8_t *from = panel_from(record, length);
+    return panel_answered(tihvomen_yield(p->sheet, from, length, panel_into(out, room, &spare), room));
+}
+
+/* Counts the pairs of a node and a side in the record's tree that show an excluded pattern. Numbers: 1, 3, 7, 1. */
+static inline struct panel_judgement panel_judge(const struct panel *p, const uint8_t *record, size_t length) {
+    struct panel_raw_judgement raw = tihvomen_judge(p->sheet, panel_from(record, length), length);
+    struct panel_judgement judgement;
+    judgement.number = (enum panel_number)raw.number;
+    judgement.count = raw.count;
+    return judgement;
+}
+
+/*
+ * Finds the record of an operand of the top node: that part of the caller's record, not copied. A bracket's tree counts
+ * as its left operand. Numbers: 1, 3, 7, 1.
+ */
+static inline struct panel_operand panel_operand(
+    const struct panel *p, const uint8_t *record, size_t length, enum panel_side side) {
+    const uint8_t *from = panel_from(record, length);
+    struct panel_raw_part part = tihvomen_operand(p->sheet, from, length, side == PANEL_RIGHT_SIDE);
+    struct panel_operand operand;
+    operand.number = (enum panel_number)tihvomen_operand_number(p->sheet, from, length);
+    operand.offset = part.from;
+    operand.length = part.to - part.from;
+    return operand;
+}
+
+#endif

@@ -1,0 +1,142 @@
+//! The linked functions. Unsafe code stands here and nowhere else.
+//!
+//! A slice goes over as address and length; a Rust slice's address is never null. The structs are laid out as in C.
+#![allow(unsafe_code)]
+
+/// The sheet in force. All zero is the fresh panel's.
+#[derive(Clone, Copy, PartialEq, Eq)]
+#[repr(C)]
+pub struct Sheet {
+    pub n: u8,
+    pub closes: [u32; 32],
+}
+
+pub type Places = [u8; 4096];
+
+#[repr(C)]
+pub struct Loaded {
+    pub number: u8,
+    pub sheet: Sheet,
+}
+
+#[repr(C)]
+pub struct Answer {
+    pub number: u8,
+    pub length: usize,
+}
+
+#[repr(C)]
+pub struct Judgement {
+    pub number: u8,
+    pub count: u8,
+}
+
+#[repr(C)]
+pub struct Part {
+    pub from: usize,
+    pub to: usize,
+}
+
+mod exports {
+    use super::{Answer, Judgement, Loaded, Part, Places, Sheet};
+
+    extern "C" {
+        pub fn tihvomen_load(sheet: Sheet, places: &mut Places, n: u8, rules: *const u8, length: usize) -> Loaded;
+        pub fn tihvomen_put_row(sheet: Sheet, places: &mut Places, place: u8, row: *const u8, length: usize) -> u8;
+        pub fn tihvomen_put_record(
+            sheet: Sheet,
+            places: &mut Places,
+            place: u8,
+            record: *const u8,
+            length: usize,
+        ) -> u8;
+        pub fn tihvomen_drop(places: &mut Places, place: u8) -> u8;
+        pub fn tihvomen_fetch_record(places: &Places, place: u8, out: *mut u8, room: usize) -> Answer;
+        pub fn tihvomen_fetch_row(sheet: Sheet, places: &Places, place: u8, out: *mut u8, room: usize) -> Answer;
+        pub fn tihvomen_image(places: &Places, place: u8, out: *mut u8, room: usize) -> Answer;
+        pub fn tihvomen_build(sheet: Sheet, row: *const u8, length: usize, out: *mut u8, room: usize) -> Answer;
+        pub fn tihvomen_repair(sheet: Sheet, record: *const u8, length: usize, out: *mut u8, room: usize) -> Answer;
+        pub fn tihvomen_judge(sheet: Sheet, record: *const u8, length: usize) -> Judgement;
+        pub fn tihvomen_yield(sheet: Sheet, record: *const u8, length: usize, out: *mut u8, room: usize) -> Answer;
+        pub fn tihvomen_operand_number(sheet: Sheet, record: *const u8, length: usize) -> u8;
+        pub fn tihvomen_operand(sheet: Sheet, record: *const u8, length: usize, right: bool) -> Part;
+    }
+}
+
+#[inline]
+pub fn load(sheet: Sheet, places: &mut Places, n: u8, rules: &[u8]) -> Loaded {
+    // SAFETY: `rules` is read within its length; `places` is ours alone meanwhile.
+    unsafe { exports::tihvomen_load(sheet, places, n, rules.as_ptr(), rules.len()) }
+}
+
+#[inline]
+pub fn put_row(sheet: Sheet, places: &mut Places, place: u8, row: &[u8]) -> u8 {
+    // SAFETY: `row` is read within its length; `places` is ours alone meanwhile.
+    unsafe { exports::tihvomen_put_row(sheet, places, place, row.as_ptr(), row.len()) }
+}
+
+#[inline]
+pub fn put_record(sheet: Sheet, places: &mut Places, place: u8, record: &[u8]) -> u8 {
+    // SAFETY: `record` is read within its length; `places` is ours alone meanwhile.
+    unsafe { exports::tihvomen_put_record(sheet, places, place, record.as_ptr(), record.len()) }
+}
+
+#[inline]
+pub fn drop_place(places: &mut Places, place: u8) -> u8 {
+    // SAFETY: `places` is ours alone meanwhile.
+    unsafe { exports::tihvomen_drop(places, place) }
+}
+
+#[inline]
+pub fn fetch_record(places: &Places, place: u8, out: &mut [u8]) -> Answer {
+    // SAFETY: `out` is written within its length.
+    unsafe { exports::tihvomen_fetch_record(places, place, out.as_mut_ptr(), out.len()) }
+}
+
+#[inline]
+pub fn fetch_row(sheet: Sheet, places: &Places, place: u8, out: &mut [u8]) -> Answer {
+    // SAFETY: `out` is written within its length.
+    unsafe { exports::tihvomen_fetch_row(sheet, places, place, out.as_mut_ptr(), out.len()) }
+}
+
+#[inline]
+pub fn image(places: &Places, place: u8, out: &mut [u8]) -> Answer {
+    // SAFETY: `out` is written within its length.
+    unsafe { exports::tihvomen_image(places, place, out.as_mut_ptr(), out.len()) }
+}
+
+#[inline]
+pub fn build(sheet: Sheet, row: &[u8], out: &mut [u8]) -> Answer {
+    // SAFETY: `row` is read and `out` written within their lengths; they do not overlap.
+    unsafe { exports::tihvomen_build(sheet, row.as_ptr(), row.len(), out.as_mut_ptr(), out.len()) }
+}
+
+#[inline]
+pub fn repair(sheet: Sheet, record: &[u8], out: &mut [u8]) -> Answer {
+    // SAFETY: `record` is read and `out` written within their lengths; they do not overlap.
+    unsafe { exports::tihvomen_repair(sheet, record.as_ptr(), record.len(), out.as_mut_ptr(), out.len()) }
+}
+
+#[inline]
+pub fn judge(sheet: Sheet, record: &[u8]) -> Judgement {
+    // SAFETY: `record` is read within its length.
+    unsafe { exports::tihvomen_judge(sheet, record.as_ptr(), record.len()) }
+}
+
+#[inline]
+pub fn yield_row(sheet: Sheet, record: &[u8], out: &mut [u8]) -> Answer {
+    // SAFETY: `record` is read and `out` written within their lengths; they do not overlap.
+    unsafe { exports::tihvomen_yield(sheet, record.as_ptr(), record.len(), out.as_mut_ptr(), out.len()) }
+}
+
+#[inline]
+pub fn operand_number(sheet: Sheet, record: &[u8]) -> u8 {
+    // SAFETY: `record` is read within its length.
+    unsafe { exports::tihvomen_operand_number(sheet, record.as_ptr(), record.len()) }
+}
+
+#[inline]
+pub fn operand(sheet: Sheet, record: &[u8], right: bool) -> Part {
+    // SAFETY: `record` is read within its length.
+    unsafe { exports::tihvomen_operand(sheet, record.as_ptr(), record.len(), right) }
+}

@@ -1,0 +1,178 @@
+//! The panel and its calls.
+use crate::linked::{self, Answer, Places, Sheet};
+use crate::refusal::Refusal;
+use std::fmt;
+
+/// Places are numbered from 0 up to this.
+pub const PLACES: u8 = 16;
+
+/// Room for every row and every record.
+pub const MOST_TOKENS: usize = 255;
+
+/// The length of an image.
+pub const IMAGE_BYTES: usize = 256;
+
+/// The operand that is asked for.
+#[derive(Clone, Copy, Debug, PartialEq, Eq)]
+pub enum Side {
+    /// The left operand; a bracket's only tree counts as it.
+    Left,
+    /// The right operand.
+    Right,
+}
+
+/// The sheet in force and sixteen places.
+#[derive(Clone, PartialEq, Eq)]
+pub struct Panel {
+    sheet: Sheet,
+    places: Places,
+}
+
+impl Panel {
+    /// A fresh panel: no operators, no rules, sixteen empty places.
+    pub const fn new() -> Panel {
+        Panel { sheet: Sheet { n: 0, closes: [0; 32] }, places: [0; 4096] }
+    }
+
+    /// How many operators the sheet in force has.
+    #[inline]
+    pub fn operators(&self) -> u8 {
+        self.sheet.n
+    }
+
+    /// The sheet of `n` operators and the rules, three bytes each, replaces the old one, and every held tree becomes the
+    /// conflict-free tree of its row under the new one. Refusals, the first that applies: 1, 2, 3, 4, 5, 11.
+    #[inline]
+    pub fn load(&mut self, n: u8, rules: &[u8]) -> Result<(), Refusal> {
+        let loaded = linked::load(self.sheet, &mut self.places, n, rules);
+        self.sheet = loaded.sheet;
+        Refusal::check(loaded.number)
+    }
+
+    /// The place holds the conflict-free tree of the row. Refusals: 8, 1, 3, 6.
+    #[inline]
+    pub fn put_row(&mut self, place: u8, row: &[u8]) -> Result<(), Refusal> {
+        Refusal::check(linked::put_row(self.sheet, &mut self.places, place, row))
+    }
+
+    /// The place holds the conflict-free tree of the record's row. Refusals: 8, 1, 3, 7, 1.
+    #[inline]
+    pub fn put_record(&mut self, place: u8, record: &[u8]) -> Result<(), Refusal> {
+        Refusal::check(linked::put_record(self.sheet, &mut self.places, place, record))
+    }
+
+    /// The place is empty afterwards. Refusals: 8, 9.
+    #[inline]
+    pub fn drop_place(&mut self, place: u8) -> Result<(), Refusal> {
+        Refusal::check(linked::drop_place(&mut self.places, place))
+    }
+
+    /// The record of the tree that the place holds. Refusals: 8, 9.
+    pub fn fetch_record(&self, place: u8) -> Result<Vec<u8>, Refusal> {
+        gathered(|out| self.fetch_record_into(place, out))
+    }
+
+    /// The same at the front of a lent output; answers its length. Refusals: 8, 9, 10.
+    #[inline]
+    pub fn fetch_record_into(&self, place: u8, out: &mut [u8]) -> Result<usize, Refusal> {
+        length(linked::fetch_record(&self.places, place, out))
+    }
+
+    /// The row of the tree that the place holds. Refusals: 8, 9.
+    pub fn fetch_row(&self, place: u8) -> Result<Vec<u8>, Refusal> {
+        gathered(|out| self.fetch_row_into(place, out))
+    }
+
+    /// The same at the front of a lent output; answers its length. Refusals: 8, 9, 10.
+    #[inline]
+    pub fn fetch_row_into(&self, place: u8, out: &mut [u8]) -> Result<usize, Refusal> {
+        length(linked::fetch_row(self.sheet, &self.places, place, out))
+    }
+
+    /// The image of the place: record length, record, then 00; all 00 when empty. Refusal: 8.
+    pub fn image(&self, place: u8) -> Result<[u8; IMAGE_BYTES], Refusal> {
+        let mut image = [0; IMAGE_BYTES];
+        self.image_into(place, &mut image).map(|_| image)
+    }
+
+    /// The same at the front of a lent output; answers its length. Refusals: 8, 10.
+    #[inline]
+    pub fn image_into(&self, place: u8, out: &mut [u8]) -> Result<usize, Refusal> {
+        length(linked::image(&self.places, place, out))
+    }
+
+    /// The record of the row's conflict-free tree. Refusals: 1, 3, 6.
+    pub fn build(&self, row: &[u8]) -> Result<Vec<u8>, Refusal> {
+        gathered(|out| self.build_into(row, out))
+    }
+
+    /// The same at the front of a lent output; answers its length. Refusals: 1, 3, 6, 10.
+    #[inline]
+    pub fn build_into(&self, row: &[u8], out: &mut [u8]) -> Result<usize, Refusal> {
+        length(linked::build(self.sheet, row, out))
+    }
+
+    /// The record of the conflict-free tree of the record's row. Refusals: 1, 3, 7, 1.
+    pub fn repair(&self, record: &[u8]) -> Result<Vec<u8>, Refusal> {
+        gathered(|out| self.repair_into(record, out))
+    }
+
+    /// The same at the front of a lent output; answers its length. Refusals: 1, 3, 7, 1, 10.
+    #[inline]
+    pub fn repair_into(&self, record: &[u8], out: &mut [u8]) -> Result<usize, Refusal> {
+        length(linked::repair(self.sheet, record, out))
+    }
+
+    /// The conflict count: how many pairs of a node and a side show an excluded pattern. Refusals: 1, 3, 7, 1.
+    #[inline]
+    pub fn judge(&self, record: &[u8]) -> Result<u8, Refusal> {
+        let judgement = linked::judge(self.sheet, record);
+        Refusal::check(judgement.number).map(|()| judgement.count)
+    }
+
+    /// The row of the record's tree. Refusals: 1, 3, 7, 1.
+    pub fn yield_row(&self, record: &[u8]) -> Result<Vec<u8>, Refusal> {
+        gathered(|out| self.yield_row_into(record, out))
+    }
+
+    /// The same at the front of a lent output; answers its length. Refusals: 1, 3, 7, 1, 10.
+    #[inline]
+    pub fn yield_row_into(&self, record: &[u8], out: &mut [u8]) -> Result<usize, Refusal> {
+        length(linked::yield_row(self.sheet, record, out))
+    }
+
+    /// The record of an operand of the top node, as that part of `record`; empty where the top node has no such operand.
+    /// Refusals: 1, 3, 7, 1.
+    #[inline]
+    pub fn operand<'a>(&self, record: &'a [u8], side: Side) -> Result<&'a [u8], Refusal> {
+        Refusal::check(linked::operand_number(self.sheet, record))?;
+        let part = linked::operand(self.sheet, record, side == Side::Right);
+        Ok(&record[part.from..part.to])
+    }
+}
+
+impl Default for Panel {
+    fn default() -> Panel {
+        Panel::new()
+    }
+}
+
+impl fmt::Debug for Panel {
+    /// The number of operators and the records held.
+    fn fmt(&self, to: &mut fmt::Formatter<'_>) -> fmt::Result {
+        let held = (0..PLACES).filter_map(|place| Some((place, self.fetch_record(place).ok()?)));
+        to.debug_struct("Panel").field("operators", &self.operators()).field("held", &held.collect::<Vec<_>>()).finish()
+    }
+}
+
+/// A call's answer as a result.
+#[inline]
+fn length(answer: Answer) -> Result<usize, Refusal> {
+    Refusal::check(answer.number).map(|()| answer.length)
+}
+
+/// The answer of a call that writes at most as much as a row or a record has.
+fn gathered(call: impl FnOnce(&mut [u8]) -> Result<usize, Refusal>) -> Result<Vec<u8>, Refusal> {
+    let mut out = [0; MOST_TOKENS];
+    call(&mut out).map(|length| out[..length].to_vec())
+}

@@ -1,0 +1,109 @@
+//! The numbers of a turned-down call, as an enum.
+use std::error::Error;
+use std::fmt;
+
+/// Why a call was turned down. The value of a case is its number in document 01.
+#[derive(Clone, Copy, Debug, PartialEq, Eq, Hash, PartialOrd, Ord)]
+#[repr(u8)]
+pub enum Refusal {
+    /// n over 32; over 6,144 rule bytes or 2,048 rule records; row or record over 255 bytes; record whose row is over 255
+    /// tokens; line over 12,292 characters.
+    Oversize = 1,
+    /// Rule bytes not a multiple of three.
+    Torn = 2,
+    /// Rule kind not 01 to 03, or operator not below n; a byte without meaning; an operator not below n of the sheet used; 21
+    /// in a record.
+    Stranger = 3,
+    /// Some row, of any length, has no conflict-free tree.
+    Dead = 4,
+    /// Every row has one, some row has two or more.
+    Double = 5,
+    /// The tokens are not one expression.
+    NoRow = 6,
+    /// The record is not exactly one tree.
+    NoTree = 7,
+    /// Place over 15.
+    Place = 8,
+    /// Drop or fetch of an empty place.
+    Empty = 9,
+    /// Lent output shorter than the answer.
+    Short = 10,
+    /// A held tree uses an operator not below the new n.
+    InUse = 11,
+    /// Line not made of digit pairs, unknown kind, or wrong length for its kind.
+    Frame = 12,
+}
+
+impl Refusal {
+    /// All refusals, in the order of their numbers.
+    pub const ALL: [Refusal; 12] = [
+        Refusal::Oversize,
+        Refusal::Torn,
+        Refusal::Stranger,
+        Refusal::Dead,
+        Refusal::Double,
+        Refusal::NoRow,
+        Refusal::NoTree,
+        Refusal::Place,
+        Refusal::Empty,
+        Refusal::Short,
+        Refusal::InUse,
+        Refusal::Frame,
+    ];
+
+    /// The number in document 01.
+    pub fn number(self) -> u8 {
+        self as u8
+    }
+
+    /// The refusal of a number; none for 0 and for numbers that document 01 does not have.
+    pub fn of_number(number: u8) -> Option<Refusal> {
+        Refusal::ALL.into_iter().find(|refusal| refusal.number() == number)
+    }
+
+    /// A call's number as a result: 0 is success.
+    #[inline]
+    pub(crate) fn check(number: u8) -> Result<(), Refusal> {
+        match number {
+            0 => Ok(()),
+            _ => Err(Refusal::of_number(number).expect("the library gives numbers 0 to 12")),
+        }
+    }
+}
+
+impl fmt::Display for Refusal {
+    fn fmt(&self, to: &mut fmt::Formatter<'_>) -> fmt::Result {
+        to.write_str(match self {
+            Refusal::Oversize => "oversize: more operators, rules, tokens or bytes than the panel takes",
+            Refusal::Torn => "torn: the rule bytes are not a multiple of three",
+            Refusal::Stranger => {
+                "stranger: a byte without meaning here, or an operator or kind of rule that is not known"
+            }
+            Refusal::Dead => "dead: under these rules some row has no conflict-free tree",
+            Refusal::Double => "double: under these rules some row has two or more conflict-free trees",
+            Refusal::NoRow => "no row: the tokens are not one expression",
+            Refusal::NoTree => "no tree: the record is not exactly one tree",
+            Refusal::Place => "place: there are places 0 to 15 only",
+            Refusal::Empty => "empty: the place holds nothing",
+            Refusal::Short => "short: the lent output is shorter than the answer",
+            Refusal::InUse => "in use: a held tree uses an operator that the new sheet does not have",
+            Refusal::Frame => "frame: the line is not digit pairs, or not of a known kind and its length",
+        })
+    }
+}
+
+impl Error for Refusal {}
+
+#[cfg(test)]
+mod tests {
+    use super::Refusal;
+
+    #[test]
+    fn numbers_go_there_and_back() {
+        for number in 0..=255 {
+            let refusal = Refusal::of_number(number);
+            assert_eq!(refusal.is_some(), (1..=12).contains(&number));
+            assert_eq!(refusal.map_or(number, Refusal::number), number);
+        }
+    }
+}

@@ -1,0 +1,182 @@
+//! Document 01's book: it is fed the calls alone and finds every number and answer itself.
+use crate::expression::Expression;
+use crate::sheet::Sheet;
+use crate::tree::{is_operator, is_reading, Side, Tree, CLOSING, OPENING};
+
+/// A call with its arguments. `room` is the length of the lent output.
+#[derive(Clone, Debug)]
+pub enum Call {
+    Load { n: u8, rules: Vec<u8> },
+    PutRow { place: u8, row: Vec<u8> },
+    PutRecord { place: u8, record: Vec<u8> },
+    Drop { place: u8 },
+    FetchRecord { place: u8, room: usize },
+    FetchRow { place: u8, room: usize },
+    Image { place: u8, room: usize },
+    Build { row: Vec<u8>, room: usize },
+    Repair { record: Vec<u8>, room: usize },
+    Yield { record: Vec<u8>, room: usize },
+    Judge { record: Vec<u8> },
+    Operand { record: Vec<u8>, side: Side },
+}
+
+/// A call's number, and what it answers: output bytes, the count as one byte, or the operand's part.
+#[derive(Clone, Debug, PartialEq)]
+pub struct Reply {
+    pub number: u8,
+    pub answer: Vec<u8>,
+    /// Where an operand's part begins; 0 for all else.
+    pub offset: usize,
+}
+
+/// An answer, or the number of the first refusal that applies.
+type Found = Result<Vec<u8>, u8>;
+
+#[derive(Clone)]
+pub struct Book {
+    pub sheet: Sheet,
+    pub slots: [Option<Vec<u8>>; 16],
+}
+
+impl Book {
+    pub fn new() -> Book {
+        Book { sheet: Sheet::of_rules(0, &[]), slots: Default::default() }
+    }
+
+    /// What the call is answered, read off the book as it stands before the call.
+    pub fn reply(&self, call: &Call) -> Reply {
+        let mut offset = 0;
+        let found = match call {
+            Call::Load { n, rules } => self.load(*n, rules).map(|_| Vec::new()),
+            Call::PutRow { place, row } => self.place(*place).and_then(|_| self.row(row)).map(|_| Vec::new()),
+            Call::PutRecord { place, record } => {
+                self.place(*place).and_then(|_| self.record(record)).map(|_| Vec::new())
+            }
+            Call::Drop { place } => self.held(*place).map(|_| Vec::new()),
+            Call::FetchRecord { place, room } => self.held(*place).and_then(|row| fits(self.built(row), *room)),
+            Call::FetchRow { place, room } => self.held(*place).and_then(|row| fits(row.clone(), *room)),
+            Call::Image { place, room } => self.place(*place).and_then(|slot| fits(self.image(slot), *room)),
+            Call::Build { row, room } => self.row(row).and_then(|row| fits(self.built(&row), *room)),
+            Call::Repair { record, room } => self.record(record).and_then(|tree| fits(self.built(&tree.row()), *room)),
+            Call::Yield { record, room } => self.record(record).and_then(|tree| fits(tree.row(), *room)),
+            Call::Judge { record } => self.record(record).map(|tree| vec![self.sheet.conflicts(&tree) as u8]),
+            Call::Operand { record, side } => self.record(record).map(|tree| {
+                let part = tree.operand(*side).map_or(Vec::new(), Tree::record);
+                offset = if *side == Side::Left { 1 } else { record.len() - part.len() };
+                part
+            }),
+        };
+        match found {
+            Ok(answer) => Reply { number: 0, answer, offset },
+            Err(number) => Reply { number, answer: Vec::new(), offset: 0 },
+        }
+    }
+
+    /// The book after a call with this number.
+    pub fn note(&mut self, call: &Call, number: u8) {
+        if number != 0 {
+            return;
+        }
+        match call {
+            Call::Load { n, rules } => self.sheet = Sheet::of_rules(*n, rules),
+            Call::PutRow { place, row } => self.slots[usize::from(*place)] = Some(row.clone()),
+            Call::PutRecord { place, record } => {
+                self.slots[usize::from(*place)] = Tree::of_record(record).map(|tree| tree.row());
+            }
+            Call::Drop { place } => self.slots[usize::from(*place)] = None,
+            _ => (),
+        }
+    }
+
+    /// The record of the row's conflict-free tree.
+    pub fn built(&self, row: &[u8]) -> Vec<u8> {
+        self.sheet.tree_of(row).record()
+    }
+
+    /// Record length, record, then 00; all 00 when empty.
+    pub fn image(&self, slot: &Option<Vec<u8>>) -> Vec<u8> {
+        let record = slot.as_ref().map_or(Vec::new(), |row| self.built(row));
+        let mut image = vec![record.len() as u8];
+        image.extend(record);
+        image.resize(256, 0);
+        image
+    }
+
+    /// Sheet: 1, 2, 3, 4, 5, 11.
+    fn load(&self, n: u8, rules: &[u8]) -> Result<(), u8> {
+        if n > 32 || rules.len() > 6144 {
+            return Err(1);
+        }
+        if rules.len() % 3 != 0 {
+            return Err(2);
+        }
+        if rules.chunks(3).any(|rule| !(1..=3).contains(&rule[0]) || rule[1] >= n || rule[2] >= n) {
+            return Err(3);
+        }
+        match Sheet::of_rules(n, rules).verdict() {
+            0 => (),
+            verdict => return Err(verdict),
+        }
+        if self.used() > n {
+            return Err(11);
+        }
+        Ok(())
+    }
+
+    /// How many operators a sheet must have for the held trees: one more than the highest in use.
+    pub fn used(&self) -> u8 {
+        let tokens = self.slots.iter().flatten().flatten();
+        tokens.filter(|&&token| is_operator(token)).map(|token| token + 1).max().unwrap_or(0)
+    }
+
+    /// Row: 1, 3, 6.
+    fn row(&self, row: &[u8]) -> Found {
+        if row.len() > 255 {
+            return Err(1);
+        }
+        if row.iter().any(|&token| !self.has_meaning(token)) {
+            return Err(3);
+        }
+        if Expression::of_row(row).is_none() {
+            return Err(6);
+        }
+        Ok(row.to_vec())
+    }
+
+    /// Record: 1 (its bytes), 3, 7, 1 (its row).
+    fn record(&self, record: &[u8]) -> Result<Tree, u8> {
+        if record.len() > 255 {
+            return Err(1);
+        }
+        if record.iter().any(|&byte| !self.has_meaning(byte) || byte == CLOSING) {
+            return Err(3);
+        }
+        let tree = Tree::of_record(record).ok_or(7)?;
+        if tree.row().len() > 255 {
+            return Err(1);
+        }
+        Ok(tree)
+    }
+
+    fn has_meaning(&self, token: u8) -> bool {
+        is_operator(token) && token < self.sheet.n || token == OPENING || token == CLOSING || is_reading(token)
+    }
+
+    /// The place's slot: 8.
+    fn place(&self, place: u8) -> Result<&Option<Vec<u8>>, u8> {
+        self.slots.get(usize::from(place)).ok_or(8)
+    }
+
+    /// The row in the place's slot: 8, 9.
+    fn held(&self, place: u8) -> Result<&Vec<u8>, u8> {
+        self.place(place)?.as_ref().ok_or(9)
+    }
+}
+
+/// 10 where the answer does not fit.
+fn fits(answer: Vec<u8>, room: usize) -> Found {
+    if room < answer.len() {
+        return Err(10);
+    }
+    Ok(answer)
+}

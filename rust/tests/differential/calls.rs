@@ -1,0 +1,139 @@
+//! A random call, and the same call made to the library.
+use crate::book::{Book, Call, Reply};
+use crate::inputs;
+use crate::random::Random;
+use crate::tree::Side;
+use tihvomen::{Panel, Refusal};
+
+/// A call that makes sense to try on the panel that the book stands for. `last` is an earlier call's answer.
+pub fn any_call(random: &mut Random, book: &Book, last: &[u8]) -> Call {
+    let mut call = match random.below(24) {
+        0 | 1 => {
+            let (n, rules) = inputs::sheet(random, book.used());
+            Call::Load { n, rules }
+        }
+        2..=4 => Call::PutRow { place: place(random, book), row: row(random, book, last) },
+        5..=7 => Call::PutRecord { place: place(random, book), record: record(random, book, last) },
+        8 => Call::Drop { place: place(random, book) },
+        9 | 10 => Call::FetchRecord { place: place(random, book), room: usize::MAX },
+        11 | 12 => Call::FetchRow { place: place(random, book), room: usize::MAX },
+        13 => Call::Image { place: place(random, book), room: usize::MAX },
+        14..=16 => Call::Build { row: row(random, book, last), room: usize::MAX },
+        17 | 18 => Call::Repair { record: record(random, book, last), room: usize::MAX },
+        19 | 20 => Call::Yield { record: record(random, book, last), room: usize::MAX },
+        21 | 22 => Call::Judge { record: record(random, book, last) },
+        _ => {
+            let side = [Side::Left, Side::Right][random.below(2)];
+            Call::Operand { record: record(random, book, last), side }
+        }
+    };
+    if room_of(&mut call).is_some() {
+        let length = book.reply(&call).answer.len();
+        *room_of(&mut call).unwrap() = any_room(random, length);
+    }
+    call
+}
+
+/// The length of the lent output, where the call has one.
+fn room_of(call: &mut Call) -> Option<&mut usize> {
+    match call {
+        Call::FetchRecord { room, .. }
+        | Call::FetchRow { room, .. }
+        | Call::Image { room, .. }
+        | Call::Build { room, .. }
+        | Call::Repair { room, .. }
+        | Call::Yield { room, .. } => Some(room),
+        _ => None,
+    }
+}
+
+/// Just enough, more, one too short, or any length.
+fn any_room(random: &mut Random, length: usize) -> usize {
+    match random.below(8) {
+        0 => length.saturating_sub(1),
+        1 => random.below(300),
+        2 | 3 => length + random.below(40),
+        4 => 300,
+        _ => length,
+    }
+}
+
+/// A place that is filled, if there is one; or any, or none at all.
+fn place(random: &mut Random, book: &Book) -> u8 {
+    let filled: Vec<u8> = (0..16).filter(|&place| book.slots[usize::from(place)].is_some()).collect();
+    match random.below(16) {
+        0 => random.byte(),
+        1 => 15 + random.below(2) as u8,
+        2..=8 if !filled.is_empty() => filled[random.below(filled.len())],
+        _ => random.below(16) as u8,
+    }
+}
+
+/// The operators that an input uses: the sheet's, now and then one more.
+fn operators(random: &mut Random, book: &Book) -> u8 {
+    if random.once_in(12) {
+        (book.sheet.n + 1).min(32)
+    } else {
+        book.sheet.n
+    }
+}
+
+fn row(random: &mut Random, book: &Book, last: &[u8]) -> Vec<u8> {
+    if random.once_in(10) {
+        return last.to_vec();
+    }
+    let n = operators(random, book);
+    let row = inputs::any_tree(random, n).row();
+    inputs::perhaps_damaged(random, row)
+}
+
+fn record(random: &mut Random, book: &Book, last: &[u8]) -> Vec<u8> {
+    if random.once_in(10) {
+        return last.to_vec();
+    }
+    let n = operators(random, book);
+    let record = inputs::any_tree(random, n).record();
+    inputs::perhaps_damaged(random, record)
+}
+
+/// Makes the call to the library. The whole lent output is checked: the answer, then what stood there before.
+pub fn make(random: &mut Random, panel: &mut Panel, call: &Call) -> Reply {
+    match call {
+        Call::Load { n, rules } => silent(panel.load(*n, rules)),
+        Call::PutRow { place, row } => silent(panel.put_row(*place, row)),
+        Call::PutRecord { place, record } => silent(panel.put_record(*place, record)),
+        Call::Drop { place } => silent(panel.drop_place(*place)),
+        Call::FetchRecord { place, room } => written(random, *room, |out| panel.fetch_record_into(*place, out)),
+        Call::FetchRow { place, room } => written(random, *room, |out| panel.fetch_row_into(*place, out)),
+        Call::Image { place, room } => written(random, *room, |out| panel.image_into(*place, out)),
+        Call::Build { row, room } => written(random, *room, |out| panel.build_into(row, out)),
+        Call::Repair { record, room } => written(random, *room, |out| panel.repair_into(record, out)),
+        Call::Yield { record, room } => written(random, *room, |out| panel.yield_row_into(record, out)),
+        Call::Judge { record } => reply(panel.judge(record).map(|count| (vec![count], 0))),
+        Call::Operand { record, side } => {
+            let side = if *side == Side::Left { tihvomen::Side::Left } else { tihvomen::Side::Right };
+            let offset = |part: &[u8]| (part.as_ptr() as usize) - (record.as_ptr() as usize);
+            reply(panel.operand(record, side).map(|part| (part.to_vec(), offset(part))))
+        }
+    }
+}
+
+fn silent(result: Result<(), Refusal>) -> Reply {
+    reply(result.map(|()| (Vec::new(), 0)))
+}
+
+fn written(random: &mut Random, room: usize, call: impl FnOnce(&mut [u8]) -> Result<usize, Refusal>) -> Reply {
+    let before = random.bytes(room);
+    let mut out = before.clone();
+    let result = call(&mut out);
+    let length = result.unwrap_or(0);
+    assert_eq!(out[length..], before[length..], "the output past the answer was written");
+    reply(result.map(|length| (out[..length].to_vec(), 0)))
+}
+
+fn reply(result: Result<(Vec<u8>, usize), Refusal>) -> Reply {
+    match result {
+        Ok((answer, offset)) => Reply { number: 0, answer, offset },
+        Err(refusal) => Reply { number: refusal.number(), answer: Vec::new(), offset: 0 },
+    }
+}

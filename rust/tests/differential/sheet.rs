@@ -1,0 +1,120 @@
+//! A sheet's patterns as written, its verdict by looking at rows, and a row's conflict-free tree.
+use crate::expression::{Expression, Operand};
+use crate::tree::{Side, Tree};
+
+/// Rows with up to so many operators decide whether a sheet is dead or double; `theory.rs` holds this against longer rows.
+pub const ENOUGH_OPERATORS: usize = 3;
+
+/// Rows with at most so many trees are done by looking at all of them.
+const FEW_TREES: usize = 150;
+
+/// Which patterns are excluded: L(a,b) and R(a,b).
+#[derive(Clone, PartialEq)]
+pub struct Sheet {
+    pub n: u8,
+    left: [[bool; 32]; 32],
+    right: [[bool; 32]; 32],
+}
+
+impl Sheet {
+    /// The rules count as written. They must be in order.
+    pub fn of_rules(n: u8, rules: &[u8]) -> Sheet {
+        let mut sheet = Sheet { n, left: [[false; 32]; 32], right: [[false; 32]; 32] };
+        for rule in rules.chunks(3) {
+            let (kind, a, b) = (rule[0], usize::from(rule[1]), usize::from(rule[2]));
+            sheet.left[a][b] |= kind == 1 || kind == 3;
+            sheet.right[a][b] |= kind == 1 || kind == 2;
+        }
+        sheet
+    }
+
+    pub fn excluded(&self, side: Side, a: u8, b: u8) -> bool {
+        match side {
+            Side::Left => self.left[usize::from(a)][usize::from(b)],
+            Side::Right => self.right[usize::from(a)][usize::from(b)],
+        }
+    }
+
+    pub fn conflicts(&self, tree: &Tree) -> usize {
+        tree.conflicts(&|side, a, b| self.excluded(side, a, b))
+    }
+
+    /// 4 where some row has no conflict-free tree, else 5 where some row has two or more, else 0.
+    pub fn verdict(&self) -> u8 {
+        self.verdict_upto(ENOUGH_OPERATORS)
+    }
+
+    /// The same, looking at the rows without brackets that have up to `most` operators.
+    pub fn verdict_upto(&self, most: usize) -> u8 {
+        let mut double = false;
+        for count in 1..=most {
+            let shapes = shapes(count);
+            for operators in lists(self.n, count) {
+                let name = |position: u8| operators[usize::from(position)];
+                let excluded = |side, a, b| self.excluded(side, name(a), name(b));
+                match shapes.iter().filter(|shape| shape.conflicts(&excluded) == 0).count() {
+                    0 => return 4,
+                    1 => (),
+                    _ => double = true,
+                }
+            }
+        }
+        if double {
+            5
+        } else {
+            0
+        }
+    }
+
+    /// The conflict-free tree of a row over the operators, under an accepted sheet.
+    pub fn tree_of(&self, row: &[u8]) -> Tree {
+        let expression = Expression::of_row(row).expect("a row");
+        let tree = if expression.tree_count(FEW_TREES) <= FEW_TREES {
+            let mut trees = expression.all_trees();
+            trees.retain(|tree| self.conflicts(tree) == 0);
+            assert_eq!(trees.len(), 1, "an accepted sheet gives the row {row:02x?} one conflict-free tree");
+            trees.remove(0)
+        } else {
+            self.split(&expression, 0, expression.operators.len())
+        };
+        assert_eq!(tree.row(), row, "the model's tree has another row");
+        assert_eq!(self.conflicts(&tree), 0, "the model's tree shows a conflict");
+        tree
+    }
+
+    /// The tree of the operands from `first` up to `last`: at the top stands the operator that may have every other one of them
+    /// below it, on the side where that one stands. Its result is checked above, so this need not be believed.
+    fn split(&self, expression: &Expression, first: usize, last: usize) -> Tree {
+        if first == last {
+            return match &expression.operands[first] {
+                Operand::Reading(reading) => Tree::Reading(*reading),
+                Operand::Bracketed(inner) => Tree::Bracket(Box::new(self.split(inner, 0, inner.operators.len()))),
+            };
+        }
+        let operators = &expression.operators;
+        let keeps = |top: usize, other: usize| {
+            let side = if other < top { Side::Left } else { Side::Right };
+            other == top || !self.excluded(side, operators[top], operators[other])
+        };
+        let top = (first..last).find(|&top| (first..last).all(|other| keeps(top, other))).expect("a top operator");
+        let left = self.split(expression, first, top);
+        let right = self.split(expression, top + 1, last);
+        Tree::Node(operators[top], Box::new(left), Box::new(right))
+    }
+}
+
+/// All trees over `count` operators; the operator at position i is called i.
+fn shapes(count: usize) -> Vec<Tree> {
+    let operators = (0..count as u8).collect();
+    let operands = vec![Operand::Reading(0x80); count + 1];
+    Expression { operands, operators }.all_trees()
+}
+
+/// All lists of `count` operators below n.
+fn lists(n: u8, count: usize) -> impl Iterator<Item = Vec<u8>> {
+    let base = usize::from(n);
+    (0..base.pow(count as u32)).map(move |code| {
+        let digit = |position: usize| (code / base.pow(position as u32) % base) as u8;
+        (0..count).map(digit).collect()
+    })
+}
