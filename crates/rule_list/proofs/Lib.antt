@@ -1,0 +1,3 @@
+pub mod WrittenWays
+pub mod Bytes
+pub mod Lent
