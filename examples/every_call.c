@@ -66,6 +66,39 @@ static void check_operands(const struct panel *p) {
     CHECK(panel_operand(p, NULL, 0, PANEL_RIGHT_SIDE).number == PANEL_NO_TREE);
 }
 
+static void check_rules(struct panel *p) {
+    static const struct panel_rule rules[] = {{PANEL_PRIORITY, 1, 0}, {PANEL_LEFT, 1, 1}, {PANEL_LEFT, 0, 0}};
+    struct panel other = *p;
+    CHECK(panel_load_rules(p, 1, rules, 3) == PANEL_STRANGER && memcmp(p, &other, sizeof other) == 0);
+    CHECK(panel_load_rules(p, 2, NULL, 0) == PANEL_DOUBLE && memcmp(p, &other, sizeof other) == 0);
+    CHECK(panel_load_rules(p, 2, rules, 3) == PANEL_ACCEPTED);
+    CHECK(panel_load(&other, 2, sheet_a, sizeof sheet_a) == PANEL_ACCEPTED);
+    CHECK(p->sheet.n == other.sheet.n && memcmp(p->sheet.closes, other.sheet.closes, sizeof p->sheet.closes) == 0);
+}
+
+/* The reply to a line is this text, and the output past it is as before. */
+static bool replies(struct panel *p, const char *line, const char *text) {
+    char out[PANEL_MOST_REPLY + 1];
+    memset(out, '#', sizeof out);
+    size_t length = panel_reply(p, line, strlen(line), out, sizeof out);
+    return length == strlen(text) && memcmp(out, text, length) == 0 && out[length] == '#';
+}
+
+static void check_lines(void) {
+    struct panel p = PANEL_FRESH;
+    char out[PANEL_MOST_REPLY];
+    CHECK(panel_reply(&p, "0100", 4, out, sizeof out - 1) == 0);
+    CHECK(panel_reply(&p, "0100", 4, NULL, 0) == 0);
+    CHECK(panel_reply(&p, NULL, 0, out, sizeof out) == 2 && memcmp(out, "0c", 2) == 0);
+    CHECK(replies(&p, "0102010100020101020000", "00"));
+    CHECK(replies(&p, "02038000810182", "00"));
+    CHECK(replies(&p, "0403", "000080018182"));
+    CHECK(replies(&p, "0304", "09"));
+    CHECK(replies(&p, "0102010001020101020000", "00"));
+    CHECK(replies(&p, "0403", "000100808182"));
+    CHECK(replies(&p, "0403\r", "0c"));
+}
+
 static void check_places(struct panel *p, uint8_t *out) {
     uint8_t image[PANEL_IMAGE_BYTES] = {sizeof record};
     memcpy(image + 1, record, sizeof record);
@@ -96,6 +129,8 @@ int main(void) {
     CHECK(panel_load(&p, 2, sheet_a, 8) == PANEL_TORN);
     CHECK(panel_load(&p, 1, sheet_a, sizeof sheet_a) == PANEL_STRANGER);
     CHECK(panel_load(&p, 2, sheet_a, sizeof sheet_a) == PANEL_ACCEPTED);
+    check_rules(&p);
+    check_lines();
     check_trees(&p, out);
     check_operands(&p);
     check_places(&p, out);

@@ -1,7 +1,8 @@
 /*
  * The condition panel for C99 and C++: an operator sheet and sixteen places, each empty or holding one tree.
  *
- * Link with target/staticlib/libcapi.a, which `rt staticlib capi` makes; it needs memcpy and memset and nothing else.
+ * Link with target/staticlib/libcapi.a and librule_list.a, which `rt staticlib capi` and `rt staticlib rule_list` make;
+ * they need memcpy and memset and nothing else.
  *
  * What holds of every call:
  *  - It takes any bytes and ends. It has no state but the panel, and allocates nothing.
@@ -25,7 +26,9 @@
 enum {
     PANEL_PLACES = 16,       /* places 0 to 15 */
     PANEL_MOST_TOKENS = 255, /* room for every row and every record */
-    PANEL_IMAGE_BYTES = 256  /* the length of an image */
+    PANEL_IMAGE_BYTES = 256, /* the length of an image */
+    PANEL_MOST_RULES = 2048, /* rules of a sheet */
+    PANEL_MOST_REPLY = 514   /* room for every reply to a line */
 };
 
 /* The kind of a rule, its first byte; the operators a and b are its second and third. */
@@ -101,6 +104,20 @@ static inline void panel_fresh(struct panel *p) {
  */
 static inline enum panel_number panel_load(struct panel *p, uint8_t n, const uint8_t *rules, size_t length) {
     struct panel_raw_loaded loaded = tihvomen_load(p->sheet, p->places, n, panel_from(rules, length), length);
+    p->sheet = loaded.sheet;
+    return (enum panel_number)loaded.number;
+}
+
+/*
+ * The same with the rules as a list of records: the same number and the same panel as with their bytes. Numbers: 1, 3, 4,
+ * 5, 11.
+ */
+static inline enum panel_number panel_load_rules(
+    struct panel *p, uint8_t n, const struct panel_rule *rules, size_t count) {
+    uint8_t bytes[3 * PANEL_MOST_RULES];
+    struct panel_rule none = {0, 0, 0};
+    const struct panel_rule *from = count == 0 ? &none : rules;
+    struct panel_raw_loaded loaded = tihvomen_load_rules(p->sheet, p->places, n, from, count, bytes);
     p->sheet = loaded.sheet;
     return (enum panel_number)loaded.number;
 }
@@ -187,6 +204,20 @@ static inline struct panel_operand panel_operand(
     operand.offset = part.from;
     operand.length = part.to - part.from;
     return operand;
+}
+
+/*
+ * Runs one line of hexadecimal, without its line end, as the program `panel` does, and writes the reply: the number and on
+ * success the answer, in digits, without a line end. Answers the reply's length. An output of less than PANEL_MOST_REPLY
+ * characters gets nothing: the line is not run, and the answer is 0.
+ */
+static inline size_t panel_reply(struct panel *p, const char *line, size_t length, char *out, size_t room) {
+    uint8_t spare = 0;
+    const uint8_t *from = panel_from((const uint8_t *)line, length);
+    struct panel_raw_replied replied =
+        tihvomen_reply(p->sheet, p->places, from, length, panel_into((uint8_t *)out, room, &spare), room);
+    p->sheet = replied.sheet;
+    return replied.length;
 }
 
 #endif

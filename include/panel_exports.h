@@ -1,5 +1,5 @@
 /*
- * The functions of libcapi.a, as the library has them. panel.h has a call for each that takes the panel apart; use those.
+ * The functions of libcapi.a and librule_list.a, as the library has them. panel.h has a call for each that takes the panel apart; use those.
  * A list of bytes is two arguments, address and length, and the address is never NULL here. `places` are 4,096 bytes.
  */
 #ifndef TIHVOMEN_PANEL_EXPORTS_H
@@ -17,6 +17,13 @@ extern "C" {
 struct panel_sheet {
     uint8_t n;
     uint32_t closes[32];
+};
+
+/* A rule: its kind, and the operators that it names first and second. */
+struct panel_rule {
+    uint8_t kind;
+    uint8_t first;
+    uint8_t second;
 };
 
 struct panel_raw_loaded {
@@ -39,7 +46,15 @@ struct panel_raw_part {
     size_t to;
 };
 
+struct panel_raw_replied {
+    struct panel_sheet sheet;
+    size_t length;
+};
+
 struct panel_raw_loaded tihvomen_load(struct panel_sheet, uint8_t *places, uint8_t n, const uint8_t *rules, size_t);
+/* `bytes` are 6,144 bytes for the rules' bytes. */
+struct panel_raw_loaded tihvomen_load_rules(
+    struct panel_sheet, uint8_t *places, uint8_t n, const struct panel_rule *rules, size_t, uint8_t *bytes);
 uint8_t tihvomen_put_row(struct panel_sheet, uint8_t *places, uint8_t place, const uint8_t *row, size_t);
 uint8_t tihvomen_put_record(struct panel_sheet, uint8_t *places, uint8_t place, const uint8_t *record, size_t);
 uint8_t tihvomen_drop(uint8_t *places, uint8_t place);
@@ -52,6 +67,8 @@ struct panel_raw_judgement tihvomen_judge(struct panel_sheet, const uint8_t *rec
 struct panel_raw_answer tihvomen_yield(struct panel_sheet, const uint8_t *record, size_t, uint8_t *out, size_t);
 uint8_t tihvomen_operand_number(struct panel_sheet, const uint8_t *record, size_t);
 struct panel_raw_part tihvomen_operand(struct panel_sheet, const uint8_t *record, size_t, bool right);
+struct panel_raw_replied tihvomen_reply(
+    struct panel_sheet, uint8_t *places, const uint8_t *line, size_t, uint8_t *out, size_t);
 
 #ifdef __cplusplus
 }

@@ -5,31 +5,29 @@
 /* Each number is given under its condition and under nothing else. */
 enum panel_number {
     PANEL_ACCEPTED = 0,
-    /* n over 32; over 6,144 rule bytes or 2,048 rule records; row or record over 255 bytes; record whose row is over 255
-       tokens; line over 12,292 characters */
+    /* more than 32 operators, 2,048 rules, 255 tokens in a row, 255 bytes in a record or 12,292 characters in a line */
     PANEL_OVERSIZE = 1,
-    /* rule bytes not a multiple of three */
+    /* the bytes of the rules do not come in threes */
     PANEL_TORN = 2,
-    /* rule kind not 01 to 03, or operator not below n; a byte without meaning; an operator not below n of the sheet used;
-       21 in a record */
+    /* a byte that means nothing here: a kind of rule that does not exist, an operator that the sheet lacks, 21 inside a record */
     PANEL_STRANGER = 3,
-    /* some row, of any length, has no conflict-free tree */
+    /* under the rules at least one row, however long, has no conflict-free tree */
     PANEL_DEAD = 4,
-    /* every row has one, some row has two or more */
+    /* each row has a conflict-free tree, but at least one has several */
     PANEL_DOUBLE = 5,
-    /* the tokens are not one expression */
+    /* the tokens do not make up one expression */
     PANEL_NO_ROW = 6,
-    /* the record is not exactly one tree */
+    /* the bytes do not make up exactly one tree */
     PANEL_NO_TREE = 7,
-    /* place over 15 */
+    /* places go from 0 to 15 */
     PANEL_PLACE = 8,
-    /* drop or fetch of an empty place */
+    /* nothing is held at the place that is to be dropped or fetched */
     PANEL_EMPTY = 9,
-    /* lent output shorter than the answer */
+    /* the answer does not fit into the lent output */
     PANEL_SHORT = 10,
-    /* a held tree uses an operator not below the new n */
+    /* a tree that is held uses an operator which the new sheet lacks */
     PANEL_IN_USE = 11,
-    /* line not made of digit pairs, unknown kind, or wrong length for its kind */
+    /* the line is no frame: no digit pairs, a kind that does not exist, or a length that its kind does not have */
     PANEL_FRAME = 12
 };
 

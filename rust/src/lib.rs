@@ -1,6 +1,6 @@
 //! The condition panel: one operator sheet and sixteen places, each empty or holding one tree.
 //!
-//! The calls are those of the proved library `libcapi.a`, which `rt staticlib capi` makes; this crate gives them Rust's
+//! The calls are those of the proved libraries `libcapi.a` and `librule_list.a`, which `rt staticlib` makes; this crate gives them Rust's
 //! habits and adds nothing. Every call takes any bytes and ends. After a refusal the panel and a lent output are as they
 //! were; after success the output past the answer's length is as it was.
 //!
@@ -20,6 +20,8 @@
 mod linked;
 mod panel;
 mod refusal;
+mod rule;
 
-pub use panel::{Panel, Side, IMAGE_BYTES, MOST_TOKENS, PLACES};
+pub use panel::{Panel, Side, IMAGE_BYTES, MOST_REPLY, MOST_TOKENS, PLACES};
 pub use refusal::Refusal;
+pub use rule::Rule;

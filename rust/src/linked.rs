@@ -2,6 +2,7 @@
 //!
 //! A slice goes over as address and length; a Rust slice's address is never null. The structs are laid out as in C.
 #![allow(unsafe_code)]
+use crate::rule::Rule;
 
 /// The sheet in force. All zero is the fresh panel's.
 #[derive(Clone, Copy, PartialEq, Eq)]
@@ -37,11 +38,28 @@ pub struct Part {
     pub to: usize,
 }
 
+#[repr(C)]
+pub struct Replied {
+    pub sheet: Sheet,
+    pub length: usize,
+}
+
+pub type RuleBytes = [u8; 6144];
+
 mod exports {
-    use super::{Answer, Judgement, Loaded, Part, Places, Sheet};
+    use super::{Answer, Judgement, Loaded, Part, Places, Replied, RuleBytes, Sheet};
+    use crate::rule::Rule;
 
     extern "C" {
         pub fn tihvomen_load(sheet: Sheet, places: &mut Places, n: u8, rules: *const u8, length: usize) -> Loaded;
+        pub fn tihvomen_load_rules(
+            sheet: Sheet,
+            places: &mut Places,
+            n: u8,
+            rules: *const Rule,
+            count: usize,
+            bytes: &mut RuleBytes,
+        ) -> Loaded;
         pub fn tihvomen_put_row(sheet: Sheet, places: &mut Places, place: u8, row: *const u8, length: usize) -> u8;
         pub fn tihvomen_put_record(
             sheet: Sheet,
@@ -60,6 +78,14 @@ mod exports {
         pub fn tihvomen_yield(sheet: Sheet, record: *const u8, length: usize, out: *mut u8, room: usize) -> Answer;
         pub fn tihvomen_operand_number(sheet: Sheet, record: *const u8, length: usize) -> u8;
         pub fn tihvomen_operand(sheet: Sheet, record: *const u8, length: usize, right: bool) -> Part;
+        pub fn tihvomen_reply(
+            sheet: Sheet,
+            places: &mut Places,
+            line: *const u8,
+            length: usize,
+            out: *mut u8,
+            room: usize,
+        ) -> Replied;
     }
 }
 
@@ -67,6 +93,12 @@ mod exports {
 pub fn load(sheet: Sheet, places: &mut Places, n: u8, rules: &[u8]) -> Loaded {
     // SAFETY: `rules` is read within its length; `places` is ours alone meanwhile.
     unsafe { exports::tihvomen_load(sheet, places, n, rules.as_ptr(), rules.len()) }
+}
+
+#[inline]
+pub fn load_rules(sheet: Sheet, places: &mut Places, n: u8, rules: &[Rule], bytes: &mut RuleBytes) -> Loaded {
+    // SAFETY: `rules` is read within its length; `places` and `bytes` are ours alone meanwhile.
+    unsafe { exports::tihvomen_load_rules(sheet, places, n, rules.as_ptr(), rules.len(), bytes) }
 }
 
 #[inline]
@@ -139,4 +171,10 @@ pub fn operand_number(sheet: Sheet, record: &[u8]) -> u8 {
 pub fn operand(sheet: Sheet, record: &[u8], right: bool) -> Part {
     // SAFETY: `record` is read within its length.
     unsafe { exports::tihvomen_operand(sheet, record.as_ptr(), record.len(), right) }
+}
+
+#[inline]
+pub fn reply(sheet: Sheet, places: &mut Places, line: &[u8], out: &mut [u8]) -> Replied {
+    // SAFETY: `line` is read and `out` written within their lengths; they do not overlap, and `places` is ours alone meanwhile.
+    unsafe { exports::tihvomen_reply(sheet, places, line.as_ptr(), line.len(), out.as_mut_ptr(), out.len()) }
 }

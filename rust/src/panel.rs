@@ -1,6 +1,7 @@
 //! The panel and its calls.
 use crate::linked::{self, Answer, Places, Sheet};
 use crate::refusal::Refusal;
+use crate::rule::Rule;
 use std::fmt;
 
 /// Places are numbered from 0 up to this.
@@ -11,6 +12,9 @@ pub const MOST_TOKENS: usize = 255;
 
 /// The length of an image.
 pub const IMAGE_BYTES: usize = 256;
+
+/// Room for every reply to a line.
+pub const MOST_REPLY: usize = 514;
 
 /// The operand that is asked for.
 #[derive(Clone, Copy, Debug, PartialEq, Eq)]
@@ -45,6 +49,14 @@ impl Panel {
     #[inline]
     pub fn load(&mut self, n: u8, rules: &[u8]) -> Result<(), Refusal> {
         let loaded = linked::load(self.sheet, &mut self.places, n, rules);
+        self.sheet = loaded.sheet;
+        Refusal::check(loaded.number)
+    }
+
+    /// The same with the rules as a list: the same result and the same panel as with their bytes. Refusals: 1, 3, 4, 5, 11.
+    pub fn load_rules(&mut self, n: u8, rules: &[Rule]) -> Result<(), Refusal> {
+        let mut bytes = [0; 6144];
+        let loaded = linked::load_rules(self.sheet, &mut self.places, n, rules, &mut bytes);
         self.sheet = loaded.sheet;
         Refusal::check(loaded.number)
     }
@@ -148,6 +160,15 @@ impl Panel {
         Refusal::check(linked::operand_number(self.sheet, record))?;
         let part = linked::operand(self.sheet, record, side == Side::Right);
         Ok(&record[part.from..part.to])
+    }
+
+    /// Runs one line of hexadecimal, without its line end, as the program `panel` does. Answers the reply: the number and on
+    /// success the answer, in lower-case digits, without a line end.
+    pub fn reply(&mut self, line: &[u8]) -> String {
+        let mut out = [0; MOST_REPLY];
+        let replied = linked::reply(self.sheet, &mut self.places, line, &mut out);
+        self.sheet = replied.sheet;
+        out[..replied.length].iter().map(|&digit| char::from(digit)).collect()
     }
 }
 

@@ -6,31 +6,31 @@ use std::fmt;
 #[derive(Clone, Copy, Debug, PartialEq, Eq, Hash, PartialOrd, Ord)]
 #[repr(u8)]
 pub enum Refusal {
-    /// n over 32; over 6,144 rule bytes or 2,048 rule records; row or record over 255 bytes; record whose row is over 255
-    /// tokens; line over 12,292 characters.
+    /// More than 32 operators, 2,048 rules, 255 tokens in a row, 255 bytes in a record or 12,292 characters in a
+    /// line.
     Oversize = 1,
-    /// Rule bytes not a multiple of three.
+    /// The bytes of the rules do not come in threes.
     Torn = 2,
-    /// Rule kind not 01 to 03, or operator not below n; a byte without meaning; an operator not below n of the sheet used; 21
-    /// in a record.
+    /// A byte that means nothing here: a kind of rule that does not exist, an operator that the sheet lacks, 21
+    /// inside a record.
     Stranger = 3,
-    /// Some row, of any length, has no conflict-free tree.
+    /// Under the rules at least one row, however long, has no conflict-free tree.
     Dead = 4,
-    /// Every row has one, some row has two or more.
+    /// Each row has a conflict-free tree, but at least one has several.
     Double = 5,
-    /// The tokens are not one expression.
+    /// The tokens do not make up one expression.
     NoRow = 6,
-    /// The record is not exactly one tree.
+    /// The bytes do not make up exactly one tree.
     NoTree = 7,
-    /// Place over 15.
+    /// Places go from 0 to 15.
     Place = 8,
-    /// Drop or fetch of an empty place.
+    /// Nothing is held at the place that is to be dropped or fetched.
     Empty = 9,
-    /// Lent output shorter than the answer.
+    /// The answer does not fit into the lent output.
     Short = 10,
-    /// A held tree uses an operator not below the new n.
+    /// A tree that is held uses an operator which the new sheet lacks.
     InUse = 11,
-    /// Line not made of digit pairs, unknown kind, or wrong length for its kind.
+    /// The line is no frame: no digit pairs, a kind that does not exist, or a length that its kind does not have.
     Frame = 12,
 }
 

@@ -4,7 +4,9 @@
 mod book;
 mod calls;
 mod expression;
+mod forms;
 mod inputs;
+mod lines;
 mod random;
 mod runs;
 mod sheet;

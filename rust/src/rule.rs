@@ -1,0 +1,30 @@
+//! A rule of a sheet.
+
+/// A rule: its kind, and the operators that it names first and second.
+#[derive(Clone, Copy, Debug, PartialEq, Eq, Hash)]
+#[repr(C)]
+pub struct Rule {
+    /// 1 priority, 2 left, 3 right; any other is refused.
+    pub kind: u8,
+    /// The operator a.
+    pub first: u8,
+    /// The operator b.
+    pub second: u8,
+}
+
+impl Rule {
+    /// a over b: b is not the top of a's left operand, nor of its right one.
+    pub const fn priority(a: u8, b: u8) -> Rule {
+        Rule { kind: 1, first: a, second: b }
+    }
+
+    /// a left b: b is not the top of a's right operand.
+    pub const fn left(a: u8, b: u8) -> Rule {
+        Rule { kind: 2, first: a, second: b }
+    }
+
+    /// a right b: b is not the top of a's left operand.
+    pub const fn right(a: u8, b: u8) -> Rule {
+        Rule { kind: 3, first: a, second: b }
+    }
+}
