@@ -1,22 +1,14 @@
--- Laws of lines for callers: a line end is the first one, and what the test of the length tells. Assumes nothing.
+-- Laws of lines for callers: a line end is the first one. Assumes nothing.
 use mathlib.Core.Path.{_≡_, refl, sym, ap, _∙_}
-use mathlib.Core.Bool.{Bool, true, false, _||_, cond, true≢false}
+use mathlib.Core.Bool.{Bool, true, false, cond}
 use mathlib.Core.List.{List, [], _∷_}
 use Prim.Native.Nat.{ℕ, zero, suc, _+_, _-_, _<_, _≤_}
 use native.Mathlib.Omega.{arith}
-use borrow.Author.Tests.{eqb-true, eqb-false, ltb-false}
-use lib.Dec.{ltb, eqb}
+use borrow.Author.Tests.{eqb-true, eqb-false}
+use lib.Dec.{eqb}
 use lib.ListN.{length, getD, drop, length-drop}
 use lib.Seq.{getD-drop}
-use Rattle.line_io.specs.Lines.{lineFeed, mostCharacters, beforeEnd, lineEnd}
-
--- A line that is not too long has 12,292 characters at most.
-pub not-too-long : {r : Bool} (already : Bool) (n : ℕ) → r ≡ (already || ltb mostCharacters n) → r ≡ false → n ≤ mostCharacters
-not-too-long already n e h = ltb-false mostCharacters n (right already (sym e ∙ h))
-  where
-    right : (b : Bool) → (b || ltb mostCharacters n) ≡ false → ltb mostCharacters n ≡ false
-    right true e = absurd (true≢false e)
-    right false e = e
+use Rattle.line_io.specs.Lines.{lineFeed, beforeEnd, lineEnd}
 
 -- What is before the end: no line end, and then one, or nothing more.
 end-here : (s : List ℕ) → beforeEnd s < length s → getD s (beforeEnd s) 0 ≡ lineFeed

@@ -8,10 +8,10 @@ use native.Mathlib.Numerals.{add-one}
 use native.Mathlib.Omega.{arith}
 use borrow.Author.Needs.{needs}
 use borrow.Author.Tests.{eq-eqb, ne-eqb, eqb-false}
-use lib.Dec.{ltb, eqb}
+use lib.Dec.{eqb}
 use lib.ListN.{length, getD, drop, drop-of-length-le}
 use lib.Seq.{drop-cons}
-use Rattle.line_io.specs.Lines.{mostCharacters, beforeEnd, lineEnd, Ends, Tests, Skips}
+use Rattle.line_io.specs.Lines.{beforeEnd, lineEnd, Ends, Tests, Skips}
 
 -- ---- one byte
 module _ (s : List ℕ) (i : ℕ) where
@@ -87,12 +87,3 @@ module _ {s : List ℕ} {from i : ℕ} (t : Skips s from i) where
   looking-none h = record { place = at-length s i h ∙ sym (t .place); after = t .after; inside = omega (arith, t .after, t .inside) }
 
 pub ruleset end-ways = (outside, looking-more, looking-found, looking-none, needs)
-
--- ---- is_too_long
-pub long-already : {already : Bool} (n : ℕ) → already ≡ true → true ≡ (already || ltb mostCharacters n)
-long-already n h = rw h
-
-pub long-now : {already : Bool} (n : ℕ) → already ≡ false → ltb 12292 n ≡ (already || ltb mostCharacters n)
-long-now n h = rw h
-
-pub ruleset long-ways = (long-already, long-now, needs)

@@ -1,10 +1,8 @@
-// Lines in a buffer: where one ends, whether it is too long, and the unfinished one moved to the front.
+// Lines in a buffer: where one ends, and the unfinished one moved to the front.
 ghost use mathlib.Core.Path.{_≡_};
-ghost use mathlib.Core.Bool.{_||_};
 ghost use Prim.Native.Nat.{_+_, _≤_};
-ghost use lib.Dec.{ltb};
 ghost use lib.ListN.{length};
-ghost use Rattle.line_io.specs.Lines.{mostCharacters, Ends, Tests, Skips};
+ghost use Rattle.line_io.specs.Lines.{Ends, Tests, Skips};
 ghost use Rattle.line_io.specs.Moves.{movedToFront};
 
 pub const LINE_FEED: u8 = 10;
@@ -59,16 +57,6 @@ pub fn line_end(buf: &[u8], from: usize) -> usize
         i += 1;
     }
     i
-}
-
-// The line is too long: its first part was, or it has too many characters.
-pub fn is_too_long(already: bool, characters: usize) -> bool
-    ensures { λ r. ⌜ r ≡ (already || ltb mostCharacters characters) ⌝ }
-{
-    if already {
-        return true;
-    }
-    MOST_CHARACTERS < characters
 }
 
 // The bytes from one place up to another, moved to the front; nothing where they are no part of the buffer.

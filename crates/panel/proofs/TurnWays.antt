@@ -1,0 +1,80 @@
+-- What each way through a read, the end of the input and a turn gives, from what is known on it. Assumes nothing.
+use mathlib.Core.Path.{_≡_, refl, sym, ap, _∙_}
+use mathlib.Core.Bool.{Bool, false}
+use mathlib.Core.List.{List, [], _∷_}
+use Prim.Native.Nat.{ℕ, zero, suc, _+_, _-_, _≤_, min}
+use native.Mathlib.Omega.{arith}
+use borrow.Author.Needs.{needs}
+use borrow.Rule.Slice.PartMut.{putMid, take-put}
+use lib.ListN.{length, take, drop, length-take}
+use lib.Seq.{take-take, take-nil, length-take-le}
+use Rattle.sheet.specs.declared.Sheet.{Sheet}
+use Rattle.monitor.specs.Panel.{Panel}
+use Rattle.monitor.specs.Contracts.{panel}
+use Rattle.frame.specs.Lines.{lineAfter}
+use Rattle.panel.specs.Lines.{panelAtEnd}
+use Rattle.panel.specs.Contracts.{block, mostKept, Puts, Covers, Keeps, Fetches, Finishes, Turns, ended, went-on}
+
+-- ---- read_block
+module _ (before part xs : List ℕ) (kept count : ℕ) where
+  pub fetched : count ≤ length (take (kept + 65536 - kept) xs) → kept ≤ mostKept → length before ≡ mostKept + block → Fetches before kept (putMid kept (kept + 65536 - kept) before part) (kept + count)
+  fetched c m l =
+      let n = length-take (kept + 65536 - kept) xs in
+      record { front = take-put kept (kept + 65536 - kept) before part (omega arith); from = omega arith; inside = omega arith }
+
+pub ruleset fetch-ways = (fetched, needs)
+
+-- ---- finish
+none-at-end : (p : Panel) (line : List ℕ) → length line ≡ 0 → p ≡ panelAtEnd p line
+unfolding panelAtEnd
+none-at-end p [] h = refl
+none-at-end p (c ∷ line) h = absurd (omega arith)
+
+line-at-end : (p : Panel) (line : List ℕ) → (length line ≡ 0 → ⊥) → lineAfter p line ≡ panelAtEnd p line
+unfolding panelAtEnd
+line-at-end p [] h = absurd (h refl)
+line-at-end p (c ∷ line) h = refl
+
+module _ {sheet sheet' : Sheet} {kept : ℕ} {go : Bool} (e : (sheet' ≡ sheet) × (kept ≡ 0) × (go ≡ false)) where
+  pub finished-none : (line places : List ℕ) → length line ≡ 0 → Finishes (panel sheet places) line sheet' places kept go
+  finished-none line places h = record { stands = ap (λ s. panel s places) (e .0) ∙ none-at-end (panel sheet places) line h; nothing-left = e .1; stops = e .2 }
+
+  pub finished-line : {p : Panel} {line before after places : List ℕ} {at filled : ℕ} → Puts p line before after at filled sheet places → (length line ≡ 0 → ⊥) → Finishes p line sheet' places kept go
+  finished-line {p} {line} {places = places} w h = record { stands = ap (λ s. panel s places) (e .0) ∙ w .stands ∙ line-at-end p line h; nothing-left = e .1; stops = e .2 }
+
+pub ruleset finish-ways = (finished-none, finished-line, needs)
+
+-- ---- turn
+-- a part within the front of a list is a part of the list
+part-of-front : (l : List ℕ) (from k n : ℕ) → from + k ≤ n → take k (drop from (take n l)) ≡ take k (drop from l)
+part-of-front l zero k n h = take-take k n l (omega arith)
+part-of-front [] (suc from) k n h = ap (λ s. take k (drop (suc from) s)) (take-nil n)
+part-of-front (c ∷ l) (suc from) k zero h = absurd (omega arith)
+part-of-front (c ∷ l) (suc from) k (suc n) h = part-of-front l from k n (omega arith)
+
+module _ {p : Panel} {before buf : List ℕ} {kept n : ℕ} (f : Fetches before kept buf n) where
+  pub turn-ends : {after : List ℕ} {sheet : Sheet} {places : List ℕ} {kept' : ℕ} {go : Bool} → Finishes p (take (kept - 0) buf) sheet places kept' go → Turns p before kept after sheet places kept' go
+  turn-ends e = let z : kept - 0 ≡ kept = omega arith in ended (rw (z, f .front) at e)
+
+  pub turn-goes-on : {after : List ℕ} {rest : ℕ} {sheet : Sheet} {places : List ℕ} {kept' : ℕ} {go : Bool} → Covers p (take (n - 0) buf) rest sheet places go → Keeps buf rest n after kept' → (n ≡ kept → ⊥) → length buf ≡ length before → length before ≡ mostKept + block → Turns p before kept after sheet places kept' go
+  turn-goes-on {rest = rest} {kept' = kept'} a k h l b =
+      let z : n - 0 ≡ n = omega arith in
+      let m : length (take n buf) ≡ n = length-take-le n buf (omega (arith, f .inside)) in
+      let inside : rest ≤ n = omega (arith, ap (λ i. length (take i buf)) z, a .reads .inside) in
+      went-on (take n buf) (take-take kept n buf (f .from) ∙ f .front) (omega (arith, f .from, h))
+      (record {
+        rest = rest;
+        covers = rw z at a;
+        keeps = record {
+          kept = k .kept ∙ ap (λ i. min (i - rest) mostKept) (sym m);
+          front = k .front ∙ sym (part-of-front buf rest kept' n (omega (arith, k .kept, inside)));
+        };
+      })
+
+pub turn-kept : {p : Panel} {before after places : List ℕ} {kept kept' : ℕ} {sheet : Sheet} {go : Bool} → Turns p before kept after sheet places kept' go → kept' ≤ mostKept
+turn-kept (ended e) = omega (arith, e .nothing-left)
+turn-kept (went-on s e h a) = omega (arith, a .keeps .kept)
+
+pub ruleset turn-ways = (turn-ends, turn-goes-on, needs)
+
+pub ruleset run-ways = (turn-kept, needs)
