@@ -2,11 +2,11 @@
 use mathlib.Core.Path.{_≡_, refl, sym, ap, ap₂, _∙_}
 use mathlib.Core.Bool.{Bool, true, false, not}
 use mathlib.Core.List.{List, [], _∷_, _++_}
-use Prim.Native.Nat.{ℕ, _+_, _-_, _^_, _<_, _≤_}
+use Prim.Native.Nat.{ℕ, _+_, _-_, _<_, _≤_}
 use native.Mathlib.Omega.{arith}
 use native.Mathlib.Numerals.{add-one}
 use mir.Val.{Fits}
-use mir.Syntax.{w64}
+use mir.Syntax.{w8}
 use lib.Dec.{eqb}
 use lib.ListN.{length, getD, take, drop, length-drop}
 use lib.Seq.{take-suc, take-all, length-take-le}
@@ -64,7 +64,7 @@ module _ (row : List ℕ) where
         inside = omega arith;
       }
 
-  pub counted-fits : {count i c : ℕ} → length row < 2 ^ 64 → Counted count i → i < length row → c ≡ share (getD row i 0) → Fits w64 (count + c)
+  pub counted-fits : {count i c : ℕ} → length row ≤ 255 → Counted count i → i < length row → c ≡ share (getD row i 0) → Fits w8 (count + c)
   counted-fits {i = i} l k h e = omega (arith, k .small, e, share-small (getD row i 0))
 
   pub counted-all : {count i : ℕ} → Counted count i → length row ≤ i → count ≡ recordBytes row

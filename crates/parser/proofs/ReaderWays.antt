@@ -2,7 +2,7 @@
 use mathlib.Core.Path.{_≡_, refl, sym, ap, _∙_}
 use mathlib.Core.Bool.{Bool, true, false, cond, true≢false, false≢true}
 use mathlib.Core.List.{List, [], _∷_}
-use Prim.Native.Nat.{ℕ, suc, _+_, _*_, _-_, _^_, _<_, _≤_}
+use Prim.Native.Nat.{ℕ, suc, _+_, _*_, _-_, _<_, _≤_}
 use native.Mathlib.Omega.{arith}
 use native.Mathlib.Decide.{decLt}
 use native.Mathlib.Numerals.{add-one}
@@ -17,11 +17,9 @@ use Rattle.expression.specs.Token.{Class, class}
 use Rattle.expression.specs.Token as token
 use Rattle.expression.specs.RowTest.{Progress, due, done, wrong, whereDue, whereDone, complete, advance, scan}
 use Rattle.expression.proofs.Strangers.{scan-wrong}
-use Rattle.parser.specs.Rows.{tokenOf, tokenAt, isOperator, isClosing, Passes, ReadsOperand, Stops, ReadsExpression}
+use Rattle.parser.specs.Rows.{tokenOf, tokenAt, isOperator, isClosing, Passes, Refuses, ReadsOperand, ReadsExpression}
 use Rattle.parser.specs.declared.row.Token.{Token}
 use Rattle.parser.specs.declared.row.Token.the-variants.{Operator, Opening, Closing, Reading, Other, End}
-use Rattle.parser.specs.declared.row.Reach.{Reach}
-use Rattle.parser.specs.declared.row.Reach.the-variants.{At, Refused}
 
 -- the class that a token is of; none past the row's end
 abbrev pub Is : Token → Class → Type 0
@@ -118,106 +116,98 @@ module _ (n : ℕ) (row : List ℕ) where
   operator-there at End f c = absurd (false≢true c)
 
   module _ (at : ℕ) where
-    refuses : ((d : ℕ) → complete (scan (class n) (due d) (drop at row)) ≡ false) → ReadsOperand n row at (Refused 6)
-    refuses f = record { passes = (refl, f) }
+    no-operand : Refuses n row at → ReadsOperand n row at 0
+    no-operand f = record { refuses = λ e. f; passes = λ h. absurd (h refl) }
+
+    an-operand : {next : ℕ} → Passes n row at next → ReadsOperand n row at next
+    an-operand p = record { refuses = λ e. absurd (omega (arith, p .0, e)); passes = λ h. p }
 
     module _ {t : Token} (e : t ≡ tokenAt n row at) where
-      pub operand-reading : t ≡ Reading → ReadsOperand n row at (At (at + 1))
+      pub operand-reading : t ≡ Reading → ReadsOperand n row at (at + 1)
       operand-reading f =
           let g = there-is at e f in
-          record { passes = (omega arith, omega (arith, g .0), λ d. scan-found at Reading g (due d) ∙ ap (λ x. scan (class n) (whereDue x d) (drop (at + 1) row)) (g .1)) }
+          an-operand (omega arith, omega (arith, g .0), λ d. scan-found at Reading g (due d) ∙ ap (λ x. scan (class n) (whereDue x d) (drop (at + 1) row)) (g .1))
 
-      pub operand-operator : t ≡ Operator → ReadsOperand n row at (Refused 6)
-      operand-operator f = let g = there-is at e f in refuses (λ d. goes-wrong at Operator g (due d) (ap (λ x. whereDue x d) (g .1)))
+      pub operand-operator : t ≡ Operator → ReadsOperand n row at 0
+      operand-operator f = let g = there-is at e f in no-operand (λ d. goes-wrong at Operator g (due d) (ap (λ x. whereDue x d) (g .1)))
 
-      pub operand-closing : t ≡ Closing → ReadsOperand n row at (Refused 6)
-      operand-closing f = let g = there-is at e f in refuses (λ d. goes-wrong at Closing g (due d) (ap (λ x. whereDue x d) (g .1)))
+      pub operand-closing : t ≡ Closing → ReadsOperand n row at 0
+      operand-closing f = let g = there-is at e f in no-operand (λ d. goes-wrong at Closing g (due d) (ap (λ x. whereDue x d) (g .1)))
 
-      pub operand-other : t ≡ Other → ReadsOperand n row at (Refused 6)
-      operand-other f = let g = there-is at e f in refuses (λ d. goes-wrong at Other g (due d) (ap (λ x. whereDue x d) (g .1)))
+      pub operand-other : t ≡ Other → ReadsOperand n row at 0
+      operand-other f = let g = there-is at e f in no-operand (λ d. goes-wrong at Other g (due d) (ap (λ x. whereDue x d) (g .1)))
 
-      pub operand-end : t ≡ End → ReadsOperand n row at (Refused 6)
-      operand-end f = let g = there-is at e f in refuses (λ d. rw g)
+      pub operand-end : t ≡ End → ReadsOperand n row at 0
+      operand-end f = let g = there-is at e f in no-operand (λ d. rw g)
 
       -- into the bracket
       enters : (g : Found at Opening) (d : ℕ) → scan (class n) (due d) (drop at row) ≡ scan (class n) (due (suc d)) (drop (at + 1) row)
       enters g d = scan-found at Opening g (due d) ∙ ap (λ x. scan (class n) (whereDue x d) (drop (at + 1) row)) (g .1)
 
-      pub operand-inner-refused : t ≡ Opening → {r : Reach} {m : ℕ} → ReadsExpression n row (at + 1) r → r ≡ Refused m → ReadsOperand n row at (Refused 6)
-      operand-inner-refused f h q =
-          let g = there-is at e f in
-          let p = rw q at (h .passes) in
-          refuses (λ d. ap complete (enters g d) ∙ p .1 (suc d))
+      pub operand-inner-refused : t ≡ Opening → {next : ℕ} → ReadsExpression n row (at + 1) next → next ≡ 0 → ReadsOperand n row at 0
+      operand-inner-refused f h q = let g = there-is at e f in no-operand (λ d. ap complete (enters g d) ∙ h .refuses q (suc d))
 
-      pub operand-closed : t ≡ Opening → {r : Reach} {next : ℕ} {b : Bool} → ReadsExpression n row (at + 1) r → r ≡ At next
-          → b ≡ isClosing (tokenAt n row next) → b ≡ true → ReadsOperand n row at (At (next + 1))
+      pub operand-closed : t ≡ Opening → {next : ℕ} {b : Bool} → ReadsExpression n row (at + 1) next → (next ≡ 0 → ⊥)
+          → b ≡ isClosing (tokenAt n row next) → b ≡ true → ReadsOperand n row at (next + 1)
       operand-closed f {next = next} h q c v =
           let g = there-is at e f in
-          let p = rw q at (h .passes) in
+          let p = h .passes q in
           let k = closing-there next (tokenAt n row next) (there next) (sym c ∙ v) in
-          record {
-            passes = (
-              omega (arith, p .0),
-              omega (arith, k .0),
-              λ d. enters g d ∙ p .2 (suc d) ∙ scan-found next Closing k (done (suc d)) ∙ ap (λ x. scan (class n) (whereDone x (suc d)) (drop (next + 1) row)) (k .1),
-            );
-          }
+          an-operand (
+            omega (arith, p .0),
+            omega (arith, k .0),
+            λ d. enters g d ∙ p .2 (suc d) ∙ scan-found next Closing k (done (suc d)) ∙ ap (λ x. scan (class n) (whereDone x (suc d)) (drop (next + 1) row)) (k .1),
+          )
 
-      pub operand-unclosed : t ≡ Opening → {r : Reach} {next : ℕ} {b : Bool} → ReadsExpression n row (at + 1) r → r ≡ At next
-          → b ≡ isClosing (tokenAt n row next) → b ≡ false → ReadsOperand n row at (Refused 6)
+      pub operand-unclosed : t ≡ Opening → {next : ℕ} {b : Bool} → ReadsExpression n row (at + 1) next → (next ≡ 0 → ⊥)
+          → b ≡ isClosing (tokenAt n row next) → b ≡ false → ReadsOperand n row at 0
       operand-unclosed f {next = next} h q c v =
           let g = there-is at e f in
-          let p = rw q at (h .passes) in
-          let s = rw q at (h .stops) in
-          refuses (λ d. ap complete (enters g d ∙ p .2 (suc d)) ∙ open-ends next (tokenAt n row next) (there next) s (sym c ∙ v) d)
+          no-operand (λ d. ap complete (enters g d ∙ h .passes q .2 (suc d)) ∙ open-ends next (tokenAt n row next) (there next) (h .stops q) (sym c ∙ v) d)
 
-      pub opening-fits : length row < 2 ^ 64 → t ≡ Opening → Fits w64 (at + 1)
+      pub opening-fits : length row ≤ 255 → t ≡ Opening → Fits w64 (at + 1)
       opening-fits l f = let g = there-is at e f in omega (arith, g .0)
 
-      pub reading-fits : length row < 2 ^ 64 → t ≡ Reading → Fits w64 (at + 1)
+      pub reading-fits : length row ≤ 255 → t ≡ Reading → Fits w64 (at + 1)
       reading-fits l f = let g = there-is at e f in omega (arith, g .0)
 
       pub opening-falls : {m : ℕ} → 2 * (length row - at) ≡ m → t ≡ Opening → 2 * (length row - (at + 1)) + 1 < m
       opening-falls q f = let g = there-is at e f in omega (arith, g .0)
 
     -- after an operand
-    module _ {r : Reach} (h : ReadsOperand n row at r) where
-      pub expression-refused : {m : ℕ} → r ≡ Refused m → ReadsExpression n row at (Refused 6)
-      expression-refused q = let p = rw q at (h .passes) in record { passes = (refl, p .1); stops = tt }
+    module _ {next : ℕ} (h : ReadsOperand n row at next) where
+      pub expression-refused : next ≡ 0 → ReadsExpression n row at 0
+      expression-refused q = record { refuses = λ e. h .refuses q; passes = λ f. absurd (f refl); stops = λ f. absurd (f refl) }
 
-      pub expression-stops : {next : ℕ} {b : Bool} → r ≡ At next → b ≡ isOperator (tokenAt n row next) → b ≡ false → ReadsExpression n row at (At next)
-      expression-stops q c v = record { passes = rw q at (h .passes); stops = sym c ∙ v }
+      module _ (q : next ≡ 0 → ⊥) {b : Bool} (c : b ≡ isOperator (tokenAt n row next)) where
+        pub expression-stops : b ≡ false → ReadsExpression n row at next
+        expression-stops v = record { refuses = λ e. absurd (q e); passes = λ f. h .passes q; stops = λ f. sym c ∙ v }
 
-      -- past an operator that follows
-      further : {next : ℕ} {b : Bool} → r ≡ At next → b ≡ isOperator (tokenAt n row next) → b ≡ true
-          → (at < next) × (next < length row) × ((d : ℕ) → scan (class n) (due d) (drop at row) ≡ scan (class n) (due d) (drop (next + 1) row))
-      further {next} q c v =
-          let p = rw q at (h .passes) in
-          let k = operator-there next (tokenAt n row next) (there next) (sym c ∙ v) in
-          (p .0, k .0, λ d. p .2 d ∙ scan-found next Operator k (done d) ∙ ap (λ x. scan (class n) (whereDone x d) (drop (next + 1) row)) (k .1))
+        -- past an operator that follows
+        further : b ≡ true → (at < next) × (next < length row) × ((d : ℕ) → scan (class n) (due d) (drop at row) ≡ scan (class n) (due d) (drop (next + 1) row))
+        further v =
+            let p = h .passes q in
+            let k = operator-there next (tokenAt n row next) (there next) (sym c ∙ v) in
+            (p .0, k .0, λ d. p .2 d ∙ scan-found next Operator k (done d) ∙ ap (λ x. scan (class n) (whereDone x d) (drop (next + 1) row)) (k .1))
 
-      more : {next : ℕ} {b : Bool} → r ≡ At next → b ≡ isOperator (tokenAt n row next) → b ≡ true → (x : Reach) → Passes n row (next + 1) x → Passes n row at x
-      more q c v (At to) p = let f = further q c v in (omega (arith, f .0, p .0), p .1, λ d. f .2 d ∙ p .2 d)
-      more q c v (Refused m) p = let f = further q c v in (p .0, λ d. ap complete (f .2 d) ∙ p .1 d)
+        pub expression-more : {to : ℕ} → b ≡ true → ReadsExpression n row (next + 1) to → ReadsExpression n row at to
+        expression-more {to} v k =
+            let f = further v in
+            record {
+              refuses = λ e d. ap complete (f .2 d) ∙ k .refuses e d;
+              passes = λ g. let p = k .passes g in (omega (arith, f .0, p .0), p .1, λ d. f .2 d ∙ p .2 d);
+              stops = k .stops;
+            }
 
-      stops-more : (next : ℕ) (x : Reach) → Stops n row (next + 1) x → Stops n row at x
-      stops-more next (At to) s = s
-      stops-more next (Refused m) s = s
+        pub operator-fits : length row ≤ 255 → b ≡ true → Fits w64 (next + 1)
+        operator-fits l v = let f = further v in omega (arith, f .1)
 
-      pub expression-more : {next : ℕ} {b : Bool} {x : Reach} → r ≡ At next → b ≡ isOperator (tokenAt n row next) → b ≡ true
-          → ReadsExpression n row (next + 1) x → ReadsExpression n row at x
-      expression-more {next} {x = x} q c v k = record { passes = more q c v x (k .passes); stops = stops-more next x (k .stops) }
+        pub operator-falls : {m : ℕ} → 2 * (length row - at) + 1 ≡ m → b ≡ true → 2 * (length row - (next + 1)) + 1 < m
+        operator-falls l v = let f = further v in omega (arith, f .0, f .1)
 
-      pub operator-fits : {next : ℕ} {b : Bool} → length row < 2 ^ 64 → r ≡ At next → b ≡ isOperator (tokenAt n row next) → b ≡ true → Fits w64 (next + 1)
-      operator-fits l q c v = let f = further q c v in omega (arith, f .1)
-
-      pub operator-falls : {m next : ℕ} {b : Bool} → 2 * (length row - at) + 1 ≡ m → r ≡ At next → b ≡ isOperator (tokenAt n row next) → b ≡ true
-          → 2 * (length row - (next + 1)) + 1 < m
-      operator-falls l q c v = let f = further q c v in omega (arith, f .0, f .1)
-
-    pub closing-fits : {r : Reach} {next : ℕ} {b : Bool} → length row < 2 ^ 64 → ReadsExpression n row (at + 1) r → r ≡ At next
+    pub closing-fits : {next : ℕ} {b : Bool} → length row ≤ 255 → ReadsExpression n row (at + 1) next
         → b ≡ isClosing (tokenAt n row next) → b ≡ true → Fits w64 (next + 1)
-    closing-fits {next = next} l h q c v = let k = closing-there next (tokenAt n row next) (there next) (sym c ∙ v) in omega (arith, k .0)
+    closing-fits {next} l h c v = let k = closing-there next (tokenAt n row next) (there next) (sym c ∙ v) in omega (arith, k .0)
 
 pub ruleset reader-ways = (
   operand-reading,

@@ -1,6 +1,6 @@
 -- What each way through the checks of a row gives, from what is known on it. Assumes nothing.
 use mathlib.Core.Path.{_≡_, refl, sym, ap, _∙_}
-use mathlib.Core.Bool.{Bool, true, false, not, _||_, cond}
+use mathlib.Core.Bool.{Bool, true, false, not, _&&_, _||_, cond, or-assoc, or-false, and-false}
 use mathlib.Core.List.{List}
 use Prim.Native.Nat.{ℕ, _+_, _-_, _<_, _≤_}
 use native.Mathlib.Omega.{arith}
@@ -19,62 +19,55 @@ use Rattle.expression.specs.Token.{opening, closing, firstReading, lastReading,
 use Rattle.expression.specs.RowTest.{done, complete, scan, isRow}
 use Rattle.expression.specs.Checks.{strangeInRow, rowNumber}
 use Rattle.parser.specs.Rows.{tokenAt, ReadsExpression, hasStranger}
-use Rattle.parser.specs.declared.row.Reach.{Reach}
-use Rattle.parser.specs.declared.row.Reach.the-variants.{At, Refused}
 use Rattle.parser.proofs.ReaderWays.{there, row-ends}
 
 -- ---- is_strange
 module _ (n c : ℕ) where
-  pub reading-known : Fits w8 c → 128 ≤ c → false ≡ strangeInRow (class n c)
+  pub strange-test : Fits w8 c → (leb n c && ltb c 32 || ltb 33 c && ltb c 128) ≡ strangeInRow (class n c)
   unfolding class
-  reading-known f h =
-      simp (le-ltb c mostOperators (omega arith), ne-eqb c opening (λ e. omega arith), ne-eqb c closing (λ e. omega arith), le-ltb c firstReading h, le-ltb lastReading c (omega arith))
-
-  pub operator-known : c < 32 → leb n c ≡ strangeInRow (class n c)
-  unfolding class
-  operator-known h = go (decLt c n)
+  strange-test f = go (decLt c mostOperators) (decLt c n) (ℕ-discrete c opening) (ℕ-discrete c closing) (decLt c firstReading)
     where
-      go : Dec (c < n) → leb n c ≡ strangeInRow (class n c)
-      go (yes g) = simp (lt-leb n c g, lt-ltb c mostOperators h, lt-ltb c n g)
-      go (no g) = let i : n ≤ c = omega arith in simp (le-leb n c i, lt-ltb c mostOperators h, le-ltb c n i)
+      go : Dec (c < 32) → Dec (c < n) → Dec (c ≡ opening) → Dec (c ≡ closing) → Dec (c < 128)
+          → (leb n c && ltb c 32 || ltb 33 c && ltb c 128) ≡ strangeInRow (class n c)
+      go (yes h) (yes g) o s r = simp (lt-leb n c g, le-ltb 33 c (omega arith), lt-ltb c 32 h, lt-ltb c n g)
+      go (yes h) (no g) o s r = simp (le-leb n c (omega arith), lt-ltb c 32 h, le-ltb c n (omega arith))
+      go (no h) g (yes e) s r = rw e (ap (λ x. x || false) (and-false (leb n 32)))
+      go (no h) g (no e) (yes k) r = rw k (ap (λ x. x || false) (and-false (leb n 33)))
+      go (no h) g (no e) (no k) (yes r) =
+          simp (le-ltb c 32 (omega arith), lt-ltb 33 c (omega arith), lt-ltb c 128 r, ne-eqb c opening e, ne-eqb c closing k, and-false (leb n c))
+      go (no h) g (no e) (no k) (no r) =
+          simp (le-ltb c 32 (omega arith), lt-ltb 33 c (omega arith), le-ltb c 128 (omega arith), ne-eqb c opening e, ne-eqb c closing k, le-ltb lastReading c (omega arith), and-false (leb n c))
 
-  pub other-known : c < 128 → 32 ≤ c → ltb 33 c ≡ strangeInRow (class n c)
-  unfolding class
-  other-known h g = go (ℕ-discrete c opening) (ℕ-discrete c closing)
-    where
-      go : Dec (c ≡ opening) → Dec (c ≡ closing) → ltb 33 c ≡ strangeInRow (class n c)
-      go (yes e) d = rw e
-      go (no e) (yes f) = rw f
-      go (no e) (no f) = simp (lt-ltb 33 c (omega arith), le-ltb c mostOperators g, ne-eqb c opening e, ne-eqb c closing f, lt-ltb c firstReading h)
-
-pub ruleset strange-ways = (reading-known, operator-known, other-known, needs)
+pub ruleset strange-ways = (strange-test, needs)
 
 -- ---- has_stranger
 module _ (n : ℕ) (row : List ℕ) where
-  -- all that is looked at before the place is no stranger
-  pub record Looked (i : ℕ) : Type 0 where
-    pub inside : i ≤ length row
-    pub same : hasStranger n row ≡ hasStranger n (drop i row)
+  -- what is found before the place, and what stands from there on, make up the answer
+  pub record Looked (strange : Bool) (at : ℕ) : Type 0 where
+    pub inside : at ≤ length row
+    pub same : (strange || hasStranger n (drop at row)) ≡ hasStranger n row
 
-  here : (i : ℕ) → i < length row → hasStranger n (drop i row) ≡ (strangeInRow (class n (getD row i 0)) || hasStranger n (drop (i + 1) row))
+  here : (at : ℕ) → at < length row → hasStranger n (drop at row) ≡ (strangeInRow (class n (getD row at 0)) || hasStranger n (drop (at + 1) row))
   unfolding hasStranger
-  here i h = rw (drop-cons row i 0 h, add-one)
+  here at h = rw (drop-cons row at 0 h, add-one)
 
-  pub looked-none : Looked 0
+  pub looked-none : Looked false 0
   looked-none = record { inside = omega arith; same = refl }
 
-  pub looked-found : {i : ℕ} {b : Bool} → Looked i → i < length row → b ≡ strangeInRow (class n (getD row i 0)) → b ≡ true → true ≡ hasStranger n row
-  looked-found {i} l h e f = sym (l .same ∙ here i h ∙ ap (λ x. x || hasStranger n (drop (i + 1) row)) (sym e ∙ f))
+  pub looked-more : {at : ℕ} {b q : Bool} → Looked b at → at < length row → q ≡ strangeInRow (class n (getD row at 0)) → Looked (b || q) (at + 1)
+  looked-more {at} {b} {q} l h e =
+      record {
+        inside = omega arith;
+        same = or-assoc b q (hasStranger n (drop (at + 1) row)) ∙ ap (λ x. b || (x || hasStranger n (drop (at + 1) row))) e
+            ∙ ap (λ x. b || x) (sym (here at h)) ∙ l .same;
+      }
 
-  pub looked-more : {i : ℕ} {b : Bool} → Looked i → i < length row → b ≡ strangeInRow (class n (getD row i 0)) → b ≡ false → Looked (i + 1)
-  looked-more {i} l h e f =
-      record { inside = omega arith; same = l .same ∙ here i h ∙ ap (λ x. x || hasStranger n (drop (i + 1) row)) (sym e ∙ f) }
-
-  pub looked-all : {i : ℕ} → Looked i → length row ≤ i → false ≡ hasStranger n row
+  pub looked-all : {at : ℕ} {b : Bool} → Looked b at → length row ≤ at → b ≡ hasStranger n row
   unfolding hasStranger
-  looked-all {i} l h = sym (l .same ∙ ap (λ x. any (λ c. strangeInRow (class n c)) x) (drop-of-length-le row h))
+  looked-all {at} {b} l h =
+      sym (or-false b) ∙ ap (λ x. b || any (λ c. strangeInRow (class n c)) x) (sym (drop-of-length-le row h)) ∙ l .same
 
-pub ruleset stranger-ways = (looked-none, looked-found, looked-more, looked-all, needs)
+pub ruleset stranger-ways = (looked-none, looked-more, looked-all, needs)
 
 -- ---- row_number
 module _ (n : ℕ) (row : List ℕ) where
@@ -91,22 +84,18 @@ module _ (n : ℕ) (row : List ℕ) where
     unfolding rowNumber hasStranger
     by-test e t f = simp (le-ltb mostTokens (length row) short, sym s ∙ e, f)
 
-    module _ (e : b ≡ false) {r : Reach} (h : ReadsExpression n row 0 r) where
-      pub is-no-row : {m : ℕ} → r ≡ Refused m → m ≡ rowNumber n row
+    module _ (e : b ≡ false) {end : ℕ} (h : ReadsExpression n row 0 end) where
+      pub is-no-row : end ≡ 0 → 6 ≡ rowNumber n row
       unfolding isRow
-      is-no-row q = let p = rw q at (h .passes) in p .0 ∙ by-test e false (p .1 0)
+      is-no-row q = by-test e false (h .refuses q 0)
 
-      pub is-longer : {end : ℕ} → r ≡ At end → end < length row → 6 ≡ rowNumber n row
+      pub is-longer : (end ≡ 0 → ⊥) → end < length row → 6 ≡ rowNumber n row
       unfolding isRow
-      is-longer {end} q l =
-          let p = rw q at (h .passes) in
-          let s = rw q at (h .stops) in
-          by-test e false (ap complete (p .2 0) ∙ row-ends n row end (tokenAt n row end) (there n row end) s l)
+      is-longer q l =
+          by-test e false (ap complete (h .passes q .2 0) ∙ row-ends n row end (tokenAt n row end) (there n row end) (h .stops q) l)
 
-      pub is-row : {end : ℕ} → r ≡ At end → length row ≤ end → 0 ≡ rowNumber n row
+      pub is-row : (end ≡ 0 → ⊥) → length row ≤ end → 0 ≡ rowNumber n row
       unfolding isRow
-      is-row {end} q l =
-          let p = rw q at (h .passes) in
-          by-test e true (ap complete (p .2 0 ∙ ap (scan (class n) (done 0)) (drop-of-length-le row l)))
+      is-row q l = by-test e true (ap complete (h .passes q .2 0 ∙ ap (scan (class n) (done 0)) (drop-of-length-le row l)))
 
 pub ruleset row-ways = (is-oversize, is-stranger, is-no-row, is-longer, is-row, needs)

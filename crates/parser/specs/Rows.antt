@@ -5,7 +5,6 @@ use mathlib.Core.Bool.{Bool, true, false, cond}
 use mathlib.Core.List.{List}
 use lib.Dec.{ltb}
 use lib.ListN.{length, getD, drop}
-use Rattle.expression.specs.Refusal.{noRow}
 use Rattle.expression.specs.Token.{Class, Infix, class}
 use Rattle.expression.specs.Token as token
 use Rattle.expression.specs.Lists.{any}
@@ -13,8 +12,6 @@ use Rattle.expression.specs.Checks.{strangeInRow}
 use Rattle.expression.specs.RowTest.{due, done, complete, scan}
 use Rattle.parser.specs.declared.row.Token.{Token}
 use Rattle.parser.specs.declared.row.Token.the-variants.{Operator, Opening, Closing, Reading, Other, End}
-use Rattle.parser.specs.declared.row.Reach.{Reach}
-use Rattle.parser.specs.declared.row.Reach.the-variants.{At, Refused}
 
 -- the token of a class
 abbrev pub tokenOf : Class → Token
@@ -44,25 +41,26 @@ isClosing Reading = false
 isClosing Other = false
 isClosing End = false
 
+-- A reader answers the place after what it read, or 0.
 module _ (n : ℕ) (row : List ℕ) (at : ℕ) where
-  -- The rest of the row is passed from a place where an operand is due to one where it has been read; or no row goes on so.
-  abbrev pub Passes : Reach → Type 0
-  Passes (At next) = (at < next) × (next ≤ length row) × ((d : ℕ) → scan (class n) (due d) (drop at row) ≡ scan (class n) (done d) (drop next row))
-  Passes (Refused number) = (number ≡ noRow) × ((d : ℕ) → complete (scan (class n) (due d) (drop at row)) ≡ false)
+  -- Where it answers a place, the rest of the row is passed from a place where an operand is due to one where it has been read.
+  abbrev pub Passes : ℕ → Type 0
+  Passes next = (at < next) × (next ≤ length row) × ((d : ℕ) → scan (class n) (due d) (drop at row) ≡ scan (class n) (done d) (drop next row))
+
+  -- Where it answers 0, no row goes on so.
+  abbrev pub Refuses : Type 0
+  Refuses = (d : ℕ) → complete (scan (class n) (due d) (drop at row)) ≡ false
 
   -- What a reader of operands finds.
-  pub record ReadsOperand (r : Reach) : Type 0 where
-    pub passes : Passes r
+  pub record ReadsOperand (next : ℕ) : Type 0 where
+    pub refuses : next ≡ 0 → Refuses
+    pub passes : (next ≡ 0 → ⊥) → Passes next
 
-  -- No operator stands where an expression ends.
-  abbrev pub Stops : Reach → Type 0
-  Stops (At next) = isOperator (tokenAt n row next) ≡ false
-  Stops (Refused number) = Unit {0}
-
-  -- What a reader of expressions finds: it goes on as far as it can.
-  pub record ReadsExpression (r : Reach) : Type 0 where
-    pub passes : Passes r
-    pub stops : Stops r
+  -- What a reader of expressions finds: it goes on as far as it can, so no operator stands where an expression ends.
+  pub record ReadsExpression (next : ℕ) : Type 0 where
+    pub refuses : next ≡ 0 → Refuses
+    pub passes : (next ≡ 0 → ⊥) → Passes next
+    pub stops : (next ≡ 0 → ⊥) → isOperator (tokenAt n row next) ≡ false
 
 -- some token is strange
 unfoldable pub hasStranger : ℕ → List ℕ → Bool

@@ -4,6 +4,9 @@ use sheet::refusal;
 use sheet::token;
 ghost use mathlib.Core.Path.{_≡_};
 ghost use mathlib.Core.Bool.{Bool};
+ghost use Prim.Native.Nat.{_≤_};
+ghost use lib.ListN.{length};
+ghost use Rattle.expression.specs.Limits.{mostTokens};
 ghost use Rattle.expression.specs.Token.{class};
 ghost use Rattle.expression.specs.Checks.{strangeInRow, rowNumber, recordBytes};
 ghost use Rattle.parser.specs.Fronts.{share};
@@ -81,75 +84,70 @@ fn closing_at(n: u8, row: &[u8], at: usize) -> bool
     }
 }
 
-// Where a reader got to, or the number of its refusal.
-pub enum Reach {
-    At(usize),
-    Refused(u8),
-}
+// A reader's answer where it can read nothing: no place after something is 0.
+const NOWHERE: usize = 0;
 
 // The place after the expression that starts at `at`: an operand, then any number of operator and operand.
-fn expression_end(n: u8, row: &[u8], at: usize) -> Reach
-    ensures { λ r. ⌜ ReadsExpression n (now (row .entry)) at r ⌝ }
+// The row goes on by its one reference, so that the call for what follows an operator is a jump.
+fn expression_end<'a, 'b>(n: u8, row: &'a &'b [u8], at: usize) -> usize
+    requires { ⌜ length (now (now row)) ≤ mostTokens ⌝ }
+    ensures { λ r. ⌜ ReadsExpression n (now (now (row .entry))) at r ⌝ }
 {
-    let first = operand_end(n, row, at);
-    let Reach::At(next) = first else {
-        return Reach::Refused(refusal::NO_ROW);
-    };
-    if operator_at(n, row, next) {
+    let next = operand_end(n, row, at);
+    if next == NOWHERE {
+        return NOWHERE;
+    }
+    if operator_at(n, *row, next) {
         return expression_end(n, row, next + 1);
     }
-    Reach::At(next)
+    next
 }
 
 // The place after the operand that starts at `at`: a reading, or an expression in brackets.
-fn operand_end(n: u8, row: &[u8], at: usize) -> Reach
-    ensures { λ r. ⌜ ReadsOperand n (now (row .entry)) at r ⌝ }
+fn operand_end<'a, 'b>(n: u8, row: &'a &'b [u8], at: usize) -> usize
+    requires { ⌜ length (now (now row)) ≤ mostTokens ⌝ }
+    ensures { λ r. ⌜ ReadsOperand n (now (now (row .entry))) at r ⌝ }
 {
-    let t = token_at(n, row, at);
+    let t = token_at(n, *row, at);
     match t {
-        Token::Reading => Reach::At(at + 1),
+        Token::Reading => at + 1,
         Token::Opening => {
-            let inner = expression_end(n, row, at + 1);
-            let Reach::At(next) = inner else {
-                return Reach::Refused(refusal::NO_ROW);
-            };
-            if closing_at(n, row, next) {
-                return Reach::At(next + 1);
+            let next = expression_end(n, row, at + 1);
+            if next == NOWHERE {
+                return NOWHERE;
             }
-            Reach::Refused(refusal::NO_ROW)
+            if closing_at(n, *row, next) {
+                return next + 1;
+            }
+            NOWHERE
         }
-        Token::Operator => Reach::Refused(refusal::NO_ROW),
-        Token::Closing => Reach::Refused(refusal::NO_ROW),
-        Token::Other => Reach::Refused(refusal::NO_ROW),
-        Token::End => Reach::Refused(refusal::NO_ROW),
+        Token::Operator => NOWHERE,
+        Token::Closing => NOWHERE,
+        Token::Other => NOWHERE,
+        Token::End => NOWHERE,
     }
 }
 
-// A byte without meaning, or an operator not below n.
+// A byte without meaning, or an operator not below n; no branch tells.
 fn is_strange(n: u8, c: u8) -> bool
     ensures { λ r. ⌜ r ≡ strangeInRow (class n c) ⌝ }
 {
-    if token::FIRST_READING <= c {
-        return false;
-    }
-    if c < limits::MOST_OPERATORS {
-        return n <= c;
-    }
-    token::CLOSING < c
+    let no_operator = (n <= c) & (c < limits::MOST_OPERATORS);
+    let no_meaning = (token::CLOSING < c) & (c < token::FIRST_READING);
+    no_operator | no_meaning
 }
 
-// Some token is strange.
+// Some token is strange. The loop has no branch, so that tokens can be tested side by side.
 fn has_stranger(n: u8, row: &[u8]) -> bool
     ensures { λ r. ⌜ r ≡ hasStranger n (now (row .entry)) ⌝ }
 {
-    let mut i: usize = 0;
-    while i < row.len() {
-        if is_strange(n, row[i]) {
-            return true;
-        }
-        i += 1;
+    let mut strange = false;
+    let mut at = 0;
+    while at < row.len() {
+        strange = strange | is_strange(n, row[at]);
+        at += 1;
     }
-    false
+    strange
 }
 
 // The number of a row: 1, 3, 6 or 0.
@@ -162,20 +160,18 @@ pub fn number(n: u8, row: &[u8]) -> u8
     if has_stranger(n, row) {
         return refusal::STRANGER;
     }
-    let whole = expression_end(n, row, 0);
-    match whole {
-        Reach::At(end) => {
-            if end < row.len() {
-                return refusal::NO_ROW;
-            }
-            refusal::ACCEPTED
-        }
-        Reach::Refused(number) => number,
+    let end = expression_end(n, &row, 0);
+    if end == NOWHERE {
+        return refusal::NO_ROW;
     }
+    if end < row.len() {
+        return refusal::NO_ROW;
+    }
+    refusal::ACCEPTED
 }
 
 // A token's share of its row's record: a byte, but none for a closing bracket.
-fn share_of(c: u8) -> usize
+fn share_of(c: u8) -> u8
     ensures { λ r. ⌜ r ≡ share c ⌝ }
 {
     if c == token::CLOSING {
@@ -184,15 +180,16 @@ fn share_of(c: u8) -> usize
     1
 }
 
-// The bytes of the row's record.
+// The bytes of the row's record. They are counted in a byte, so that tokens can be counted side by side.
 pub fn record_bytes(row: &[u8]) -> usize
+    requires { ⌜ length (now row) ≤ mostTokens ⌝ }
     ensures { λ r. ⌜ r ≡ recordBytes (now (row .entry)) ⌝ }
 {
-    let mut count: usize = 0;
+    let mut count: u8 = 0;
     let mut i: usize = 0;
     while i < row.len() {
         count += share_of(row[i]);
         i += 1;
     }
-    count
+    count as usize
 }

@@ -16,35 +16,35 @@ use Rattle.parser.proofs.row.token_at.Reads as token-at-reads
 use Rattle.parser.proofs.row.+expression_end+operand_end.{statement}
 use Rattle.parser.proofs.row.+expression_end+operand_end.Tie.{close}
 
-abbrev μ-expression-end : Measures 1 expression-end-kinds.ps ℕ
-μ-expression-end κs a = 2 * (length (a .1 .0 .now) - a .1 .1 .0) + 1
+abbrev μ-expression-end : Measures 2 expression-end-kinds.ps ℕ
+μ-expression-end κs a = 2 * (length (a .1 .0 .now .now) - a .1 .1 .0) + 1
 
-abbrev μ-operand-end : Measures 1 operand-end-kinds.ps ℕ
-μ-operand-end κs a = 2 * (length (a .1 .0 .now) - a .1 .1 .0)
+abbrev μ-operand-end : Measures 2 operand-end-kinds.ps ℕ
+μ-operand-end κs a = 2 * (length (a .1 .0 .now .now) - a .1 .1 .0)
 
-abbrev expression-end-at : ℕ → In 1 expression-end-kinds.ps
+abbrev expression-end-at : ℕ → In 2 expression-end-kinds.ps
 expression-end-at t =
     and
-    1
+    2
     expression-end-kinds.ps
-    (is 1 expression-end-kinds.ps μ-expression-end t)
+    (is 2 expression-end-kinds.ps μ-expression-end t)
     expression-end.Pre
 
-abbrev expression-end-below : ℕ → In 1 expression-end-kinds.ps
+abbrev expression-end-below : ℕ → In 2 expression-end-kinds.ps
 expression-end-below t =
     and
-    1
+    2
     expression-end-kinds.ps
-    (falls 1 expression-end-kinds.ps _<_ μ-expression-end t)
+    (falls 2 expression-end-kinds.ps _<_ μ-expression-end t)
     expression-end.Pre
 
-abbrev operand-end-at : ℕ → In 1 operand-end-kinds.ps
+abbrev operand-end-at : ℕ → In 2 operand-end-kinds.ps
 operand-end-at t =
-    and 1 operand-end-kinds.ps (is 1 operand-end-kinds.ps μ-operand-end t) operand-end.Pre
+    and 2 operand-end-kinds.ps (is 2 operand-end-kinds.ps μ-operand-end t) operand-end.Pre
 
-abbrev operand-end-below : ℕ → In 1 operand-end-kinds.ps
+abbrev operand-end-below : ℕ → In 2 operand-end-kinds.ps
 operand-end-below t =
-    and 1 operand-end-kinds.ps (falls 1 operand-end-kinds.ps _<_ μ-operand-end t) operand-end.Pre
+    and 2 operand-end-kinds.ps (falls 2 operand-end-kinds.ps _<_ μ-operand-end t) operand-end.Pre
 
 pub +expression-end+operand-end-spec : {M : Type 1} → statement M
 +expression-end+operand-end-spec =
@@ -59,8 +59,6 @@ pub +expression-end+operand-end-spec : {M : Type 1} → statement M
     (expression-end-at t)
     expression-end.Post
     (λ c κs. search reader-ways)
-    (λ c. search reader-ways)
-    (λ c. search reader-ways)
     (λ c. search reader-ways)
     (λ c κs. search reader-ways)
     (λ c. search reader-ways)
@@ -83,8 +81,6 @@ pub +expression-end+operand-end-spec : {M : Type 1} → statement M
     (λ c. search reader-ways)
     (λ c. search reader-ways)
     (λ c κs. search reader-ways)
-    (λ c. search reader-ways)
-    (λ c. search reader-ways)
     (λ c. search reader-ways)
     (λ c κs. search reader-ways)
     (λ c. search reader-ways)

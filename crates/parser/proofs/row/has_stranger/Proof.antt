@@ -1,4 +1,4 @@
--- `parser::row::has_stranger` meets its contract; in its loop, no token before the place is strange. Assumes nothing.
+-- `parser::row::has_stranger` meets its contract; in its loop, what is found so far and what stands from the place on make up the answer. Assumes nothing.
 use Prim.Native.Nat.{_-_}
 use lib.ListN.{length}
 use Rattle.parser.proofs.RowWays.{Looked}
@@ -7,10 +7,10 @@ use Rattle.parser.proofs.row.has_stranger.Statement.{statement}
 use Rattle.parser.proofs.row.has_stranger.Tie as tie
 
 abbrev Inv-loop : tie.InvT-loop
-Inv-loop n row i₀ i = Looked n row i
+Inv-loop n row strange₀ at₀ strange at = Looked n row strange at
 
 abbrev μ-loop : tie.MeasureT-loop
-μ-loop n row i₀ i = length row - i
+μ-loop n row strange₀ at₀ strange at = length row - at
 
 pub has-stranger-spec : {M : Type 1} → statement M
 has-stranger-spec =
@@ -21,7 +21,6 @@ has-stranger-spec =
     (λ c. search stranger-ways)
     (λ c. search stranger-ways)
     (λ c κs. search stranger-ways)
-    (λ c. search stranger-ways)
     (λ c. search stranger-ways)
     (λ c. search stranger-ways)
     (λ c. search stranger-ways)

@@ -7,6 +7,4 @@ pub is-strange-spec : {M : Type 1} → statement M
 is-strange-spec =
     tie.close
     (tie.spec
-    (λ c. search strange-ways)
-    (λ c. search strange-ways)
     (λ c. search strange-ways))

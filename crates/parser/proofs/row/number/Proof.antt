@@ -13,6 +13,4 @@ number-spec =
     (λ c κs. search row-ways)
     (λ c. search row-ways)
     (λ c. search row-ways)
-    (λ c. search row-ways)
-    (λ c. search row-ways)
     (λ c. search row-ways))

@@ -25,4 +25,5 @@ record-bytes-spec =
     (λ c. search bytes-ways)
     (λ c. search bytes-ways)
     (λ c. search bytes-ways)
+    (λ c. search bytes-ways)
     (λ c. search bytes-ways))
