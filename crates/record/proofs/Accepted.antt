@@ -7,7 +7,7 @@ use mathlib.Core.Option.{Option, none, some}
 use mathlib.Core.List.{List, [], _∷_, _++_}
 use lib.ListN.{length}
 use borrow.Author.Tests.{ltb-false}
-use Rattle.expression.specs.Limits.{mostRecordBytes}
+use Rattle.expression.specs.Limits.{mostTokens, mostRecordBytes}
 use Rattle.expression.specs.Refusal.{Check, Passed, first, accepted}
 use Rattle.expression.specs.Token.{class}
 use Rattle.expression.specs.Tree.{Tree, yield}
@@ -37,6 +37,7 @@ pub record Accepted (n : ℕ) (bytes : List ℕ) (t : Tree) : Type 0 where
   pub stands : TreeAt n bytes 0 t (length bytes)
   pub bytes-fit : length bytes ≤ mostRecordBytes
   pub row-is : length (yield t) ≡ rowLength bytes
+  pub row-fits : length (yield t) ≤ mostTokens
 
 module _ (n : ℕ) (bytes : List ℕ) where
   all-passed : recordNumber n bytes ≡ accepted → Passed (recordChecks n bytes)
@@ -58,5 +59,6 @@ module _ (n : ℕ) (bytes : List ℕ) where
           stands = whole n bytes t q;
           bytes-fit = ltb-false mostRecordBytes (length bytes) (p .0);
           row-is = sym (ap rowTokens q) ∙ row-length-of-record (class n) (brackets n) bytes t q;
+          row-fits = omega (arith, ap rowTokens q, ltb-false mostTokens (rowTokens (treeOf (class n) bytes)) (p .1 .1 .1 .0));
         },
       )

@@ -12,24 +12,13 @@ use borrow.Author.Needs.{needs}
 use borrow.Author.Tests.{ltb-true, ltb-false, lt-ltb, le-ltb, le-leb, lt-leb, eq-eqb, ne-eqb}
 use mir.Syntax.{w8, w64}
 use mir.Val.{Fits}
-use types.Run.{OneOf}
-use denote.Enum.Declared.{tagOf}
 use Rattle.expression.specs.Lists.{any, one, count}
 use Rattle.expression.specs.Limits.{mostOperators, mostRecordBytes}
-use Rattle.expression.specs.Token.{Class, Infix, Opening, Closing, Reading, Meaningless, opening, closing, firstReading, class}
-use Rattle.expression.specs.Refusal.{noTree}
+use Rattle.expression.specs.Token.{Class, opening, closing, firstReading, class}
 use Rattle.expression.specs.Checks.{strangeInRecord}
 use Rattle.expression.proofs.Cond.{by-cond}
-use Rattle.expression.proofs.Classes.{class-reading}
-use Rattle.record.specs.Node.{nodeOf, nodeAt}
-use Rattle.record.specs.Checks.{lists, dueAfter, rowLength}
-use Rattle.record.specs.declared.Node.{Node}
-use Rattle.record.specs.declared.Node.the-variants as node
-use Rattle.record.specs.declared.checks.Due.{Due}
-use Rattle.record.specs.declared.checks.Due.the-variants.{Trees, Refused}
-use Rattle.record.proofs.Node as nodes
-use Rattle.record.proofs.checks.Due as dues
-use Rattle.record.proofs.Nodes.{is-other, within-node}
+use Rattle.expression.proofs.Classes.{by-class, class-reading}
+use Rattle.record.specs.Checks.{behind, lists, rowLength}
 
 -- a stranger, by the tests of its byte
 module _ (n byte : ℕ) where
@@ -71,78 +60,87 @@ module _ (p : ℕ → Bool) (bytes : List ℕ) (at : ℕ) (so-far : Bool) (same 
   pub all-tested : length bytes ≤ at → so-far ≡ any p bytes
   all-tested h = sym (or-false so-far) ∙ ap (λ l. so-far || any p l) (sym (drop-of-length-le bytes h)) ∙ same
 
--- the trees due after a node
-some-due : (due : ℕ) → (due ≡ 0 → ⊥) → due ≡ suc (due - 1)
-some-due zero h = absurd (h refl)
-some-due (suc d) h = ap suc (omega arith)
+or-left : (a b : Bool) → (a || b) ≡ false → a ≡ false
+or-left true b e = e
+or-left false b e = refl
 
-module _ (x : Node) (due : ℕ) where
-  pub no-more : due ≡ 0 → Refused noTree ≡ dueAfter x due
-  no-more e = rw e
+or-right : (a b : Bool) → (a || b) ≡ false → b ≡ false
+or-right true b e = let z : _≡_ {A = ℕ} 0 1 = cc in absurd (omega arith)
+or-right false b e = e
 
-  pub due-reading : {a : ℕ} → (due ≡ 0 → ⊥) → x ≡ node.Reading a → Trees (due - 1) ≡ dueAfter x due
-  due-reading h e = sym (ap (dueAfter x) (some-due due h) ∙ rw e)
+-- where none is a stranger, each is none
+plain-byte : (p : ℕ → Bool) (bytes : List ℕ) (at : ℕ) → any p bytes ≡ false → at < length bytes → p (getD bytes at 0) ≡ false
+plain-byte p [] at e h = absurd (omega arith)
+plain-byte p (c ∷ bytes) zero e h = or-left (p c) (any p bytes) e
+plain-byte p (c ∷ bytes) (suc at) e h = plain-byte p bytes at (or-right (p c) (any p bytes) e) (omega arith)
 
-  pub due-bracket : (due ≡ 0 → ⊥) → x ≡ node.Bracket → Trees due ≡ dueAfter x due
-  due-bracket h e = sym (ap (dueAfter x) (some-due due h) ∙ rw e (ap Trees (sym (some-due due h))))
+-- the trees due behind a byte
+pub more-one : (byte : ℕ) → byte < opening → 1 ≡ one (ltb byte opening)
+more-one byte h = rw (lt-ltb byte opening h)
 
-  pub due-operator : {o : ℕ} → (due ≡ 0 → ⊥) → x ≡ node.Operator o → Trees (due + 1) ≡ dueAfter x due
-  due-operator h e = sym (ap (dueAfter x) (some-due due h) ∙ rw e (ap Trees (omega (arith, some-due due h))))
+pub more-none : (byte : ℕ) → opening ≤ byte → 0 ≡ one (ltb byte opening)
+more-none byte h = rw (le-ltb byte opening h)
 
-  pub due-other : (due ≡ 0 → ⊥) → OneOf (1 ∷ 2 ∷ 3 ∷ []) (tagOf nodes.the-type x) → OneOf (0 ∷ 2 ∷ 3 ∷ []) (tagOf nodes.the-type x)
-      → OneOf (0 ∷ 1 ∷ 3 ∷ []) (tagOf nodes.the-type x) → Refused noTree ≡ dueAfter x due
-  due-other h p q r = sym (ap (dueAfter x) (some-due due h) ∙ rw (is-other x p q r))
+pub fewer-none : (byte : ℕ) → byte < firstReading → 0 ≡ one (leb firstReading byte)
+fewer-none byte h = rw (lt-leb firstReading byte h)
 
-pub ruleset due-after-ways = (no-more, due-reading, due-bracket, due-operator, due-other, needs)
+pub fewer-one : (byte : ℕ) → firstReading ≤ byte → 1 ≡ one (leb firstReading byte)
+fewer-one byte h = rw (le-leb firstReading byte h)
 
--- whether the bytes behind a node list what is due behind it
-abbrev listsBehind : (ℕ → Class) → Due → List ℕ → Bool
-listsBehind k (Trees d) cs = lists k d cs
-listsBehind k (Refused c) cs = false
+behind-is : (n c d : ℕ) → strangeInRecord (class n c) ≡ false → behind (class n c) d ≡ suc d + one (ltb c opening) - one (leb firstReading c)
+behind-is n c d =
+    by-class n (λ y. strangeInRecord y ≡ false → behind y d ≡ suc d + one (ltb c opening) - one (leb firstReading c)) c
+    (λ h _ _. rw (lt-ltb c opening h, lt-leb firstReading c (omega arith)) (omega arith))
+    (λ e _. rw (le-ltb c opening (omega arith), lt-leb firstReading c (omega arith)) (omega arith))
+    (λ _ e. cc)
+    (λ h _ _. rw (le-ltb c opening (omega arith), le-leb firstReading c h) (omega arith))
+    (λ e. cc)
 
-lists-behind : (k : ℕ → Class) (y : Class) (c : ℕ) (cs : List ℕ) → k c ≡ y → (d : ℕ) → lists k d (c ∷ cs) ≡ listsBehind k (dueAfter (nodeOf y c) d) cs
-unfolding lists
-lists-behind k y c cs e zero = refl
-lists-behind k Infix c cs e (suc d) = rw e
-lists-behind k Opening c cs e (suc d) = rw e
-lists-behind k Closing c cs e (suc d) = rw e
-lists-behind k Reading c cs e (suc d) = rw e
-lists-behind k Meaningless c cs e (suc d) = rw e
+one-small : (b : Bool) → one b ≤ 1
+one-small true = omega arith
+one-small false = omega arith
 
-due-small : (x : Node) (due trees : ℕ) → dueAfter x due ≡ Trees trees → trees ≤ due + 1
-due-small x zero trees e = let z : _≡_ {A = ℕ} 0 1 = cc in absurd (omega arith)
-due-small (node.Reading a) (suc d) trees e = let z : d ≡ trees = cc in omega arith
-due-small node.Bracket (suc d) trees e = let z : suc d ≡ trees = cc in omega arith
-due-small (node.Operator o) (suc d) trees e = let z : suc (suc d) ≡ trees = cc in omega arith
-due-small node.Other (suc d) trees e = let z : _≡_ {A = ℕ} 0 1 = cc in absurd (omega arith)
+module _ (at due byte : ℕ) (some : due ≡ 0 → ⊥) {more fewer : ℕ} (m : more ≡ one (ltb byte opening)) (f : fewer ≡ one (leb firstReading byte)) where
+  pub fewer-fits : fewer ≤ due + more
+  fewer-fits = omega (arith, some, one-small (leb firstReading byte))
 
-pub due-on : (x : Node) (at due trees : ℕ) {next : Due} → next ≡ dueAfter x due → next ≡ Trees trees → due ≤ at + 1 → trees ≤ at + 1 + 1
-due-on x at due trees b e small = omega (arith, due-small x due trees (sym b ∙ e))
+  pub due-on : due ≤ at + 1 → due + more - fewer ≤ at + 1 + 1
+  due-on small = omega (arith, one-small (ltb byte opening))
 
-not-due : (k : ℕ → Class) (next : Due) (cs : List ℕ) → OneOf (1 ∷ []) (tagOf dues.the-type next) → listsBehind k next cs ≡ false
-not-due k (Trees d) cs h = absurd (omega (arith, h))
-not-due k (Refused c) cs h = refl
+pub more-fits : (bytes : List ℕ) (at due byte : ℕ) {more : ℕ} → length bytes ≤ mostRecordBytes → at < length bytes → due ≤ at + 1 → more ≡ one (ltb byte opening)
+    → Fits w64 (due + more)
+more-fits bytes at due byte h d small m = omega (arith, one-small (ltb byte opening))
 
 none-left : (k : ℕ → Class) (d : ℕ) → eqb d 0 ≡ lists k d []
 unfolding lists
 none-left k zero = refl
 none-left k (suc d) = eqb·suc-zero d
 
+none-due : (k : ℕ → Class) (c : ℕ) (cs : List ℕ) → false ≡ lists k 0 (c ∷ cs)
+unfolding lists
+none-due k c cs = refl
+
+lists-step : (n c : ℕ) (cs : List ℕ) (due : ℕ) → strangeInRecord (class n c) ≡ false → (due ≡ 0 → ⊥)
+    → lists (class n) due (c ∷ cs) ≡ lists (class n) (due + one (ltb c opening) - one (leb firstReading c)) cs
+unfolding lists
+lists-step n c cs zero e h = absurd (h refl)
+lists-step n c cs (suc d) e h = rw e (ap (λ x. lists (class n) x cs) (behind-is n c d e))
+
 -- What is due at the place is listed from there on.
 module _ (n : ℕ) (bytes : List ℕ) (at due : ℕ) (same : lists (class n) due (drop at bytes) ≡ lists (class n) 1 bytes) where
-  after-node : {x : Node} → at < length bytes → x ≡ nodeAt n bytes at → lists (class n) 1 bytes ≡ listsBehind (class n) (dueAfter x due) (drop (at + 1) bytes)
-  after-node {x} h a =
-      sym same ∙ ap (lists (class n) due) (drop-cons bytes at 0 h) ∙ lists-behind (class n) _ (getD bytes at 0) (drop (suc at) bytes) refl due
-      ∙ rw (a, within-node n bytes at h, add-one)
+  pub too-early : at < length bytes → due ≡ 0 → false ≡ lists (class n) 1 bytes
+  too-early h e =
+      none-due (class n) (getD bytes at 0) (drop (suc at) bytes) ∙ ap (λ d. lists (class n) d (getD bytes at 0 ∷ drop (suc at) bytes)) (sym e)
+      ∙ ap (lists (class n) due) (sym (drop-cons bytes at 0 h)) ∙ same
 
-  pub goes-on : {x : Node} {next : Due} {trees : ℕ} → at < length bytes → x ≡ nodeAt n bytes at → next ≡ dueAfter x due → next ≡ Trees trees
-      → lists (class n) trees (drop (at + 1) bytes) ≡ lists (class n) 1 bytes
-  goes-on h a b e = sym (after-node h a ∙ ap (λ y. listsBehind (class n) y (drop (at + 1) bytes)) (sym b ∙ e))
-
-  pub refused : {x : Node} {next : Due} → at < length bytes → x ≡ nodeAt n bytes at → next ≡ dueAfter x due → OneOf (1 ∷ []) (tagOf dues.the-type next)
-      → false ≡ lists (class n) 1 bytes
-  refused {next = next} h a b e =
-      sym (after-node h a ∙ ap (λ y. listsBehind (class n) y (drop (at + 1) bytes)) (sym b) ∙ not-due (class n) next (drop (at + 1) bytes) e)
+  pub goes-on : {more fewer : ℕ} → at < length bytes → any (λ c. strangeInRecord (class n c)) bytes ≡ false → (due ≡ 0 → ⊥)
+      → more ≡ one (ltb (getD bytes at 0) opening) → fewer ≡ one (leb firstReading (getD bytes at 0))
+      → lists (class n) (due + more - fewer) (drop (at + 1) bytes) ≡ lists (class n) 1 bytes
+  goes-on h e some m f =
+      ap (λ d. lists (class n) d (drop (at + 1) bytes)) (omega (arith, m, f))
+      ∙ ap (λ i. lists (class n) (due + one (ltb (getD bytes at 0) opening) - one (leb firstReading (getD bytes at 0))) (drop i bytes)) (add-one at)
+      ∙ sym (lists-step n (getD bytes at 0) (drop (suc at) bytes) due (plain-byte (λ c. strangeInRecord (class n c)) bytes at e h) some)
+      ∙ ap (lists (class n) due) (sym (drop-cons bytes at 0 h)) ∙ same
 
   pub at-end : length bytes ≤ at → eqb due 0 ≡ lists (class n) 1 bytes
   at-end h = none-left (class n) due ∙ ap (lists (class n) due) (sym (drop-of-length-le bytes h)) ∙ same
@@ -154,23 +152,20 @@ opens-one byte e = rw (eq-eqb byte opening e)
 pub opens-none : (byte : ℕ) → (byte ≡ opening → ⊥) → 0 ≡ one (eqb byte opening)
 opens-none byte e = rw (ne-eqb byte opening e)
 
-one-small : (b : Bool) → one b ≤ 1
-one-small true = omega arith
-one-small false = omega arith
+module _ (bytes : List ℕ) (at brackets : ℕ) (small : brackets ≤ at) (within : at < length bytes) where
+  pub brackets-fit : {v : ℕ} → length bytes ≤ mostRecordBytes → v ≡ one (eqb (getD bytes at 0) opening) → Fits w8 (brackets + v)
+  brackets-fit h e = omega (arith, one-small (eqb (getD bytes at 0) opening))
 
-module _ (bytes : List ℕ) (at tokens : ℕ) (small : tokens ≤ length bytes + at) (within : at < length bytes) where
-  pub tokens-fit : {v : ℕ} → length bytes ≤ mostRecordBytes → v ≡ one (eqb (getD bytes at 0) opening) → Fits w64 (tokens + v)
-  tokens-fit h e = omega (arith, one-small (eqb (getD bytes at 0) opening))
+  pub brackets-small : {v : ℕ} → v ≡ one (eqb (getD bytes at 0) opening) → brackets + v ≤ at + 1
+  brackets-small e = omega (arith, one-small (eqb (getD bytes at 0) opening))
 
-  pub tokens-small : {v : ℕ} → v ≡ one (eqb (getD bytes at 0) opening) → tokens + v ≤ length bytes + (at + 1)
-  tokens-small e = omega (arith, one-small (eqb (getD bytes at 0) opening))
-
-pub tokens-on : (bytes : List ℕ) (at tokens : ℕ) {v : ℕ} → at < length bytes → v ≡ one (eqb (getD bytes at 0) opening)
-    → tokens + count (λ c. eqb c opening) (drop at bytes) ≡ rowLength bytes
-    → tokens + v + count (λ c. eqb c opening) (drop (at + 1) bytes) ≡ rowLength bytes
-tokens-on bytes at tokens h e same =
+pub brackets-on : (bytes : List ℕ) (at brackets : ℕ) {v : ℕ} → at < length bytes → v ≡ one (eqb (getD bytes at 0) opening)
+    → brackets + count (λ c. eqb c opening) (drop at bytes) ≡ count (λ c. eqb c opening) bytes
+    → brackets + v + count (λ c. eqb c opening) (drop (at + 1) bytes) ≡ count (λ c. eqb c opening) bytes
+brackets-on bytes at brackets h e same =
     omega (arith, same, e, ap (count (λ c. eqb c opening)) (drop-cons bytes at 0 h), ap (λ i. count (λ c. eqb c opening) (drop i bytes)) (add-one at))
 
-pub tokens-all : (bytes : List ℕ) (at tokens : ℕ) → length bytes ≤ at → tokens + count (λ c. eqb c opening) (drop at bytes) ≡ rowLength bytes
-    → tokens ≡ rowLength bytes
-tokens-all bytes at tokens h same = omega (arith, same, ap (count (λ c. eqb c opening)) (drop-of-length-le bytes h))
+pub brackets-all : (bytes : List ℕ) (at brackets : ℕ) → length bytes ≤ at
+    → brackets + count (λ c. eqb c opening) (drop at bytes) ≡ count (λ c. eqb c opening) bytes
+    → length bytes + brackets ≡ rowLength bytes
+brackets-all bytes at brackets h same = omega (arith, same, ap (count (λ c. eqb c opening)) (drop-of-length-le bytes h))

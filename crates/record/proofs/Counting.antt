@@ -1,5 +1,5 @@
 -- What each way through `count_at` gives. Assumes nothing.
-use Prim.Native.Nat.{ℕ, _+_, _-_, _≤_, _<_, _^_}
+use Prim.Native.Nat.{ℕ, _+_, _-_, _*_, _≤_, _<_}
 use native.Mathlib.Omega.{arith}
 use mathlib.Core.Path.{_≡_, refl, ap, sym, _∙_}
 use mathlib.Core.Bool.{Bool, true, false, not}
@@ -7,27 +7,23 @@ use mathlib.Core.List.{List, [], _∷_}
 use mathlib.Core.Logic.{⊎-elim}
 use lib.ListN.{length}
 use borrow.Author.Needs.{needs}
-use mir.Syntax.{w64}
-use mir.Val.{Fits}
 use types.Run.{OneOf}
 use denote.Enum.Declared.{tagOf}
 use Rattle.expression.specs.Lists.{one, count}
-use Rattle.expression.specs.Refusal.{noTree}
+use Rattle.expression.specs.Limits.{mostRecordBytes}
 use Rattle.expression.specs.Tree.{Tree, reading, bracket, binary}
 use Rattle.disambiguation.specs.Edges.{seenFromRight, seenFromLeft}
 use Rattle.sheet.specs.Relation.{closesIn}
+use Rattle.record.specs.Held.{front}
 use Rattle.record.specs.Node.{nodeAt}
 use Rattle.record.specs.TreeAt.{TreeAt}
-use Rattle.record.specs.Counts.{excludedLeft, conflictsIn, onLeft, onRight, tallyNumber, tallyEnd, tallyCount, Counts}
+use Rattle.record.specs.Counts.{excludedLeft, conflictsIn, onLeft, onRight, tallyEnd, tallyCount, Counts}
 use Rattle.record.specs.declared.Node.{Node}
 use Rattle.record.specs.declared.Node.the-variants as node
-use Rattle.record.specs.declared.conflicts.Tally.{Tally}
-use Rattle.record.specs.declared.conflicts.Tally.the-variants.{Counted, Refused}
 use Rattle.record.proofs.Node as nodes
-use Rattle.record.proofs.conflicts.Tally as tallies
-use Rattle.record.proofs.Nodes.{is-other, within-as, next-fits}
-use Rattle.record.proofs.Reaching.{next-falls}
-use Rattle.record.proofs.Trees.{topOf, top-node, a-reading, a-bracket, an-operator, no-tree}
+use Rattle.record.proofs.Nodes.{is-other, within-as}
+use Rattle.record.proofs.Holding.{front-fits}
+use Rattle.record.proofs.Trees.{topOf, record-positive, top-node, a-reading, a-bracket, an-operator, no-tree, none-past}
 
 -- the sides
 module _ (words : List ℕ) (o : ℕ) where
@@ -78,88 +74,97 @@ pub ruleset on-left-ways = (left-none, left-in-order, left-shown, needs)
 pub ruleset on-right-ways = (right-none, right-shown, right-in-order, needs)
 
 -- an answer that counted nothing has no tree
-pub not-counted : {A : Type 0} {n : ℕ} {words bytes : List ℕ} {from before to : ℕ} (t : Tree) (r : Tally) → OneOf (1 ∷ []) (tagOf tallies.the-type r)
-    → Counts n words bytes from before r → TreeAt n bytes from t to → A
-not-counted t (Counted end c) k h x = absurd (omega (arith, k))
-not-counted {to = to} t (Refused c) k h x = absurd (omega (arith, h .onward (h .counted t to x .0)))
+pub not-counted : {A : Type 0} {n : ℕ} {words bytes : List ℕ} {from before to r : ℕ} (t : Tree) → r ≡ 0 → Counts n words bytes from before r
+    → TreeAt n bytes from t to → A
+not-counted {to = to} t e h x = absurd (omega (arith, h .counted t to x .0, x .ends, record-positive t))
+
+-- 0 where no tree stands
+none-here : {n : ℕ} (words : List ℕ) {bytes : List ℕ} {from : ℕ} (before : ℕ) → ((t : Tree) (to : ℕ) → TreeAt n bytes from t to → ⊥) → Counts n words bytes from before 0
+none-here words before never =
+    record {
+      counted = λ t to k. absurd (never t to k);
+      onward = λ e. absurd (e refl);
+      within = omega arith;
+      small = λ e. absurd (e refl);
+    }
+
+pub past-end : (n : ℕ) (words : List ℕ) (size : ℕ) (held : List ℕ) (from before : ℕ) → size ≤ from → Counts n words (front size held) from before 0
+past-end n words size held from before h = none-here words before (λ t to x. none-past n size held from h t x)
 
 module _ (n : ℕ) (words bytes : List ℕ) (from before : ℕ) {x : Node} (found : x ≡ nodeAt n bytes from) where
-  pub a-leaf : {a : ℕ} → before ≤ from → x ≡ node.Reading a → Counts n words bytes from before (Counted (from + 1) before)
-  a-leaf low is =
+  pub a-leaf : {a : ℕ} → length bytes ≤ mostRecordBytes → before ≤ from → x ≡ node.Reading a → Counts n words bytes from before ((from + 1) * 256 + before)
+  a-leaf most low is =
       let d = within-as n bytes from found is refl in
       record {
-        counted = λ t to h. let u = a-reading n bytes from found is t h in (refl, sym (u .1), omega (arith, ap (conflictsIn words) (u .0)));
+        counted = λ t to h. let u = a-reading n bytes from found is t h in (omega (arith, u .1), omega (arith, ap (conflictsIn words) (u .0)));
         onward = λ e. omega arith;
-        within = λ e. omega arith;
+        within = omega arith;
         small = λ e. omega arith;
       }
 
-  pub a-bracketed : {r : Tally} → x ≡ node.Bracket → Counts n words bytes (from + 1) before r → Counts n words bytes from before r
+  pub a-bracketed : {r : ℕ} → x ≡ node.Bracket → Counts n words bytes (from + 1) before r → Counts n words bytes from before r
   a-bracketed is h =
       record {
         counted = λ t to k.
             let u = a-bracket n bytes from found is t k in
             let a = h .counted (u .0) to (u .2) in
-            (a .0, a .1, omega (arith, a .2, ap (conflictsIn words) (u .1)));
+            (a .0, omega (arith, a .1, ap (conflictsIn words) (u .1)));
         onward = λ e. let k = h .onward e in omega arith;
         within = h .within;
         small = h .small;
       }
 
   pub other : OneOf (1 ∷ 2 ∷ 3 ∷ []) (tagOf nodes.the-type x) → OneOf (0 ∷ 2 ∷ 3 ∷ []) (tagOf nodes.the-type x) → OneOf (0 ∷ 1 ∷ 3 ∷ []) (tagOf nodes.the-type x)
-      → Counts n words bytes from before (Refused noTree)
-  other p q r =
-      record {
-        counted = λ t to k. no-tree n bytes from found (is-other x p q r) t k;
-        onward = λ e. absurd (omega arith);
-        within = λ e. absurd (omega arith);
-        small = λ e. absurd (omega arith);
-      }
+      → Counts n words bytes from before 0
+  other p q r = none-here words before (λ t to k. no-tree n bytes from found (is-other x p q r) t k)
 
-  module _ (o first : ℕ) (is : x ≡ node.Operator o) (l : Tally) (h : Counts n words bytes (from + 1) (before + first) l) where
-    pub left-refused : OneOf (1 ∷ []) (tagOf tallies.the-type l) → Counts n words bytes from before l
-    left-refused p =
-        record {
-          counted = λ t to k. let u = an-operator n bytes from found is t k in not-counted (u .0) l p h (u .4);
-          onward = λ e. let k = h .onward e in omega arith;
-          within = h .within;
-          small = h .small;
-        }
+  module _ (o first l : ℕ) (is : x ≡ node.Operator o) (h : Counts n words bytes (from + 1) (before + first) l) where
+    pub left-refused : l ≡ 0 → Counts n words bytes from before 0
+    left-refused e = none-here words before (λ t to k. let u = an-operator n bytes from found is t k in not-counted (u .0) e h (u .4))
 
-    pub mid-falls : {mid counted t : ℕ} → length bytes - from ≡ t → l ≡ Counted mid counted → length bytes - mid < t
-    mid-falls e q =
-        let d = within-as n bytes from found is refl in
-        let k = h .onward (ap tallyNumber q) in
-        omega (arith, ap tallyEnd q)
-
-    pub an-infix : {mid counted second : ℕ} {r : Tally} → first ≡ onLeft words o (nodeAt n bytes (from + 1)) → l ≡ Counted mid counted
-        → second ≡ onRight words o (nodeAt n bytes mid) → Counts n words bytes mid (counted + second) r → Counts n words bytes from before r
-    an-infix {mid} {counted} {second} first-is q second-is g =
+    pub an-infix : {second r : ℕ} → first ≡ onLeft words o (nodeAt n bytes (from + 1)) → (l ≡ 0 → ⊥)
+        → second ≡ onRight words o (nodeAt n bytes (tallyEnd l)) → Counts n words bytes (tallyEnd l) (tallyCount l + second) r → Counts n words bytes from before r
+    an-infix {second} {r} first-is some second-is g =
         record {
           counted = λ t to k.
               let u = an-operator n bytes from found is t k in
               let a = h .counted (u .0) (u .2) (u .4) in
-              let e : u .2 ≡ mid = sym (a .1) ∙ ap tallyEnd q in
-              let x : TreeAt n bytes mid (u .1) to = rw e at (u .5) in
+              let x : TreeAt n bytes (tallyEnd l) (u .1) to = rw (sym (a .0)) at (u .5) in
               let b = g .counted (u .1) to x in
               let f : first ≡ _ = first-is ∙ ap (onLeft words o) (top-node n bytes (from + 1) (u .0) (u .4)) ∙ left-count words o (u .0) in
-              let s : second ≡ _ = second-is ∙ ap (onRight words o) (top-node n bytes mid (u .1) x) ∙ right-count words o (u .1) in
-              (b .0, b .1, omega (arith, b .2, a .2, ap tallyCount q, f, s, ap (conflictsIn words) (u .3)));
-          onward = λ e. let a = h .onward (ap tallyNumber q) in let b = g .onward e in omega (arith, ap tallyEnd q);
+              let s : second ≡ _ = second-is ∙ ap (onRight words o) (top-node n bytes (tallyEnd l) (u .1) x) ∙ right-count words o (u .1) in
+              (b .0, omega (arith, b .1, a .1, f, s, ap (conflictsIn words) (u .3)));
+          onward = λ e. let a = h .onward some in let b = g .onward e in omega arith;
           within = g .within;
           small = g .small;
         }
 
+-- A left operand that is a reading, two places on: no call is made for it.
+module _ (n : ℕ) (bytes : List ℕ) (from : ℕ) {o a : ℕ} {x y : Node} (found : x ≡ nodeAt n bytes from) (is : x ≡ node.Operator o)
+    (next : y ≡ nodeAt n bytes (from + 1)) (leaf : y ≡ node.Reading a) where
+  pub a-leaf-infix : (words : List ℕ) (before : ℕ) {second r : ℕ} → second ≡ onRight words o (nodeAt n bytes (from + 2))
+      → Counts n words bytes (from + 2) (before + second) r → Counts n words bytes from before r
+  a-leaf-infix words before {second} {r} second-is g =
+      record {
+        counted = λ t to k.
+            let u = an-operator n bytes from found is t k in
+            let v = a-reading n bytes (from + 1) next leaf (u .0) (u .4) in
+            let e : u .2 ≡ from + 2 = v .1 ∙ omega arith in
+            let z : TreeAt n bytes (from + 2) (u .1) to = rw e at (u .5) in
+            let b = g .counted (u .1) to z in
+            let s : second ≡ _ = second-is ∙ ap (onRight words o) (top-node n bytes (from + 2) (u .1) z) ∙ right-count words o (u .1) in
+            (b .0, omega (arith, b .1, s, ap (conflictsIn words) (u .3 ∙ ap (λ l. binary o l (u .1)) (v .0))));
+        onward = λ e. let b = g .onward e in omega arith;
+        within = g .within;
+        small = g .small;
+      }
+
 -- what the sums and the calls ask
-pub first-fits : (n : ℕ) (bytes : List ℕ) (from before o first : ℕ) {x : Node} → before ≤ from → x ≡ nodeAt n bytes from → x ≡ node.Operator o
-    → length bytes < 2 ^ 64 → first ≤ 1 → Fits w64 (before + first)
-first-fits n bytes from before o first low found is r small = let d = within-as n bytes from found is refl in omega arith
+module _ (from : ℕ) {n : ℕ} {words bytes : List ℕ} {before l : ℕ} (h : Counts n words bytes (from + 1) before l) (some : l ≡ 0 → ⊥) where
+  pub mid-falls : {size t : ℕ} → from < size → size - from ≡ t → size - tallyEnd l < t
+  mid-falls low e = omega (arith, h .onward some)
 
-module _ (n : ℕ) (words bytes : List ℕ) (from before : ℕ) {l : Tally} (h : Counts n words bytes from before l) {mid counted : ℕ} (q : l ≡ Counted mid counted) where
-  pub second-low : (second : ℕ) → second ≤ 1 → counted + second ≤ mid
-  second-low second small = omega (arith, h .small (ap tallyNumber q), ap tallyEnd q, ap tallyCount q)
+  pub second-low : {second : ℕ} → second ≤ 1 → tallyCount l + second ≤ tallyEnd l
+  second-low small = omega (arith, h .small some)
 
-  pub second-fits : (second : ℕ) → length bytes < 2 ^ 64 → second ≤ 1 → Fits w64 (counted + second)
-  second-fits second r small = omega (arith, second-low second small, h .within (ap tallyNumber q), ap tallyEnd q)
-
-pub ruleset count-at-ways = (next-fits, next-falls, mid-falls, a-leaf, a-bracketed, other, left-refused, an-infix, first-fits, second-low, second-fits, needs)
+pub ruleset count-at-ways = (past-end, a-leaf, a-bracketed, other, left-refused, an-infix, a-leaf-infix, front-fits, needs)

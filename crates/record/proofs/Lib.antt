@@ -1,4 +1,5 @@
 pub mod Nodes
+pub mod Holding
 pub mod Trees
 pub mod Reaching
 pub mod OneTree

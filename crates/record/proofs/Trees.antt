@@ -12,11 +12,13 @@ use Rattle.expression.specs.Tree.{Tree, reading, bracket, binary, recordOf}
 use Rattle.expression.specs.Decode.{treeOf}
 use Rattle.expression.proofs.Classes.{brackets}
 use Rattle.expression.proofs.RecordsAndTrees.{record-treeOf}
+use Rattle.record.specs.Held.{front}
 use Rattle.record.specs.Node.{nodeOf, nodeAt}
 use Rattle.record.specs.TreeAt.{TreeAt}
 use Rattle.record.specs.declared.Node.{Node}
 use Rattle.record.specs.declared.Node.the-variants as node
-use Rattle.record.proofs.Nodes.{within-node}
+use Rattle.record.proofs.Nodes.{past, within-node}
+use Rattle.record.proofs.Holding.{front-short}
 
 -- the node on top of a tree
 abbrev pub topOf : Tree → Node
@@ -127,3 +129,7 @@ module _ (n : ℕ) (bytes : List ℕ) (from : ℕ) {x : Node} (found : x ≡ nod
       go (reading b) q = let z : _≡_ {A = ℕ} 0 1 = cc in absurd (omega arith)
       go (bracket u) q = let z : _≡_ {A = ℕ} 0 1 = cc in absurd (omega arith)
       go (binary p l r) q = let z : _≡_ {A = ℕ} 0 1 = cc in absurd (omega arith)
+
+-- past the end of the record no tree stands
+pub none-past : (n size : ℕ) (held : List ℕ) (from : ℕ) → size ≤ from → (t : Tree) {to : ℕ} → TreeAt n (front size held) from t to → ⊥
+none-past n size held from h t x = no-tree n (front size held) from (past n (front size held) from (omega (arith, front-short size held))) refl t x

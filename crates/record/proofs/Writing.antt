@@ -1,32 +1,30 @@
 -- What each way through `write_row` gives. Assumes nothing.
-use Prim.Native.Nat.{ℕ, suc, _+_, _-_, _≤_, _<_, _^_}
+use Prim.Native.Nat.{ℕ, suc, _+_, _-_, _*_, _≤_, _<_}
 use native.Mathlib.Nat.{add-zero, add-suc, suc-add}
 use native.Mathlib.Numerals.{add-one}
 use native.Mathlib.Omega.{arith}
 use mathlib.Core.Path.{_≡_, refl, ap, sym, _∙_}
 use mathlib.Core.List.{List, [], _∷_, _++_}
-use lib.ListN.{length, set, length-set, length-append}
-use lib.Seq.{sets, length-sets}
+use lib.ListN.{length, set, length-append}
+use lib.Seq.{sets}
 use borrow.Author.Needs.{needs}
 use mir.Syntax.{w64}
 use mir.Val.{Fits}
 use types.Run.{OneOf}
 use denote.Enum.Declared.{tagOf}
-use Rattle.expression.specs.Refusal.{noTree, short}
+use Rattle.expression.specs.Limits.{mostTokens, mostRecordBytes}
 use Rattle.expression.specs.Token.{opening, closing}
 use Rattle.expression.specs.Tree.{Tree, reading, bracket, binary, yield}
+use Rattle.record.specs.Held.{front}
 use Rattle.record.specs.Node.{nodeAt}
 use Rattle.record.specs.TreeAt.{TreeAt}
-use Rattle.record.specs.Rows.{writtenNumber, writtenEnd, writtenLast, Writes}
+use Rattle.record.specs.Rows.{writtenEnd, writtenLast, Writes}
 use Rattle.record.specs.declared.Node.{Node}
 use Rattle.record.specs.declared.Node.the-variants as node
-use Rattle.record.specs.declared.rows.Written.{Written}
-use Rattle.record.specs.declared.rows.Written.the-variants.{Upto, Refused}
 use Rattle.record.proofs.Node as nodes
-use Rattle.record.proofs.rows.Written as writtens
-use Rattle.record.proofs.Nodes.{is-other, within-as, next-fits}
-use Rattle.record.proofs.Reaching.{next-falls}
-use Rattle.record.proofs.Trees.{a-reading, a-bracket, an-operator, no-tree}
+use Rattle.record.proofs.Nodes.{is-other, within-as}
+use Rattle.record.proofs.Holding.{front-fits}
+use Rattle.record.proofs.Trees.{record-positive, a-reading, a-bracket, an-operator, no-tree, none-past}
 
 -- a list that is set part by part
 pub sets-append : (v w d : List ℕ) (i : ℕ) → sets d i (v ++ w) ≡ sets (sets d i v) (i + length v) w
@@ -52,135 +50,147 @@ operator-tokens : (o : ℕ) (t l r : Tree) → t ≡ binary o l r → length (yi
 operator-tokens o t l r e = ap (λ v. length (yield v)) e ∙ length-append (yield l) (o ∷ yield r)
 
 -- an answer that gives no places has no tree with room
-pub not-upto : {A : Type 0} {n : ℕ} {bytes before after : List ℕ} {from at to : ℕ} (t : Tree) (r : Written) → OneOf (1 ∷ []) (tagOf writtens.the-type r)
-    → Writes n bytes from before at after r → TreeAt n bytes from t to → at + length (yield t) ≤ length before → A
-not-upto t (Upto end last) k h x room = absurd (omega (arith, k))
-not-upto {to = to} t (Refused c) k h x room = absurd (omega (arith, h .onward (h .wrote t to x room .0)))
+pub not-written : {A : Type 0} {n : ℕ} {bytes before after : List ℕ} {from at to r : ℕ} (t : Tree) → r ≡ 0 → Writes n bytes from before at after r
+    → TreeAt n bytes from t to → at + length (yield t) ≤ mostTokens → A
+not-written {to = to} t e h x room = absurd (omega (arith, h .wrote t to x room .0, x .ends, record-positive t))
 
-pub full : (n : ℕ) (bytes : List ℕ) (from : ℕ) (before : List ℕ) (at : ℕ) → length before ≤ at → Writes n bytes from before at before (Refused short)
-full n bytes from before at h =
+-- 0 where no tree stands with room
+none-here : {n : ℕ} {bytes : List ℕ} {from at : ℕ} (before after : List ℕ)
+    → ((t : Tree) (to : ℕ) → TreeAt n bytes from t to → at + length (yield t) ≤ mostTokens → ⊥) → Writes n bytes from before at after 0
+none-here before after never =
     record {
-      wrote = λ t to x room. absurd (omega (arith, yield-positive t));
-      onward = λ e. absurd (omega arith);
+      wrote = λ t to x room. absurd (never t to x room);
+      onward = λ e. absurd (e refl);
+      within = omega arith;
     }
+
+pub past-end : (n size : ℕ) (held : List ℕ) (from : ℕ) (before : List ℕ) (at : ℕ) → size ≤ from → Writes n (front size held) from before at before 0
+past-end n size held from before at h =
+    none-here before before (λ t to x room. none-past n size held from h t x)
+
+pub full : (n : ℕ) (bytes : List ℕ) (from : ℕ) (before : List ℕ) (at : ℕ) → mostTokens ≤ at → Writes n bytes from before at before 0
+full n bytes from before at h = none-here before before (λ t to x room. omega (arith, yield-positive t))
 
 module _ (n : ℕ) (bytes : List ℕ) (from : ℕ) {x : Node} (found : x ≡ nodeAt n bytes from) (before : List ℕ) (at : ℕ) where
   pub other : OneOf (1 ∷ 2 ∷ 3 ∷ []) (tagOf nodes.the-type x) → OneOf (0 ∷ 2 ∷ 3 ∷ []) (tagOf nodes.the-type x) → OneOf (0 ∷ 1 ∷ 3 ∷ []) (tagOf nodes.the-type x)
-      → Writes n bytes from before at before (Refused noTree)
-  other p q r =
-      record {
-        wrote = λ t to h room. no-tree n bytes from found (is-other x p q r) t h;
-        onward = λ e. absurd (omega arith);
-      }
+      → Writes n bytes from before at before 0
+  other p q r = none-here before before (λ t to h room. no-tree n bytes from found (is-other x p q r) t h)
 
-  pub a-leaf : {a : ℕ} → x ≡ node.Reading a → Writes n bytes from before at (set before at a) (Upto (from + 1) (at + 1))
-  a-leaf {a} is =
+  pub a-leaf : {a : ℕ} → x ≡ node.Reading a → at < mostTokens → Writes n bytes from before at (set before at a) ((from + 1) * 256 + (at + 1))
+  a-leaf {a} is low =
+      let d = within-as n bytes from found is refl in
       record {
         wrote = λ t to h room.
             let u = a-reading n bytes from found is t h in
-            (refl, sym (u .1), ap (λ v. at + length (yield v)) (sym (u .0)), ap (λ v. sets before at (yield v)) (sym (u .0)));
+            (omega (arith, u .1), omega (arith, ap (λ v. length (yield v)) (u .0)), ap (λ v. sets before at (yield v)) (sym (u .0)));
         onward = λ e. omega arith;
+        within = omega arith;
       }
 
-  module _ (after : List ℕ) (w : Written) (is : x ≡ node.Bracket) (h : Writes n bytes (from + 1) (set before at opening) (at + 1) after w) where
-    inner-room : (t u : Tree) → t ≡ bracket u → at + length (yield t) ≤ length before → at + 1 + length (yield u) ≤ length (set before at opening)
-    inner-room t u e room = rw length-set (omega (arith, bracket-tokens t u e))
+  module _ (after : List ℕ) (w : ℕ) (is : x ≡ node.Bracket) (h : Writes n bytes (from + 1) (set before at opening) (at + 1) after w) where
+    inner-room : (t u : Tree) → t ≡ bracket u → at + length (yield t) ≤ mostTokens → at + 1 + length (yield u) ≤ mostTokens
+    inner-room t u e room = omega (arith, bracket-tokens t u e)
 
-    pub inner-refused : OneOf (1 ∷ []) (tagOf writtens.the-type w) → Writes n bytes from before at after w
-    inner-refused p =
-        record {
-          wrote = λ t to k room. let u = a-bracket n bytes from found is t k in not-upto (u .0) w p h (u .2) (inner-room t (u .0) (u .1) room);
-          onward = λ e. let k = h .onward e in omega arith;
-        }
+    pub inner-refused : w ≡ 0 → Writes n bytes from before at after 0
+    inner-refused e =
+        none-here before after λ t to k room.
+        let u = a-bracket n bytes from found is t k in
+        not-written (u .0) e h (u .2) (inner-room t (u .0) (u .1) room)
 
-    pub inner-full : {end last : ℕ} → w ≡ Upto end last → length after ≤ last → Writes n bytes from before at after (Refused short)
-    inner-full q over =
-        record {
-          wrote = λ t to k room.
-              let u = a-bracket n bytes from found is t k in
-              let a = h .wrote (u .0) to (u .2) (inner-room t (u .0) (u .1) room) in
-              let f : length after ≡ length before = ap length (a .3) ∙ simp (length-sets, length-set) in
-              absurd (omega (arith, ap writtenLast q, a .2, bracket-tokens t (u .0) (u .1)));
-          onward = λ e. absurd (omega arith);
-        }
+    pub inner-full : mostTokens ≤ writtenLast w → Writes n bytes from before at after 0
+    inner-full over =
+        none-here before after λ t to k room.
+        let u = a-bracket n bytes from found is t k in
+        omega (arith, h .wrote (u .0) to (u .2) (inner-room t (u .0) (u .1) room) .1, bracket-tokens t (u .0) (u .1))
 
-    pub a-bracketed : {end last : ℕ} → w ≡ Upto end last → Writes n bytes from before at (set after last closing) (Upto end (last + 1))
-    a-bracketed {end} {last} q =
+    pub a-bracketed : (w ≡ 0 → ⊥) → writtenLast w < mostTokens → Writes n bytes from before at (set after (writtenLast w) closing) (w + 1)
+    a-bracketed some low =
+        let m : writtenLast (w + 1) ≡ writtenLast w + 1 = omega arith in
+        let e : writtenEnd (w + 1) ≡ writtenEnd w = omega arith in
         record {
           wrote = λ t to k room.
               let u = a-bracket n bytes from found is t k in
-              let a = h .wrote (u .0) to (u .2) (inner-room t (u .0) (u .1) room) in
-              let l : last ≡ at + 1 + length (yield (u .0)) = sym (ap writtenLast q) ∙ a .2 in (
-                refl,
-                sym (ap writtenEnd q) ∙ a .1,
-                omega (arith, bracket-tokens t (u .0) (u .1)),
-                ap (λ d. set d last closing) (a .3) ∙ ap (λ j. set (sets (set before at opening) (at + 1) (yield (u .0))) j closing) l
+              let a = h .wrote (u .0) to (u .2) (inner-room t (u .0) (u .1) room) in (
+                e ∙ a .0,
+                omega (arith, m, a .1, bracket-tokens t (u .0) (u .1)),
+                ap (λ d. set d (writtenLast w) closing) (a .2) ∙ ap (λ j. set (sets (set before at opening) (at + 1) (yield (u .0))) j closing) (a .1)
                     ∙ set-bracket before (yield (u .0)) at ∙ ap (λ v. sets before at (yield v)) (sym (u .1)),
               );
-          onward = λ e. let k = h .onward (ap writtenNumber q) in omega (arith, ap writtenEnd q);
+          onward = λ _. omega (arith, e, h .onward some);
+          within = omega (arith, e, h .within);
         }
 
-  module _ (after : List ℕ) (w : Written) {o : ℕ} (is : x ≡ node.Operator o) (h : Writes n bytes (from + 1) before at after w) where
-    pub left-refused : OneOf (1 ∷ []) (tagOf writtens.the-type w) → Writes n bytes from before at after w
-    left-refused p =
-        record {
-          wrote = λ t to k room.
-              let u = an-operator n bytes from found is t k in
-              not-upto (u .0) w p h (u .4) (omega (arith, operator-tokens o t (u .0) (u .1) (u .3)));
-          onward = λ e. let k = h .onward e in omega arith;
-        }
+  module _ (after : List ℕ) (w : ℕ) {o : ℕ} (is : x ≡ node.Operator o) (h : Writes n bytes (from + 1) before at after w) where
+    pub left-refused : w ≡ 0 → Writes n bytes from before at after 0
+    left-refused e =
+        none-here before after λ t to k room.
+        let u = an-operator n bytes from found is t k in
+        not-written (u .0) e h (u .4) (omega (arith, operator-tokens o t (u .0) (u .1) (u .3)))
 
-    pub left-full : {mid seam : ℕ} → w ≡ Upto mid seam → length after ≤ seam → Writes n bytes from before at after (Refused short)
-    left-full q over =
-        record {
-          wrote = λ t to k room.
-              let u = an-operator n bytes from found is t k in
-              let m = operator-tokens o t (u .0) (u .1) (u .3) in
-              let a = h .wrote (u .0) (u .2) (u .4) (omega arith) in
-              let f : length after ≡ length before = ap length (a .3) ∙ simp length-sets in
-              absurd (omega (arith, ap writtenLast q, a .2));
-          onward = λ e. absurd (omega arith);
-        }
+    pub left-full : mostTokens ≤ writtenLast w → Writes n bytes from before at after 0
+    left-full over =
+        none-here before after λ t to k room.
+        let u = an-operator n bytes from found is t k in
+        let m = operator-tokens o t (u .0) (u .1) (u .3) in
+        omega (arith, h .wrote (u .0) (u .2) (u .4) (omega arith) .1)
 
-    pub an-infix : {mid seam : ℕ} {r : Written} (last : List ℕ) → w ≡ Upto mid seam → Writes n bytes mid (set after seam o) (seam + 1) last r → Writes n bytes from before at last r
-    an-infix {mid} {seam} {r} last q g =
+    pub an-infix : {r : ℕ} (last : List ℕ) → (w ≡ 0 → ⊥) → Writes n bytes (writtenEnd w) (set after (writtenLast w) o) (writtenLast w + 1) last r
+        → Writes n bytes from before at last r
+    an-infix last some g =
         record {
           wrote = λ t to k room.
               let u = an-operator n bytes from found is t k in
               let m = operator-tokens o t (u .0) (u .1) (u .3) in
               let a = h .wrote (u .0) (u .2) (u .4) (omega arith) in
-              let s : seam ≡ at + length (yield (u .0)) = sym (ap writtenLast q) ∙ a .2 in
-              let e : u .2 ≡ mid = sym (a .1) ∙ ap writtenEnd q in
-              let f : length (set after seam o) ≡ length before = length-set after seam o ∙ ap length (a .3) ∙ simp length-sets in
-              let b = g .wrote (u .1) to (rw e at (u .5)) (omega arith) in (
+              let b = g .wrote (u .1) to (rw (sym (a .0)) at (u .5)) (omega (arith, a .1)) in (
                 b .0,
-                b .1,
-                b .2 ∙ omega arith,
-                b .3 ∙ ap (λ d. sets (set d seam o) (seam + 1) (yield (u .1))) (a .3)
-                    ∙ ap (λ j. sets (set (sets before at (yield (u .0))) j o) (j + 1) (yield (u .1))) s
+                b .1 ∙ omega (arith, a .1),
+                b .2 ∙ ap (λ d. sets (set d (writtenLast w) o) (writtenLast w + 1) (yield (u .1))) (a .2)
+                    ∙ ap (λ j. sets (set (sets before at (yield (u .0))) j o) (j + 1) (yield (u .1))) (a .1)
                     ∙ set-operator before (yield (u .0)) (yield (u .1)) at o ∙ ap (λ v. sets before at (yield v)) (sym (u .3)),
               );
-          onward = λ e. let a = h .onward (ap writtenNumber q) in let b = g .onward e in omega (arith, ap writtenEnd q);
+          onward = λ e. omega (arith, h .onward some, g .onward e);
+          within = g .within;
         }
 
--- what the sums, the lengths and the measure ask
-pub mid-falls : (n : ℕ) (bytes : List ℕ) (from : ℕ) {x : Node} {o t mid seam : ℕ} (before after : List ℕ) (at : ℕ) {w : Written} → length bytes - from ≡ t
-    → x ≡ nodeAt n bytes from → x ≡ node.Operator o → Writes n bytes (from + 1) before at after w → w ≡ Upto mid seam → length bytes - mid < t
-mid-falls n bytes from before after at e found is h q =
-    let d = within-as n bytes from found is refl in
-    let k = h .onward (ap writtenNumber q) in
-    omega (arith, ap writtenEnd q)
+  -- a left operand that is a reading, two places on: no call is made for it
+  module _ {o a : ℕ} {y : Node} (is : x ≡ node.Operator o) (next : y ≡ nodeAt n bytes (from + 1)) (leaf : y ≡ node.Reading a) where
+    leaf-tokens : (t : Tree) {to : ℕ} → TreeAt n bytes from t to → (r : Tree) × (t ≡ binary o (reading a) r) × TreeAt n bytes (from + 2) r to
+    leaf-tokens t {to} k =
+        let u = an-operator n bytes from found is t k in
+        let v = a-reading n bytes (from + 1) next leaf (u .0) (u .4) in
+        let e : u .2 ≡ from + 2 = v .1 ∙ omega arith in
+        (u .1, u .3 ∙ ap (λ l. binary o l (u .1)) (v .0), rw e at (u .5))
 
-pub same-after-set : (e d : List ℕ) (i x : ℕ) → length e ≡ length (set d i x) → length e ≡ length d
-same-after-set e d i x h = h ∙ length-set d i x
+    pub leaf-full : mostTokens ≤ at + 1 → Writes n bytes from before at before 0
+    leaf-full over =
+        none-here before before λ t to k room.
+        let u = leaf-tokens t k in
+        omega (arith, ap (λ v. length (yield v)) (u .1))
 
-pub same-between-sets : (e d : List ℕ) (i x j y : ℕ) → length e ≡ length (set d i x) → length (set e j y) ≡ length d
-same-between-sets e d i x j y h = length-set e j y ∙ h ∙ length-set d i x
+    pub a-leaf-infix : {r : ℕ} (laid last : List ℕ) → laid ≡ set (set before at a) (at + 1) o → Writes n bytes (from + 2) laid (at + 1 + 1) last r
+        → Writes n bytes from before at last r
+    a-leaf-infix laid last set-is g =
+        record {
+          wrote = λ t to k room.
+              let u = leaf-tokens t k in
+              let m = ap (λ v. length (yield v)) (u .1) in
+              let b = g .wrote (u .0) to (u .2) (omega arith) in (
+                b .0,
+                b .1 ∙ omega arith,
+                b .2 ∙ ap (λ d. sets d (at + 1 + 1) (yield (u .0))) set-is ∙ ap (λ j. sets (set (set before at a) j o) (j + 1) (yield (u .0))) (add-one at)
+                    ∙ ap (λ j. sets (set (set before at a) (suc at) o) j (yield (u .0))) (add-one (suc at)) ∙ ap (λ v. sets before at (yield v)) (sym (u .1)),
+              );
+          onward = λ e. omega (arith, g .onward e);
+          within = g .within;
+        }
 
-pub same-twice : (f e d : List ℕ) (j y : ℕ) → length f ≡ length (set e j y) → length e ≡ length d → length f ≡ length d
-same-twice f e d j y h k = h ∙ length-set e j y ∙ k
+-- what the sums and the measure ask
+module _ (from : ℕ) {n : ℕ} {bytes before after : List ℕ} {at w : ℕ} (h : Writes n bytes (from + 1) before at after w) where
+  pub mid-falls : {size t : ℕ} → (w ≡ 0 → ⊥) → from < size → size - from ≡ t → size - writtenEnd w < t
+  mid-falls some low e = omega (arith, h .onward some)
 
-pub last-fits : (d e : List ℕ) (i x j : ℕ) → length d < 2 ^ 64 → length e ≡ length (set d i x) → j < length e → Fits w64 (j + 1)
-last-fits d e i x j r h k = let z = length-set d i x in omega arith
+  pub closed-fits : length bytes ≤ mostRecordBytes → Fits w64 (w + 1)
+  closed-fits most = omega (arith, h .within)
 
-pub ruleset write-row-ways = (next-fits, next-falls, mid-falls, full, other, a-leaf, inner-refused, inner-full, a-bracketed, left-refused, left-full, an-infix, same-after-set, same-between-sets, same-twice, last-fits, needs)
+pub ruleset write-row-ways = (past-end, full, other, a-leaf, inner-refused, inner-full, a-bracketed, left-refused, left-full, an-infix, leaf-full, a-leaf-infix, front-fits, closed-fits, needs)

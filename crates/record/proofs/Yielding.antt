@@ -1,30 +1,27 @@
 -- What each way through `yield_row` gives. Assumes nothing.
-use Prim.Native.Nat.{ℕ, _+_, _≤_, _<_}
-use native.Mathlib.Nat.{zero-add}
+use Prim.Native.Nat.{ℕ, _+_, _-_, _≤_, _<_}
+use native.Mathlib.Nat.{sub-zero}
 use native.Mathlib.Omega.{arith}
 use mathlib.Core.Path.{_≡_, refl, ap, sym, _∙_}
-use mathlib.Core.List.{List, [], _∷_}
-use lib.ListN.{length}
-use lib.Seq.{sets-eq}
+use mathlib.Core.List.{List, [], _∷_, _++_}
+use lib.ListN.{length, take, drop}
+use lib.Seq.{length-sets, sets-eq, take-all, take-at}
 use borrow.Author.Needs.{needs}
 use borrow.Author.Tests.{lt-ltb, le-ltb, ne-eqb}
-use types.Run.{OneOf}
-use denote.Enum.Declared.{tagOf}
-use Rattle.expression.specs.Limits.{mostRecordBytes}
+use Rattle.expression.specs.Limits.{mostTokens, mostRecordBytes}
 use Rattle.expression.specs.Refusal.{Check, accepted, noTree, short}
 use Rattle.expression.specs.Token.{class}
 use Rattle.expression.specs.Tree.{Tree, yield}
 use Rattle.expression.specs.Checks.{rowTokens, recordChecks, shortCheck, recordNumber, yieldNumber}
 use Rattle.expression.specs.Decode.{treeOf}
 use Rattle.expression.proofs.Numbers.{first-append}
+use Rattle.record.specs.Held.{front}
 use Rattle.record.specs.Checks.{rowLength}
-use Rattle.record.specs.Rows.{writtenLast, Writes}
+use Rattle.record.specs.Rows.{Writes}
 use Rattle.record.specs.Answers.{Yields}
-use Rattle.record.specs.declared.rows.Written.{Written}
-use Rattle.record.specs.declared.rows.Written.the-variants.{Upto}
-use Rattle.record.proofs.rows.Written as writtens
 use Rattle.record.proofs.Accepted.{Accepted, accepted-tree, first-refused}
-use Rattle.record.proofs.Writing.{not-upto}
+use Rattle.record.proofs.Holding.{front-copied}
+use Rattle.record.proofs.Writing.{not-written}
 
 -- the last of the checks
 abbrev room : ℕ → List ℕ → List ℕ → List Check
@@ -56,25 +53,45 @@ module _ (n : ℕ) (bytes before : List ℕ) {number : ℕ} (found : number ≡ 
         output = refl;
       }
 
-  module _ {tokens : ℕ} {after : List ℕ} (w : Written) (e : number ≡ accepted) (v : tokens ≡ rowLength bytes) (enough : tokens ≤ length before)
-      (h : Writes n bytes 0 before 0 after w) where
-    fits : (t : Tree) → Accepted n bytes t → 0 + length (yield t) ≤ length before
-    fits t a = omega (arith, a .row-is)
+  module _ {tokens : ℕ} (held rest zeros row : List ℕ) (w : ℕ) (e : number ≡ accepted) (v : tokens ≡ rowLength bytes)
+      (copied : held ≡ take (length bytes) bytes ++ rest) (h : Writes n (front (length bytes) held) 0 zeros 0 row w) where
+    on-bytes : Writes n bytes 0 zeros 0 row w
+    on-bytes = rw (front-copied bytes held rest copied) at h
 
-    pub never-refused : OneOf (1 ∷ []) (tagOf writtens.the-type w) → Yields n bytes before after (record { number = noTree; length = 0 })
-    never-refused p = let (t, a) = accepted-tree n bytes (sym found ∙ e) in not-upto t w p h (a .stands) (fits t a)
-
-    pub yielded : {end last : ℕ} → w ≡ Upto end last → Yields n bytes before after (record { number = accepted; length = last })
-    unfolding yieldNumber
-    yielded {end} {last} q =
+    pub never-refused : w ≡ 0 → Yields n bytes before before (record { number = noTree; length = 0 })
+    never-refused p =
         let (t, a) = accepted-tree n bytes (sym found ∙ e) in
-        let k = h .wrote t (length bytes) (a .stands) (fits t a) in
+        not-written t p on-bytes (a .stands) (omega (arith, a .row-fits))
+
+    pub row-holds : mostTokens ≤ length zeros → tokens ≤ length row
+    row-holds most =
+        let (t, a) = accepted-tree n bytes (sym found ∙ e) in
+        let k = on-bytes .wrote t (length bytes) (a .stands) (omega (arith, a .row-fits)) in
+        omega (arith, a .row-fits, a .row-is, ap length (k .2), length-sets zeros 0 (yield t))
+
+    -- the row stands at the front of what was written
+    written : (t : Tree) → Accepted n bytes t → mostTokens ≤ length zeros → take (tokens - 0) (drop 0 row) ≡ yield t
+    written t a most =
+        let f : 0 + length (yield t) ≤ length zeros = omega (arith, a .row-fits) in
+        ap (λ k. take k row) (sub-zero tokens)
+        ∙ ap (take tokens) (on-bytes .wrote t (length bytes) (a .stands) (omega (arith, a .row-fits)) .2 ∙ sets-eq (yield t) zeros 0 f)
+        ∙ take-at (yield t) (drop (0 + length (yield t)) zeros) tokens (a .row-is ∙ sym v)
+
+    pub yielded : {after : List ℕ} → tokens ≤ length before → mostTokens ≤ length zeros
+        → after ≡ take (length (take (tokens - 0) (drop 0 row))) (take (tokens - 0) (drop 0 row)) ++ drop (length (take (tokens - 0) (drop 0 row))) before
+        → Yields n bytes before after (record { number = accepted; length = tokens })
+    unfolding yieldNumber
+    yielded enough most output =
+        let (t, a) = accepted-tree n bytes (sym found ∙ e) in
         record {
           numbered =
               sym (first-append (recordChecks n bytes) (room n bytes before) (a .passed)
               ∙ rw (a .read, le-ltb (length before) (length (yield t)) (omega (arith, a .row-is))));
-          measured = rw (a .read) (sym (ap writtenLast q) ∙ k .2 ∙ zero-add (length (yield t)));
-          output = rw (a .read) (k .3 ∙ sets-eq (yield t) before 0 (fits t a) ∙ rw zero-add);
+          measured = rw (a .read) (v ∙ sym (a .row-is));
+          output =
+              rw (a .read)
+              (output ∙ ap (λ d. take (length d) d ++ drop (length d) before) (written t a most)
+              ∙ ap (λ d. d ++ drop (length (yield t)) before) (take-all (length (yield t)) (yield t) (omega arith)));
         }
 
-pub ruleset yield-row-ways = (record-refused, length-fits, too-short, never-refused, yielded, needs)
+pub ruleset yield-row-ways = (record-refused, length-fits, too-short, row-holds, never-refused, yielded, needs)

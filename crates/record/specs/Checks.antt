@@ -5,13 +5,8 @@ use mathlib.Core.List.{List, [], _∷_}
 use lib.Dec.{eqb}
 use lib.ListN.{length}
 use Rattle.expression.specs.Lists.{count}
-use Rattle.expression.specs.Refusal.{noTree}
 use Rattle.expression.specs.Token.{Class, Infix, Opening, Closing, Reading, Meaningless, opening}
 use Rattle.expression.specs.Checks.{strangeInRecord}
-use Rattle.record.specs.declared.Node.{Node}
-use Rattle.record.specs.declared.Node.the-variants as node
-use Rattle.record.specs.declared.checks.Due.{Due}
-use Rattle.record.specs.declared.checks.Due.the-variants.{Trees, Refused}
 
 -- one of the trees due is the byte's: what is due behind it, where d more are
 abbrev pub behind : Class → ℕ → ℕ
@@ -28,14 +23,6 @@ module _ (k : ℕ → Class) where
   lists zero (c ∷ cs) = false
   lists (suc d) [] = false
   lists (suc d) (c ∷ cs) = cond (strangeInRecord (k c)) false (lists (behind (k c) d) cs)
-
--- the same at a node
-abbrev pub dueAfter : Node → ℕ → Due
-dueAfter x zero = Refused noTree
-dueAfter (node.Reading a) (suc d) = Trees d
-dueAfter node.Bracket (suc d) = Trees (suc d)
-dueAfter (node.Operator o) (suc d) = Trees (suc (suc d))
-dueAfter node.Other (suc d) = Refused noTree
 
 -- the tokens of a tree's row, from its record: one for each byte, and one more for each bracket
 abbrev pub rowLength : List ℕ → ℕ

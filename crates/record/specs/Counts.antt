@@ -1,19 +1,16 @@
 -- The conflict count of the tree at a place of a record, under a relation "closes before" in words. Assumes nothing.
-use Prim.Native.Nat.{ℕ, _+_, _≤_, _<_}
+use Prim.Native.Nat.{ℕ, _+_, _/_, _%_, _≤_, _<_}
 use mathlib.Core.Path.{_≡_}
 use mathlib.Core.Bool.{Bool, not}
 use mathlib.Core.List.{List}
 use lib.ListN.{length}
 use Rattle.expression.specs.Lists.{one}
-use Rattle.expression.specs.Refusal.{accepted}
 use Rattle.expression.specs.Tree.{Tree}
 use Rattle.disambiguation.specs.Conflicts.{conflicts}
 use Rattle.sheet.specs.Relation.{closesIn}
 use Rattle.record.specs.TreeAt.{TreeAt}
 use Rattle.record.specs.declared.Node.{Node}
 use Rattle.record.specs.declared.Node.the-variants.{Reading, Bracket, Operator, Other}
-use Rattle.record.specs.declared.conflicts.Tally.{Tally}
-use Rattle.record.specs.declared.conflicts.Tally.the-variants.{Counted, Refused}
 
 -- L(o,b) is excluded where b does not close before o, and R(o,b) where o closes before b.
 abbrev pub excludedLeft : List ℕ → ℕ → ℕ → Bool
@@ -35,27 +32,18 @@ onRight words o Bracket = 0
 onRight words o (Operator b) = one (closesIn words o b)
 onRight words o Other = 0
 
--- document 01's number of the answer,
-abbrev pub tallyNumber : Tally → ℕ
-tallyNumber (Counted end count) = accepted
-tallyNumber (Refused number) = number
+-- An answer is one word: 0 where no tree stands; else the place after the tree times 256, and the count.
+abbrev pub tallyEnd : ℕ → ℕ
+tallyEnd r = r / 256
 
--- the place after the tree,
-abbrev pub tallyEnd : Tally → ℕ
-tallyEnd (Counted end count) = end
-tallyEnd (Refused number) = 0
-
--- and the count
-abbrev pub tallyCount : Tally → ℕ
-tallyCount (Counted end count) = count
-tallyCount (Refused number) = 0
+abbrev pub tallyCount : ℕ → ℕ
+tallyCount r = r % 256
 
 -- From the place `from`, with so many counted before it.
-pub record Counts (n : ℕ) (words bytes : List ℕ) (from before : ℕ) (r : Tally) : Type 0 where
+pub record Counts (n : ℕ) (words bytes : List ℕ) (from before : ℕ) (r : ℕ) : Type 0 where
   -- where a tree stands, its end, and its conflicts added
-  pub counted : (t : Tree) (to : ℕ) → TreeAt n bytes from t to
-      → (tallyNumber r ≡ accepted) × (tallyEnd r ≡ to) × (tallyCount r ≡ before + conflictsIn words t)
+  pub counted : (t : Tree) (to : ℕ) → TreeAt n bytes from t to → (tallyEnd r ≡ to) × (tallyCount r ≡ before + conflictsIn words t)
   -- a place that is given lies further on, and the count is below it
-  pub onward : tallyNumber r ≡ accepted → from < tallyEnd r
-  pub within : tallyNumber r ≡ accepted → tallyEnd r ≤ length bytes
-  pub small : tallyNumber r ≡ accepted → tallyCount r < tallyEnd r
+  pub onward : (r ≡ 0 → ⊥) → from < tallyEnd r
+  pub within : tallyEnd r ≤ length bytes
+  pub small : (r ≡ 0 → ⊥) → tallyCount r < tallyEnd r

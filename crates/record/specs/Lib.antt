@@ -1,4 +1,5 @@
 pub mod Node
+pub mod Held
 pub mod TreeAt
 pub mod Reach
 pub mod Checks

@@ -1,17 +1,14 @@
 // The checks of a record: strangers, exactly one tree, the length of its row.
 ghost use mathlib.Core.Path.{_≡_};
-ghost use mathlib.Core.Bool.{_||_};
+ghost use mathlib.Core.Bool.{false, _||_};
 ghost use Prim.Native.Nat.{_≤_};
-ghost use lib.Dec.{eqb};
+ghost use lib.Dec.{eqb, leb, ltb};
 ghost use lib.ListN.{length};
 ghost use Rattle.expression.specs.Lists.{any, one};
 ghost use Rattle.expression.specs.Limits.{mostRecordBytes};
-ghost use Rattle.expression.specs.Token.{opening, class};
+ghost use Rattle.expression.specs.Token.{opening, firstReading, class};
 ghost use Rattle.expression.specs.Checks.{strangeInRecord};
-ghost use Rattle.record.specs.Checks.{dueAfter, lists, rowLength};
-use crate::Node;
-use crate::node_at;
-use sheet::refusal;
+ghost use Rattle.record.specs.Checks.{lists, rowLength};
 use sheet::token;
 
 // The byte stands in no record: it has no meaning under n operators, or closes a bracket.
@@ -50,52 +47,47 @@ pub fn has_stranger(n: u8, bytes: &[u8]) -> bool
     strange
 }
 
-// The trees that are due behind a node, or the number of the refusal.
-pub enum Due {
-    Trees(usize),
-    Refused(u8),
-}
-
-// So many trees were due before the node. Where none was, it is a byte too many.
-fn due_after(node: Node, due: usize) -> Due
-    requires { ⌜ due ≤ mostRecordBytes ⌝ }
-    ensures { λ r. ⌜ r ≡ dueAfter node due ⌝ }
+// 1 where a tree more is due behind the byte, as behind an operator; else 0.
+fn one_more(byte: u8) -> usize
+    ensures { λ r. ⌜ r ≡ one (ltb byte opening) ⌝ }
 {
-    if due == 0 {
-        return Due::Refused(refusal::NO_TREE);
+    if byte < token::OPENING {
+        return 1;
     }
-    if let Node::Reading(_) = node {
-        return Due::Trees(due - 1);
-    }
-    if let Node::Bracket = node {
-        return Due::Trees(due);
-    }
-    let Node::Operator(_) = node else {
-        return Due::Refused(refusal::NO_TREE);
-    };
-    Due::Trees(due + 1)
+    0
 }
 
-// The bytes are exactly one tree over n operators.
+// 1 where a tree fewer is due behind the byte, as behind a reading; else 0.
+fn one_fewer(byte: u8) -> usize
+    ensures { λ r. ⌜ r ≡ one (leb firstReading byte) ⌝ }
+{
+    if byte < token::FIRST_READING {
+        return 0;
+    }
+    1
+}
+
+// Bytes with no stranger are exactly one tree over n operators: the trees due are counted, and none is due too early.
 pub fn is_tree(n: u8, bytes: &[u8]) -> bool
     requires { ⌜ length (now bytes) ≤ mostRecordBytes ⌝ }
+    requires { ⌜ any (λ c. strangeInRecord (class n c)) (now bytes) ≡ false ⌝ }
     ensures { λ r. ⌜ r ≡ lists (class n) 1 (now (bytes .entry)) ⌝ }
 {
     let mut due = 1;
     let mut at = 0;
     while at < bytes.len() {
-        let next = due_after(node_at(n, bytes, at), due);
-        let Due::Trees(trees) = next else {
+        if due == 0 {
             return false;
-        };
-        due = trees;
+        }
+        let byte = bytes[at];
+        due = due + one_more(byte) - one_fewer(byte);
         at += 1;
     }
     due == 0
 }
 
 // 1 where the byte opens a bracket, else 0.
-fn opens(byte: u8) -> usize
+fn opens(byte: u8) -> u8
     ensures { λ r. ⌜ r ≡ one (eqb byte opening) ⌝ }
 {
     if byte == token::OPENING {
@@ -109,11 +101,11 @@ pub fn row_length(bytes: &[u8]) -> usize
     requires { ⌜ length (now bytes) ≤ mostRecordBytes ⌝ }
     ensures { λ r. ⌜ r ≡ rowLength (now (bytes .entry)) ⌝ }
 {
-    let mut tokens = bytes.len();
+    let mut brackets = 0u8;
     let mut at = 0;
     while at < bytes.len() {
-        tokens += opens(bytes[at]);
+        brackets += opens(bytes[at]);
         at += 1;
     }
-    tokens
+    bytes.len() + brackets as usize
 }

@@ -1,24 +1,21 @@
 // The conflict count of the tree at a place of a record, under the relation "closes before".
 ghost use mathlib.Core.Path.{_≡_};
 ghost use Prim.Native.Nat.{_≤_};
+ghost use Rattle.expression.specs.Limits.{mostRecordBytes};
+ghost use Rattle.record.specs.Held.{front};
 ghost use Rattle.record.specs.Node.{nodeAt};
 ghost use Rattle.record.specs.Counts.{onLeft, onRight, Counts};
 use crate::Node;
-use crate::node_at;
-use sheet::refusal;
-
-// The place after the tree and the count, or the number of the refusal.
-pub enum Tally {
-    Counted(usize, usize),
-    Refused(u8),
-}
+use crate::held::REFUSED;
+use crate::held::node_in;
 
 // 1 where operator o shows a conflict with its left operand, which stands at the place; else 0.
-fn on_left(n: u8, relation: &[u32; 32], bytes: &[u8], at: usize, o: u8) -> usize
-    ensures { λ r. ⌜ r ≡ onLeft (now (relation .entry)) o (nodeAt n (now (bytes .entry)) at) ⌝ }
+fn on_left(n: u8, relation: &[u32; 32], held: &[u8; 255], size: usize, at: usize, o: u8) -> usize
+    requires { ⌜ size ≤ mostRecordBytes ⌝ }
+    ensures { λ r. ⌜ r ≡ onLeft (now (relation .entry)) o (nodeAt n (front size (now (held .entry))) at) ⌝ }
     ensures { λ r. ⌜ r ≤ 1 ⌝ }
 {
-    let top = node_at(n, bytes, at);
+    let top = node_in(n, held, size, at);
     let Node::Operator(b) = top else {
         return 0;
     };
@@ -29,11 +26,12 @@ fn on_left(n: u8, relation: &[u32; 32], bytes: &[u8], at: usize, o: u8) -> usize
 }
 
 // 1 where operator o shows a conflict with its right operand, which stands at the place; else 0.
-fn on_right(n: u8, relation: &[u32; 32], bytes: &[u8], at: usize, o: u8) -> usize
-    ensures { λ r. ⌜ r ≡ onRight (now (relation .entry)) o (nodeAt n (now (bytes .entry)) at) ⌝ }
+fn on_right(n: u8, relation: &[u32; 32], held: &[u8; 255], size: usize, at: usize, o: u8) -> usize
+    requires { ⌜ size ≤ mostRecordBytes ⌝ }
+    ensures { λ r. ⌜ r ≡ onRight (now (relation .entry)) o (nodeAt n (front size (now (held .entry))) at) ⌝ }
     ensures { λ r. ⌜ r ≤ 1 ⌝ }
 {
-    let top = node_at(n, bytes, at);
+    let top = node_in(n, held, size, at);
     let Node::Operator(b) = top else {
         return 0;
     };
@@ -43,26 +41,45 @@ fn on_right(n: u8, relation: &[u32; 32], bytes: &[u8], at: usize, o: u8) -> usiz
     0
 }
 
-// The count so far, and the tree's. A tree has fewer conflicts than bytes.
-pub fn count_at(n: u8, relation: &[u32; 32], bytes: &[u8], at: usize, count: usize) -> Tally
+// The place after the tree times 256, and the count so far with the tree's: a tree has fewer conflicts than bytes.
+// A reading on the left, as in most trees, takes no call.
+pub fn count_at(
+    n: u8,
+    relation: &[u32; 32],
+    held: &[u8; 255],
+    size: usize,
+    at: usize,
+    count: usize,
+) -> usize
+    requires { ⌜ size ≤ mostRecordBytes ⌝ }
     requires { ⌜ count ≤ at ⌝ }
-    ensures { λ r. ⌜ Counts n (now (relation .entry)) (now (bytes .entry)) at count r ⌝ }
+    ensures { λ r. ⌜ Counts n (now (relation .entry)) (front size (now (held .entry))) at count r ⌝ }
 {
-    let node = node_at(n, bytes, at);
+    if size <= at {
+        return REFUSED;
+    }
+    let node = node_in(n, held, size, at);
     if let Node::Reading(_) = node {
-        return Tally::Counted(at + 1, count);
+        return (at + 1) * 256 + count;
     }
     if let Node::Bracket = node {
-        return count_at(n, relation, bytes, at + 1, count);
+        return count_at(n, relation, held, size, at + 1, count);
     }
     let Node::Operator(o) = node else {
-        return Tally::Refused(refusal::NO_TREE);
+        return REFUSED;
     };
-    let first = on_left(n, relation, bytes, at + 1, o);
-    let left = count_at(n, relation, bytes, at + 1, count + first);
-    let Tally::Counted(mid, counted) = left else {
-        return left;
-    };
-    let second = on_right(n, relation, bytes, mid, o);
-    count_at(n, relation, bytes, mid, counted + second)
+    let top = node_in(n, held, size, at + 1);
+    if let Node::Reading(_) = top {
+        let only = on_right(n, relation, held, size, at + 2, o);
+        return count_at(n, relation, held, size, at + 2, count + only);
+    }
+    let first = on_left(n, relation, held, size, at + 1, o);
+    let left = count_at(n, relation, held, size, at + 1, count + first);
+    if left == REFUSED {
+        return REFUSED;
+    }
+    let mid = left / 256;
+    let counted = left % 256;
+    let second = on_right(n, relation, held, size, mid, o);
+    count_at(n, relation, held, size, mid, counted + second)
 }

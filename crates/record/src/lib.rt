@@ -4,8 +4,6 @@ ghost use Rattle.expression.specs.Checks.{recordNumber};
 ghost use Rattle.expression.specs.Operand.{operandPart};
 ghost use Rattle.record.specs.Node.{nodeAt};
 ghost use Rattle.record.specs.Answers.{Yields, judgement};
-use conflicts::Tally;
-use rows::Written;
 use sheet::limits;
 use sheet::refusal;
 use sheet::token;
@@ -13,6 +11,7 @@ use sheet::token;
 mod checks;
 mod conflicts;
 mod ends;
+mod held;
 pub mod operands;
 mod rows;
 
@@ -91,16 +90,20 @@ pub fn yield_row(n: u8, bytes: &[u8], out: &mut [u8]) -> Answer
             length: 0,
         };
     }
-    let written = rows::write_row(n, bytes, 0, out, 0);
-    let Written::Upto(_, last) = written else {
+    let mut held = [0u8; 255];
+    bytes::copy(bytes, &mut held);
+    let mut row = [0u8; 255];
+    let written = rows::write_row(n, &held, bytes.len(), 0, &mut row, 0);
+    if written == held::REFUSED {
         return Answer {
             number: refusal::NO_TREE,
             length: 0,
         };
-    };
+    }
+    bytes::copy(&row[0..tokens], out);
     Answer {
         number: refusal::ACCEPTED,
-        length: last,
+        length: tokens,
     }
 }
 
@@ -122,16 +125,18 @@ pub fn judge(n: u8, relation: &[u32; 32], bytes: &[u8]) -> Judgement
             count: 0,
         };
     }
-    let tally = conflicts::count_at(n, relation, bytes, 0, 0);
-    let Tally::Counted(_, count) = tally else {
+    let mut held = [0u8; 255];
+    bytes::copy(bytes, &mut held);
+    let tally = conflicts::count_at(n, relation, &held, bytes.len(), 0, 0);
+    if tally == held::REFUSED {
         return Judgement {
             number: refusal::NO_TREE,
             count: 0,
         };
-    };
+    }
     Judgement {
         number: refusal::ACCEPTED,
-        count: count as u8,
+        count: (tally % 256) as u8,
     }
 }
 

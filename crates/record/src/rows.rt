@@ -1,50 +1,84 @@
-// The row of the tree at a place of a record, written into a lent output.
+// The row of the tree at a place of a record, written into 255 bytes, the most that a row has.
+ghost use mathlib.Core.Path.{_≡_};
+ghost use Prim.Native.Nat.{_<_, _≤_};
+ghost use lib.ListN.{set};
+ghost use Rattle.expression.specs.Limits.{mostTokens, mostRecordBytes};
+ghost use Rattle.record.specs.Held.{front};
 ghost use Rattle.record.specs.Rows.{Writes};
 use crate::Node;
-use crate::node_at;
-use sheet::refusal;
+use crate::held::REFUSED;
+use crate::held::node_in;
+use sheet::limits;
 use sheet::token;
 
-// The places after the tree in the record and after its row in the output, or the number of the refusal.
-pub enum Written {
-    Upto(usize, usize),
-    Refused(u8),
+// Two tokens, at two places.
+fn set_two(out: &mut [u8; 255], to: usize, next: usize, a: u8, b: u8)
+    requires { ⌜ to < mostTokens ⌝ }
+    requires { ⌜ next < mostTokens ⌝ }
+    ensures { λ _. ⌜ now (out .exit) ≡ set (set (now (out .entry)) to a) next b ⌝ }
+{
+    out[to] = a;
+    out[next] = b;
 }
 
-// The row goes to `out` from the place `to` on.
-pub fn write_row(n: u8, bytes: &[u8], at: usize, out: &mut [u8], to: usize) -> Written
-    ensures { λ r. ⌜ Writes n (now (bytes .entry)) at (now (out .entry)) to (now (out .exit)) r ⌝ }
+// The row goes to `out` from the place `to` on. The answer is the place after the tree in the record times 256, and that
+// after its row in `out`. A reading on the left, as in most trees, takes no call.
+pub fn write_row(
+    n: u8,
+    held: &[u8; 255],
+    size: usize,
+    at: usize,
+    out: &mut [u8; 255],
+    to: usize,
+) -> usize
+    requires { ⌜ size ≤ mostRecordBytes ⌝ }
+    ensures { λ r. ⌜ Writes n (front size (now (held .entry))) at (now (out .entry)) to (now (out .exit)) r ⌝ }
 {
-    let node = node_at(n, bytes, at);
-    if let Node::Operator(o) = node {
-        let left = write_row(n, bytes, at + 1, out, to);
-        let Written::Upto(mid, seam) = left else {
-            return left;
-        };
-        if out.len() <= seam {
-            return Written::Refused(refusal::SHORT);
-        }
-        out[seam] = o;
-        return write_row(n, bytes, mid, out, seam + 1);
+    if size <= at {
+        return REFUSED;
     }
-    if out.len() <= to {
-        return Written::Refused(refusal::SHORT);
+    if limits::MOST_TOKENS <= to {
+        return REFUSED;
+    }
+    let node = node_in(n, held, size, at);
+    if let Node::Reading(a) = node {
+        out[to] = a;
+        return (at + 1) * 256 + (to + 1);
     }
     if let Node::Bracket = node {
         out[to] = token::OPENING;
-        let inner = write_row(n, bytes, at + 1, out, to + 1);
-        let Written::Upto(end, last) = inner else {
-            return inner;
-        };
-        if out.len() <= last {
-            return Written::Refused(refusal::SHORT);
+        let inner = write_row(n, held, size, at + 1, out, to + 1);
+        if inner == REFUSED {
+            return REFUSED;
+        }
+        let last = inner % 256;
+        if limits::MOST_TOKENS <= last {
+            return REFUSED;
         }
         out[last] = token::CLOSING;
-        return Written::Upto(end, last + 1);
+        return inner + 1;
     }
-    let Node::Reading(a) = node else {
-        return Written::Refused(refusal::NO_TREE);
+    let Node::Operator(o) = node else {
+        return REFUSED;
     };
-    out[to] = a;
-    Written::Upto(at + 1, to + 1)
+    let top = node_in(n, held, size, at + 1);
+    if let Node::Reading(a) = top {
+        let past = at + 2;
+        let next = to + 1;
+        if limits::MOST_TOKENS <= next {
+            return REFUSED;
+        }
+        set_two(out, to, next, a, o);
+        return write_row(n, held, size, past, out, next + 1);
+    }
+    let left = write_row(n, held, size, at + 1, out, to);
+    if left == REFUSED {
+        return REFUSED;
+    }
+    let seam = left % 256;
+    if limits::MOST_TOKENS <= seam {
+        return REFUSED;
+    }
+    out[seam] = o;
+    write_row(n, held, size, left / 256, out, seam + 1)
 }

@@ -10,7 +10,7 @@ record-number-spec =
     (λ c. search record-number-ways)
     (λ c κs. search record-number-ways)
     (λ c. search record-number-ways)
-    (λ c κs. search record-number-ways)
+    (λ c κs. (search record-number-ways, cc))
     (λ c. search record-number-ways)
     (λ c κs. search record-number-ways)
     (λ c. search record-number-ways)

@@ -6,7 +6,7 @@ use lib.ListN.{length, drop}
 use borrow.Author.Needs.{needs}
 use Rattle.expression.specs.Token.{class}
 use Rattle.record.specs.Checks.{lists}
-use Rattle.record.proofs.Checking.{due-on, goes-on, refused, at-end}
+use Rattle.record.proofs.Checking.{more-fits, fewer-fits, due-on, too-early, goes-on, at-end}
 use Rattle.record.proofs.checks.is_tree.Statement.{statement}
 use Rattle.record.proofs.checks.is_tree.Tie as tie
 
@@ -23,11 +23,12 @@ is-tree-spec =
     Inv-loop
     μ-loop
     (λ c. (omega arith, omega arith, refl))
+    (λ c. search (too-early, needs))
+    (λ c. omega arith)
     (λ c κs. search needs)
-    (λ c κs. omega arith)
-    (λ c. search needs)
-    (λ c. search needs)
-    (λ c. search (refused, needs))
+    (λ c. search (more-fits, needs))
+    (λ c κs. search needs)
+    (λ c. search (fewer-fits, needs))
     (λ c. omega arith)
     (λ c. omega arith)
     (λ c. (omega arith, search (due-on, needs), search (goes-on, needs)))
