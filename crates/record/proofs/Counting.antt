@@ -9,6 +9,7 @@ use lib.ListN.{length}
 use borrow.Author.Needs.{needs}
 use types.Run.{OneOf}
 use denote.Enum.Declared.{tagOf}
+use Rattle.expression.specs.Refusal.{noTree}
 use Rattle.expression.specs.Lists.{one, count}
 use Rattle.expression.specs.Limits.{mostRecordBytes}
 use Rattle.expression.specs.Tree.{Tree, reading, bracket, binary}
@@ -74,12 +75,12 @@ pub ruleset on-left-ways = (left-none, left-in-order, left-shown, needs)
 pub ruleset on-right-ways = (right-none, right-shown, right-in-order, needs)
 
 -- an answer that counted nothing has no tree
-pub not-counted : {A : Type 0} {n : ℕ} {words bytes : List ℕ} {from before to r : ℕ} (t : Tree) → r ≡ 0 → Counts n words bytes from before r
+pub not-counted : {A : Type 0} {n : ℕ} {words bytes : List ℕ} {from before to r : ℕ} (t : Tree) → r ≡ noTree → Counts n words bytes from before r
     → TreeAt n bytes from t to → A
 not-counted {to = to} t e h x = absurd (omega (arith, h .counted t to x .0, x .ends, record-positive t))
 
 -- 0 where no tree stands
-none-here : {n : ℕ} (words : List ℕ) {bytes : List ℕ} {from : ℕ} (before : ℕ) → ((t : Tree) (to : ℕ) → TreeAt n bytes from t to → ⊥) → Counts n words bytes from before 0
+none-here : {n : ℕ} (words : List ℕ) {bytes : List ℕ} {from : ℕ} (before : ℕ) → ((t : Tree) (to : ℕ) → TreeAt n bytes from t to → ⊥) → Counts n words bytes from before noTree
 none-here words before never =
     record {
       counted = λ t to k. absurd (never t to k);
@@ -88,7 +89,7 @@ none-here words before never =
       small = λ e. absurd (e refl);
     }
 
-pub past-end : (n : ℕ) (words : List ℕ) (size : ℕ) (held : List ℕ) (from before : ℕ) → size ≤ from → Counts n words (front size held) from before 0
+pub past-end : (n : ℕ) (words : List ℕ) (size : ℕ) (held : List ℕ) (from before : ℕ) → size ≤ from → Counts n words (front size held) from before noTree
 past-end n words size held from before h = none-here words before (λ t to x. none-past n size held from h t x)
 
 module _ (n : ℕ) (words bytes : List ℕ) (from before : ℕ) {x : Node} (found : x ≡ nodeAt n bytes from) where
@@ -115,14 +116,14 @@ module _ (n : ℕ) (words bytes : List ℕ) (from before : ℕ) {x : Node} (foun
       }
 
   pub other : OneOf (1 ∷ 2 ∷ 3 ∷ []) (tagOf nodes.the-type x) → OneOf (0 ∷ 2 ∷ 3 ∷ []) (tagOf nodes.the-type x) → OneOf (0 ∷ 1 ∷ 3 ∷ []) (tagOf nodes.the-type x)
-      → Counts n words bytes from before 0
+      → Counts n words bytes from before noTree
   other p q r = none-here words before (λ t to k. no-tree n bytes from found (is-other x p q r) t k)
 
   module _ (o first l : ℕ) (is : x ≡ node.Operator o) (h : Counts n words bytes (from + 1) (before + first) l) where
-    pub left-refused : l ≡ 0 → Counts n words bytes from before 0
+    pub left-refused : l ≡ noTree → Counts n words bytes from before noTree
     left-refused e = none-here words before (λ t to k. let u = an-operator n bytes from found is t k in not-counted (u .0) e h (u .4))
 
-    pub an-infix : {second r : ℕ} → first ≡ onLeft words o (nodeAt n bytes (from + 1)) → (l ≡ 0 → ⊥)
+    pub an-infix : {second r : ℕ} → first ≡ onLeft words o (nodeAt n bytes (from + 1)) → (l ≡ noTree → ⊥)
         → second ≡ onRight words o (nodeAt n bytes (tallyEnd l)) → Counts n words bytes (tallyEnd l) (tallyCount l + second) r → Counts n words bytes from before r
     an-infix {second} {r} first-is some second-is g =
         record {
@@ -160,7 +161,7 @@ module _ (n : ℕ) (bytes : List ℕ) (from : ℕ) {o a : ℕ} {x y : Node} (fou
       }
 
 -- what the sums and the calls ask
-module _ (from : ℕ) {n : ℕ} {words bytes : List ℕ} {before l : ℕ} (h : Counts n words bytes (from + 1) before l) (some : l ≡ 0 → ⊥) where
+module _ (from : ℕ) {n : ℕ} {words bytes : List ℕ} {before l : ℕ} (h : Counts n words bytes (from + 1) before l) (some : l ≡ noTree → ⊥) where
   pub mid-falls : {size t : ℕ} → from < size → size - from ≡ t → size - tallyEnd l < t
   mid-falls low e = omega (arith, h .onward some)
 

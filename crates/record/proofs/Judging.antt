@@ -29,7 +29,7 @@ module _ (n : ℕ) (words bytes : List ℕ) {number : ℕ} (known : number ≡ r
     on-bytes : Counts n words bytes 0 0 r
     on-bytes = rw (front-copied bytes held rest copied) at h
 
-    pub never-refused : r ≡ 0 → record { number = noTree; count = 0 } ≡ judgement n words bytes
+    pub never-refused : r ≡ noTree → record { number = noTree; count = 0 } ≡ judgement n words bytes
     never-refused p = let (t, a) = accepted-tree n bytes (sym known ∙ e) in not-counted t p on-bytes (a .stands)
 
     pub judged : record { number = accepted; count = tallyCount r } ≡ judgement n words bytes

@@ -12,6 +12,7 @@ use mir.Syntax.{w64}
 use mir.Val.{Fits}
 use types.Run.{OneOf}
 use denote.Enum.Declared.{tagOf}
+use Rattle.expression.specs.Refusal.{noTree}
 use Rattle.expression.specs.Limits.{mostTokens, mostRecordBytes}
 use Rattle.expression.specs.Token.{opening, closing}
 use Rattle.expression.specs.Tree.{Tree, reading, bracket, binary, yield}
@@ -50,13 +51,13 @@ operator-tokens : (o : ℕ) (t l r : Tree) → t ≡ binary o l r → length (yi
 operator-tokens o t l r e = ap (λ v. length (yield v)) e ∙ length-append (yield l) (o ∷ yield r)
 
 -- an answer that gives no places has no tree with room
-pub not-written : {A : Type 0} {n : ℕ} {bytes before after : List ℕ} {from at to r : ℕ} (t : Tree) → r ≡ 0 → Writes n bytes from before at after r
+pub not-written : {A : Type 0} {n : ℕ} {bytes before after : List ℕ} {from at to r : ℕ} (t : Tree) → r ≡ noTree → Writes n bytes from before at after r
     → TreeAt n bytes from t to → at + length (yield t) ≤ mostTokens → A
 not-written {to = to} t e h x room = absurd (omega (arith, h .wrote t to x room .0, x .ends, record-positive t))
 
 -- 0 where no tree stands with room
 none-here : {n : ℕ} {bytes : List ℕ} {from at : ℕ} (before after : List ℕ)
-    → ((t : Tree) (to : ℕ) → TreeAt n bytes from t to → at + length (yield t) ≤ mostTokens → ⊥) → Writes n bytes from before at after 0
+    → ((t : Tree) (to : ℕ) → TreeAt n bytes from t to → at + length (yield t) ≤ mostTokens → ⊥) → Writes n bytes from before at after noTree
 none-here before after never =
     record {
       wrote = λ t to x room. absurd (never t to x room);
@@ -64,16 +65,16 @@ none-here before after never =
       within = omega arith;
     }
 
-pub past-end : (n size : ℕ) (held : List ℕ) (from : ℕ) (before : List ℕ) (at : ℕ) → size ≤ from → Writes n (front size held) from before at before 0
+pub past-end : (n size : ℕ) (held : List ℕ) (from : ℕ) (before : List ℕ) (at : ℕ) → size ≤ from → Writes n (front size held) from before at before noTree
 past-end n size held from before at h =
     none-here before before (λ t to x room. none-past n size held from h t x)
 
-pub full : (n : ℕ) (bytes : List ℕ) (from : ℕ) (before : List ℕ) (at : ℕ) → mostTokens ≤ at → Writes n bytes from before at before 0
+pub full : (n : ℕ) (bytes : List ℕ) (from : ℕ) (before : List ℕ) (at : ℕ) → mostTokens ≤ at → Writes n bytes from before at before noTree
 full n bytes from before at h = none-here before before (λ t to x room. omega (arith, yield-positive t))
 
 module _ (n : ℕ) (bytes : List ℕ) (from : ℕ) {x : Node} (found : x ≡ nodeAt n bytes from) (before : List ℕ) (at : ℕ) where
   pub other : OneOf (1 ∷ 2 ∷ 3 ∷ []) (tagOf nodes.the-type x) → OneOf (0 ∷ 2 ∷ 3 ∷ []) (tagOf nodes.the-type x) → OneOf (0 ∷ 1 ∷ 3 ∷ []) (tagOf nodes.the-type x)
-      → Writes n bytes from before at before 0
+      → Writes n bytes from before at before noTree
   other p q r = none-here before before (λ t to h room. no-tree n bytes from found (is-other x p q r) t h)
 
   pub a-leaf : {a : ℕ} → x ≡ node.Reading a → at < mostTokens → Writes n bytes from before at (set before at a) ((from + 1) * 256 + (at + 1))
@@ -91,19 +92,19 @@ module _ (n : ℕ) (bytes : List ℕ) (from : ℕ) {x : Node} (found : x ≡ nod
     inner-room : (t u : Tree) → t ≡ bracket u → at + length (yield t) ≤ mostTokens → at + 1 + length (yield u) ≤ mostTokens
     inner-room t u e room = omega (arith, bracket-tokens t u e)
 
-    pub inner-refused : w ≡ 0 → Writes n bytes from before at after 0
+    pub inner-refused : w ≡ noTree → Writes n bytes from before at after noTree
     inner-refused e =
         none-here before after λ t to k room.
         let u = a-bracket n bytes from found is t k in
         not-written (u .0) e h (u .2) (inner-room t (u .0) (u .1) room)
 
-    pub inner-full : mostTokens ≤ writtenLast w → Writes n bytes from before at after 0
+    pub inner-full : mostTokens ≤ writtenLast w → Writes n bytes from before at after noTree
     inner-full over =
         none-here before after λ t to k room.
         let u = a-bracket n bytes from found is t k in
         omega (arith, h .wrote (u .0) to (u .2) (inner-room t (u .0) (u .1) room) .1, bracket-tokens t (u .0) (u .1))
 
-    pub a-bracketed : (w ≡ 0 → ⊥) → writtenLast w < mostTokens → Writes n bytes from before at (set after (writtenLast w) closing) (w + 1)
+    pub a-bracketed : (w ≡ noTree → ⊥) → writtenLast w < mostTokens → Writes n bytes from before at (set after (writtenLast w) closing) (w + 1)
     a-bracketed some low =
         let m : writtenLast (w + 1) ≡ writtenLast w + 1 = omega arith in
         let e : writtenEnd (w + 1) ≡ writtenEnd w = omega arith in
@@ -121,20 +122,20 @@ module _ (n : ℕ) (bytes : List ℕ) (from : ℕ) {x : Node} (found : x ≡ nod
         }
 
   module _ (after : List ℕ) (w : ℕ) {o : ℕ} (is : x ≡ node.Operator o) (h : Writes n bytes (from + 1) before at after w) where
-    pub left-refused : w ≡ 0 → Writes n bytes from before at after 0
+    pub left-refused : w ≡ noTree → Writes n bytes from before at after noTree
     left-refused e =
         none-here before after λ t to k room.
         let u = an-operator n bytes from found is t k in
         not-written (u .0) e h (u .4) (omega (arith, operator-tokens o t (u .0) (u .1) (u .3)))
 
-    pub left-full : mostTokens ≤ writtenLast w → Writes n bytes from before at after 0
+    pub left-full : mostTokens ≤ writtenLast w → Writes n bytes from before at after noTree
     left-full over =
         none-here before after λ t to k room.
         let u = an-operator n bytes from found is t k in
         let m = operator-tokens o t (u .0) (u .1) (u .3) in
         omega (arith, h .wrote (u .0) (u .2) (u .4) (omega arith) .1)
 
-    pub an-infix : {r : ℕ} (last : List ℕ) → (w ≡ 0 → ⊥) → Writes n bytes (writtenEnd w) (set after (writtenLast w) o) (writtenLast w + 1) last r
+    pub an-infix : {r : ℕ} (last : List ℕ) → (w ≡ noTree → ⊥) → Writes n bytes (writtenEnd w) (set after (writtenLast w) o) (writtenLast w + 1) last r
         → Writes n bytes from before at last r
     an-infix last some g =
         record {
@@ -162,7 +163,7 @@ module _ (n : ℕ) (bytes : List ℕ) (from : ℕ) {x : Node} (found : x ≡ nod
         let e : u .2 ≡ from + 2 = v .1 ∙ omega arith in
         (u .1, u .3 ∙ ap (λ l. binary o l (u .1)) (v .0), rw e at (u .5))
 
-    pub leaf-full : mostTokens ≤ at + 1 → Writes n bytes from before at before 0
+    pub leaf-full : mostTokens ≤ at + 1 → Writes n bytes from before at before noTree
     leaf-full over =
         none-here before before λ t to k room.
         let u = leaf-tokens t k in
@@ -187,7 +188,7 @@ module _ (n : ℕ) (bytes : List ℕ) (from : ℕ) {x : Node} (found : x ≡ nod
 
 -- what the sums and the measure ask
 module _ (from : ℕ) {n : ℕ} {bytes before after : List ℕ} {at w : ℕ} (h : Writes n bytes (from + 1) before at after w) where
-  pub mid-falls : {size t : ℕ} → (w ≡ 0 → ⊥) → from < size → size - from ≡ t → size - writtenEnd w < t
+  pub mid-falls : {size t : ℕ} → (w ≡ noTree → ⊥) → from < size → size - from ≡ t → size - writtenEnd w < t
   mid-falls some low e = omega (arith, h .onward some)
 
   pub closed-fits : length bytes ≤ mostRecordBytes → Fits w64 (w + 1)

@@ -58,7 +58,7 @@ module _ (n : ℕ) (bytes before : List ℕ) {number : ℕ} (found : number ≡ 
     on-bytes : Writes n bytes 0 zeros 0 row w
     on-bytes = rw (front-copied bytes held rest copied) at h
 
-    pub never-refused : w ≡ 0 → Yields n bytes before before (record { number = noTree; length = 0 })
+    pub never-refused : w ≡ noTree → Yields n bytes before before (record { number = noTree; length = 0 })
     never-refused p =
         let (t, a) = accepted-tree n bytes (sym found ∙ e) in
         not-written t p on-bytes (a .stands) (omega (arith, a .row-fits))

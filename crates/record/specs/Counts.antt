@@ -5,6 +5,7 @@ use mathlib.Core.Bool.{Bool, not}
 use mathlib.Core.List.{List}
 use lib.ListN.{length}
 use Rattle.expression.specs.Lists.{one}
+use Rattle.expression.specs.Refusal.{noTree}
 use Rattle.expression.specs.Tree.{Tree}
 use Rattle.disambiguation.specs.Conflicts.{conflicts}
 use Rattle.sheet.specs.Relation.{closesIn}
@@ -32,7 +33,7 @@ onRight words o Bracket = 0
 onRight words o (Operator b) = one (closesIn words o b)
 onRight words o Other = 0
 
--- An answer is one word: 0 where no tree stands; else the place after the tree times 256, and the count.
+-- An answer is one word: the number 7 where no tree stands; else the place after the tree times 256, and the count.
 abbrev pub tallyEnd : ℕ → ℕ
 tallyEnd r = r / 256
 
@@ -44,6 +45,6 @@ pub record Counts (n : ℕ) (words bytes : List ℕ) (from before : ℕ) (r : �
   -- where a tree stands, its end, and its conflicts added
   pub counted : (t : Tree) (to : ℕ) → TreeAt n bytes from t to → (tallyEnd r ≡ to) × (tallyCount r ≡ before + conflictsIn words t)
   -- a place that is given lies further on, and the count is below it
-  pub onward : (r ≡ 0 → ⊥) → from < tallyEnd r
+  pub onward : (r ≡ noTree → ⊥) → from < tallyEnd r
   pub within : tallyEnd r ≤ length bytes
-  pub small : (r ≡ 0 → ⊥) → tallyCount r < tallyEnd r
+  pub small : (r ≡ noTree → ⊥) → tallyCount r < tallyEnd r

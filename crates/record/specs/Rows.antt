@@ -5,10 +5,11 @@ use mathlib.Core.List.{List}
 use lib.ListN.{length}
 use lib.Seq.{sets}
 use Rattle.expression.specs.Limits.{mostTokens}
+use Rattle.expression.specs.Refusal.{noTree}
 use Rattle.expression.specs.Tree.{Tree, yield}
 use Rattle.record.specs.TreeAt.{TreeAt}
 
--- An answer is one word: 0 where no tree stands or its row has no room; else the place after the tree in the record times 256,
+-- An answer is one word: the number 7 where no tree stands or its row has no room; else the place after the tree in the record times 256,
 abbrev pub writtenEnd : ℕ → ℕ
 writtenEnd r = r / 256
 
@@ -22,5 +23,5 @@ pub record Writes (n : ℕ) (bytes : List ℕ) (from : ℕ) (before : List ℕ) 
   pub wrote : (t : Tree) (to : ℕ) → TreeAt n bytes from t to → at + length (yield t) ≤ mostTokens
       → (writtenEnd r ≡ to) × (writtenLast r ≡ at + length (yield t)) × (after ≡ sets before at (yield t))
   -- a place that is given lies further on
-  pub onward : (r ≡ 0 → ⊥) → from < writtenEnd r
+  pub onward : (r ≡ noTree → ⊥) → from < writtenEnd r
   pub within : writtenEnd r ≤ length bytes

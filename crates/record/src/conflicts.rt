@@ -6,7 +6,7 @@ ghost use Rattle.record.specs.Held.{front};
 ghost use Rattle.record.specs.Node.{nodeAt};
 ghost use Rattle.record.specs.Counts.{onLeft, onRight, Counts};
 use crate::Node;
-use crate::held::REFUSED;
+use crate::held::NO_TREE;
 use crate::held::node_in;
 
 // 1 where operator o shows a conflict with its left operand, which stands at the place; else 0.
@@ -56,7 +56,7 @@ pub fn count_at(
     ensures { λ r. ⌜ Counts n (now (relation .entry)) (front size (now (held .entry))) at count r ⌝ }
 {
     if size <= at {
-        return REFUSED;
+        return NO_TREE;
     }
     let node = node_in(n, held, size, at);
     if let Node::Reading(_) = node {
@@ -66,7 +66,7 @@ pub fn count_at(
         return count_at(n, relation, held, size, at + 1, count);
     }
     let Node::Operator(o) = node else {
-        return REFUSED;
+        return NO_TREE;
     };
     let top = node_in(n, held, size, at + 1);
     if let Node::Reading(_) = top {
@@ -75,8 +75,8 @@ pub fn count_at(
     }
     let first = on_left(n, relation, held, size, at + 1, o);
     let left = count_at(n, relation, held, size, at + 1, count + first);
-    if left == REFUSED {
-        return REFUSED;
+    if left == NO_TREE {
+        return NO_TREE;
     }
     let mid = left / 256;
     let counted = left % 256;

@@ -7,8 +7,9 @@ ghost use Rattle.record.specs.Node.{nodeAt};
 use crate::Node;
 use crate::node_at;
 
-// What a walk answers where no tree stands. Any other answer holds two places, or a place and a count.
-pub const REFUSED: usize = 0;
+// What a walk answers where no tree stands: the number of that refusal. Any other answer is 256 or more: it holds two places, or a
+// place and a count.
+pub const NO_TREE: usize = 7;
 
 // The node at a place of the record, which is the first `size` bytes.
 pub fn node_in(n: u8, held: &[u8; 255], size: usize, at: usize) -> Node

@@ -94,7 +94,7 @@ pub fn yield_row(n: u8, bytes: &[u8], out: &mut [u8]) -> Answer
     bytes::copy(bytes, &mut held);
     let mut row = [0u8; 255];
     let written = rows::write_row(n, &held, bytes.len(), 0, &mut row, 0);
-    if written == held::REFUSED {
+    if written == held::NO_TREE {
         return Answer {
             number: refusal::NO_TREE,
             length: 0,
@@ -128,7 +128,7 @@ pub fn judge(n: u8, relation: &[u32; 32], bytes: &[u8]) -> Judgement
     let mut held = [0u8; 255];
     bytes::copy(bytes, &mut held);
     let tally = conflicts::count_at(n, relation, &held, bytes.len(), 0, 0);
-    if tally == held::REFUSED {
+    if tally == held::NO_TREE {
         return Judgement {
             number: refusal::NO_TREE,
             count: 0,

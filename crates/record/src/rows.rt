@@ -6,7 +6,7 @@ ghost use Rattle.expression.specs.Limits.{mostTokens, mostRecordBytes};
 ghost use Rattle.record.specs.Held.{front};
 ghost use Rattle.record.specs.Rows.{Writes};
 use crate::Node;
-use crate::held::REFUSED;
+use crate::held::NO_TREE;
 use crate::held::node_in;
 use sheet::limits;
 use sheet::token;
@@ -35,10 +35,10 @@ pub fn write_row(
     ensures { λ r. ⌜ Writes n (front size (now (held .entry))) at (now (out .entry)) to (now (out .exit)) r ⌝ }
 {
     if size <= at {
-        return REFUSED;
+        return NO_TREE;
     }
     if limits::MOST_TOKENS <= to {
-        return REFUSED;
+        return NO_TREE;
     }
     let node = node_in(n, held, size, at);
     if let Node::Reading(a) = node {
@@ -48,36 +48,36 @@ pub fn write_row(
     if let Node::Bracket = node {
         out[to] = token::OPENING;
         let inner = write_row(n, held, size, at + 1, out, to + 1);
-        if inner == REFUSED {
-            return REFUSED;
+        if inner == NO_TREE {
+            return NO_TREE;
         }
         let last = inner % 256;
         if limits::MOST_TOKENS <= last {
-            return REFUSED;
+            return NO_TREE;
         }
         out[last] = token::CLOSING;
         return inner + 1;
     }
     let Node::Operator(o) = node else {
-        return REFUSED;
+        return NO_TREE;
     };
     let top = node_in(n, held, size, at + 1);
     if let Node::Reading(a) = top {
         let past = at + 2;
         let next = to + 1;
         if limits::MOST_TOKENS <= next {
-            return REFUSED;
+            return NO_TREE;
         }
         set_two(out, to, next, a, o);
         return write_row(n, held, size, past, out, next + 1);
     }
     let left = write_row(n, held, size, at + 1, out, to);
-    if left == REFUSED {
-        return REFUSED;
+    if left == NO_TREE {
+        return NO_TREE;
     }
     let seam = left % 256;
     if limits::MOST_TOKENS <= seam {
-        return REFUSED;
+        return NO_TREE;
     }
     out[seam] = o;
     write_row(n, held, size, left / 256, out, seam + 1)
