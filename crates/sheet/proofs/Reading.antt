@@ -3,16 +3,16 @@ use mathlib.Core.Path.{_≡_, refl, sym, ap, _∙_}
 use mathlib.Core.Bool.{Bool, true, false, _||_, false≢true}
 use mathlib.Core.List.{List, [], _∷_}
 use Prim.Native.Nat.{ℕ, suc, _+_, _*_, _%_, _^_, _<_, _≤_}
-use native.Mathlib.Nat.{lt-of-lt-of-le}
+use native.Mathlib.Nat.{lt-of-lt-of-le, zero-mul}
 use native.Mathlib.Numerals.{add-one, add-two, add-three}
 use native.Mathlib.Omega.{arith}
 use borrow.Author.Tests.{lt-ltb, le-ltb, eq-eqb, ne-eqb}
 use borrow.Author.Needs.{needs}
-use lib.Bits.{bitOr}
+use lib.Bits.{bitOr, or-zero-r}
 use lib.Dec.{eqb}
 use lib.ListN.{length, getD, drop, set, length-drop}
-use lib.Seq.{drop-cons}
-use Rattle.expression.specs.Lists.{any}
+use lib.Seq.{drop-cons, set-getD}
+use Rattle.expression.specs.Lists.{any, one}
 use Rattle.disambiguation.specs.Rules.{Rule, rule, priority, left, right}
 use Rattle.disambiguation.specs.SheetChecks.{rulesOf, strangeRule}
 use Rattle.sheet.specs.Marking.{marked, marksR, marksL, marksAll, Takes, Reads}
@@ -48,15 +48,24 @@ by-side k side e = simp (ne-eqb k 1 e)
 pub ruleset excludes-ways = (by-priority, by-side, needs)
 
 -- ---- mark
-pub mark-on : (t : List ℕ) (a b : ℕ) (on : Bool) → b < 32 → on ≡ true → set t a (bitOr (getD t a 0) ((1 * 2 ^ b) % 2 ^ 32)) ≡ marked t a b on
-unfolding marked
-mark-on t a b on h e = simp (e, one-shifted b 32 h)
+pub bit-on : (on : Bool) → on ≡ true → 1 ≡ one on
+bit-on on e = rw e
 
-pub mark-off : (t : List ℕ) (a b : ℕ) (on : Bool) → on ≡ false → t ≡ marked t a b on
-unfolding marked
-mark-off t a b on e = simp e
+pub bit-off : (on : Bool) → on ≡ false → 0 ≡ one on
+bit-off on e = rw e
 
-pub ruleset mark-ways = (mark-on, mark-off, needs)
+pub ruleset bit-ways = (bit-on, bit-off, needs)
+
+-- a bit that is off changes nothing
+pub mark-either : {r : ℕ} (t : List ℕ) (a b : ℕ) (on : Bool) → r ≡ one on → b < 32 → set t a (bitOr (getD t a 0) ((r * 2 ^ b) % 2 ^ 32)) ≡ marked t a b on
+unfolding marked
+mark-either {r} t a b on q h = ap (λ k. set t a (bitOr (getD t a 0) ((k * 2 ^ b) % 2 ^ 32))) q ∙ go on
+  where
+    go : (on : Bool) → set t a (bitOr (getD t a 0) ((one on * 2 ^ b) % 2 ^ 32)) ≡ marked t a b on
+    go true = simp (one-shifted b 32 h)
+    go false = ap (λ k. set t a (bitOr (getD t a 0) (k % 2 ^ 32))) (zero-mul (2 ^ b)) ∙ ap (set t a) (or-zero-r (getD t a 0)) ∙ set-getD t a 0
+
+pub ruleset mark-ways = (mark-either, needs)
 
 -- ---- take_rule
 module _ {r : Bool} (n k a b : ℕ) (few : n ≤ 32) (s : r ≡ strangeRule n (rule k a b)) (not-strange : r ≡ false) where

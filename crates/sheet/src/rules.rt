@@ -3,6 +3,7 @@ ghost use mathlib.Core.Path.{_≡_};
 ghost use mathlib.Core.Bool.{_||_};
 ghost use Prim.Native.Nat.{_≤_, _<_};
 ghost use lib.Dec.{eqb};
+ghost use Rattle.expression.specs.Lists.{one};
 ghost use Rattle.disambiguation.specs.Rules.{rule, priority};
 ghost use Rattle.disambiguation.specs.SheetChecks.{strangeRule};
 ghost use Rattle.sheet.specs.Marking.{marked, Takes, Reads};
@@ -44,15 +45,23 @@ fn excludes(kind: u8, side: u8) -> bool
     kind == side
 }
 
-// Puts the pair in, if on.
+// 1 where on, else 0.
+fn bit(on: bool) -> u32
+    ensures { λ r. ⌜ r ≡ one on ⌝ }
+{
+    if on {
+        return 1;
+    }
+    0
+}
+
+// Puts the pair in, if on. No branch tells: rules come in any order of kinds.
 fn mark(table: &mut [u32; 32], a: u8, b: u8, on: bool)
     requires { ⌜ (a < 32) × (b < 32) ⌝ }
     ensures { λ _. ⌜ now (table .exit) ≡ marked (now (table .entry)) a b on ⌝ }
 {
-    if on {
-        let at = a as usize;
-        table[at] = table[at] | (1u32 << b);
-    }
+    let at = a as usize;
+    table[at] = table[at] | (bit(on) << b);
 }
 
 // Marks one rule, or says that it is strange and marks nothing.
