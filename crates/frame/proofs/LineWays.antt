@@ -1,28 +1,30 @@
 -- What each way through the functions that answer a line gives, from what is known on it. Assumes nothing.
-use mathlib.Core.Path.{_≡_, refl, sym, ap, ap₂, _∙_}
+use mathlib.Core.Path.{_≡_, refl, sym, ap, ap₂, subst, _∙_}
 use mathlib.Core.Bool.{Bool, true, false, not, cond, true≢false}
 use mathlib.Core.List.{List, [], _∷_, _++_, append-nil, append-assoc}
 use mathlib.Core.Option.{Option, none, some}
-use Prim.Native.Nat.{ℕ, _+_, _*_, _-_, _<_, _≤_}
+use Prim.Native.Nat.{ℕ, zero, suc, _+_, _*_, _-_, _<_, _≤_}
 use native.Mathlib.Omega.{arith}
 use lib.Dec.{eqb, ltb}
-use lib.ListN.{length, take, drop, length-append, length-drop, drop-of-length-le}
+use lib.ListN.{length, getD, take, drop, length-append, length-drop, drop-of-length-le}
 use lib.Seq.{length-take-le, take-all, take-append-seam, drop-append-seam, drop-drop}
 use borrow.Author.Needs.{needs}
 use borrow.Author.Tests.{lt-ltb, le-ltb}
 use Rattle.expression.specs.Refusal.{accepted}
 use Rattle.sheet.specs.declared.Sheet.{Sheet}
-use Rattle.monitor.specs.Call.{Call}
+use Rattle.sheet.specs.declared.Loaded.{Loaded}
+use Rattle.monitor.specs.Call.{Call, load}
 use Rattle.monitor.specs.Panel.{Panel, ifAccepted}
-use Rattle.monitor.specs.Contracts.{panel}
+use Rattle.monitor.specs.Contracts.{panel, LoadsPanel}
 use Rattle.hexadecimal.specs.Text.{bytesOf, textOf, withFront, bytesWithin, answerOf, outputOf, textWithin, Decodes, Encodes}
 use Rattle.hexadecimal.specs.declared.Decoded.{Decoded}
 use Rattle.hexadecimal.proofs.TextWays.{length-textOf}
 use Rattle.hexadecimal.proofs.Laws.{bytesWithin-room, textWithin-room}
 use Rattle.line_io.specs.Lines.{mostCharacters}
-use Rattle.frame.specs.Frames.{frameCall, frameReply, frameNumber, frameAnswer, frameAfter}
+use Rattle.frame.proofs.KindWays.{cond-same, parts}
+use Rattle.frame.specs.Frames.{named, isLoad, callOf, frameCall, frameReply, frameNumber, frameAnswer, frameAfter}
 use Rattle.frame.specs.Lines.{textCall, lineCall, lineBytes, lineReply, lineAfter}
-use Rattle.frame.specs.Contracts.{mostReply, Tells, Writes, Replies}
+use Rattle.frame.specs.Contracts.{mostReply, Tells, Writes, Replies, RepliesLoad}
 use Rattle.frame.specs.declared.Replied.{Replied}
 use Rattle.frame.specs.declared.kinds.Told.{Told}
 
@@ -144,21 +146,75 @@ module _ {p : Panel} {call : Option Call} {before after places : List ℕ} {t : 
   pub answer-fits : length before ≡ 256 → length after ≡ length before → length (take (t .length - 0) after) ≤ 256
   answer-fits l e = let h = answer-inside in omega (arith, length-take-le (t .length - 0) after (omega arith))
 
+-- a frame that is a load, by the bytes after its kind
+module _ (n : ℕ) (bytes : List ℕ) where
+  pub load-starts : {b : Bool} → b ≡ isLoad (take (n - 0) bytes) → b ≡ true → 1 ≤ n
+  unfolding isLoad
+  load-starts {b} e t = go n refl
+    where
+      go : (m : ℕ) → n ≡ m → 1 ≤ n
+      go zero z = absurd (true≢false (sym t ∙ e ∙ ap (λ k. isLoad (take (k - 0) bytes)) z))
+      go (suc m) z = omega arith
+
+  load-call : isLoad (take (n - 0) bytes) ≡ true → frameCall (take (n - 0) bytes) ≡ named load (take (n - 1) (drop 1 bytes))
+  unfolding isLoad callOf
+  load-call e = let whole : n - 0 ≡ n = omega arith in ap (λ k. frameCall (take k bytes)) whole ∙ go n bytes (ap (λ k. isLoad (take k bytes)) (sym whole) ∙ e)
+    where
+      go : (n : ℕ) (l : List ℕ) → isLoad (take n l) ≡ true → frameCall (take n l) ≡ named load (take (n - 1) (drop 1 l))
+      go zero l e = absurd (true≢false (sym e))
+      go (suc m) [] e = absurd (true≢false (sym e))
+      go (suc m) (x ∷ l) e = let less : m ≡ suc m - 1 = omega arith in rw e (ap (λ k. named load (take k l)) less)
+
+pub is-no-load : (frame : List ℕ) {b : Bool} → b ≡ false → b ≡ isLoad frame → isLoad frame ≡ false
+is-no-load frame f e = sym e ∙ f
+
+-- a load has no answer
+load-alone : (p : Panel) (rest : List ℕ) → ifAccepted (frameNumber p (named load rest)) (frameAnswer p (named load rest)) [] ≡ []
+load-alone p [] = refl
+load-alone p (x ∷ rest) = cond-same (eqb (frameNumber p (named load (x ∷ rest))) accepted)
+
 module _ (s : Sheet) (places line room out : List ℕ) {room′ : List ℕ} {d : Decoded}
     (reads : Decodes line room room′ d) (l : length line ≤ mostCharacters) (h : length line ≤ length room * 2) (long : 514 ≤ length out) {written : List ℕ} where
   pub line-refused : {r : Replied} → Writes 12 [] out written (r .length) → r .sheet ≡ s → not (d .ok) ≡ true → Replies (panel s places) line out written places r
   line-refused w e n = by-frame (panel s places) line out 12 [] none long l (ap textCall (unread line room reads h n)) refl w e refl
 
   pub line-run : {before after places′ : List ℕ} {t : Told} {n : ℕ} → Tells (panel s places) (frameCall (take (d .length - 0) room′)) before after places′ t
-      → Writes (t .number) (take (t .length - 0) after) out written n → not (d .ok) ≡ false → Replies (panel s places) line out written places′ (record { sheet = t .sheet; length = n })
+      → Writes (t .number) (take (t .length - 0) after) out written n → not (d .ok) ≡ false → Replies (panel s places) line out written places′ (record { sheet = s; length = n })
   line-run {after = after} {t = t} tells w n =
       by-frame (panel s places) line out (t .number) (take (t .length - 0) after) (frameCall (take (d .length - 0) room′)) long l (ap textCall (read line room reads h n))
       (ap₂ _∷_ (sym (tells .numbered)) (sym (answer-front tells)))
       w
-      (tells .in-force)
+      (sym (tells .same-sheet))
       (tells .stands)
 
-pub ruleset reply-by-ways = (line-refused, line-run, answer-inside, answer-fits, needs)
+  pub line-load : {places′ : List ℕ} {r : Replied} {b : Bool} → RepliesLoad (panel s places) (take (d .length - 1) (drop 1 room′)) out written places′ r → b ≡ isLoad (take (d .length - 0) room′)
+      → b ≡ true → not (d .ok) ≡ false → Replies (panel s places) line out written places′ r
+  line-load w e t n =
+      let call = named load (take (d .length - 1) (drop 1 room′)) in
+      by-frame (panel s places) line out (frameNumber (panel s places) call) [] call long l (ap textCall (read line room reads h n) ∙ load-call (d .length) room′ (sym e ∙ t))
+      (ap (λ t. frameNumber (panel s places) call ∷ t) (load-alone (panel s places) (take (d .length - 1) (drop 1 room′))))
+      (w .writes)
+      (w .in-force)
+      (w .stands)
+
+pub ruleset reply-by-ways = (line-refused, line-run, line-load, load-starts, is-no-load, answer-inside, answer-fits, needs)
+
+-- ---- reply_load
+module _ (s : Sheet) (places rest out : List ℕ) {after : List ℕ} {r : Replied} where
+  pub load-none : Writes 12 [] out after (r .length) → r .sheet ≡ s → length rest ≡ 0 → RepliesLoad (panel s places) rest out after places r
+  load-none w e z = go rest z
+    where
+      go : (l : List ℕ) → length l ≡ 0 → RepliesLoad (panel s places) l out after places r
+      go [] z = record { writes = w; in-force = e; stands = refl }
+      go (x ∷ xs) z = absurd (omega arith)
+
+  pub load-run : {places′ : List ℕ} {l : Loaded} → LoadsPanel (panel s places) (getD rest 0 0) (take (length rest - 1) (drop 1 rest)) l places′ → Writes (l .number) [] out after (r .length)
+      → r .sheet ≡ l .sheet → (length rest ≡ 0 → ⊥) → RepliesLoad (panel s places) rest out after places′ r
+  load-run {places′} {l} w v e h =
+      subst (λ t. RepliesLoad (panel s places) t out after places′ r) (sym (parts rest h))
+      (record { writes = subst (λ n. Writes n [] out after (r .length)) (w .numbered) v; in-force = e ∙ w .in-force; stands = w .stands })
+
+pub ruleset reply-load-ways = (load-none, load-run, needs)
 
 -- ---- reply
 module _ (s : Sheet) (places line out : List ℕ) where

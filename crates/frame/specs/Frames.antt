@@ -1,6 +1,6 @@
 -- Frames: the call that the bytes of a line stand for, and what is replied to it. Assumes nothing.
 use Prim.Native.Nat.{ℕ}
-use mathlib.Core.Bool.{cond}
+use mathlib.Core.Bool.{Bool, false, cond}
 use mathlib.Core.List.{List, [], _∷_}
 use mathlib.Core.Option.{Option, none, some}
 use lib.Dec.{eqb}
@@ -41,6 +41,11 @@ callOf kind rest =
     (cond (eqb kind 7) (some (judge rest))
     (cond (eqb kind 8) (some (repair rest room))
     (cond (eqb kind 9) (alone (λ k. image k room) rest) none))))))))
+
+-- a frame of kind 1
+unfoldable pub isLoad : List ℕ → Bool
+isLoad [] = false
+isLoad (kind ∷ rest) = eqb kind 1
 
 -- the call of a frame
 abbrev pub frameCall : List ℕ → Option Call

@@ -5,7 +5,7 @@ ghost use mathlib.Core.List.{[]};
 ghost use lib.ListN.{length};
 ghost use Rattle.monitor.specs.Contracts.{panel};
 ghost use Rattle.line_io.specs.Lines.{mostCharacters};
-ghost use Rattle.frame.specs.Contracts.{mostReply, Writes, Replies};
+ghost use Rattle.frame.specs.Contracts.{mostReply, Writes, Replies, RepliesLoad};
 use line_io::MOST_CHARACTERS;
 use sheet::Sheet;
 use sheet::refusal;
@@ -37,7 +37,7 @@ fn write_reply(number: u8, answer: &[u8], out: &mut [u8]) -> usize
 }
 
 // A number alone.
-fn refuse(sheet: Sheet, number: u8, out: &mut [u8]) -> Replied
+fn reply_number(sheet: Sheet, number: u8, out: &mut [u8]) -> Replied
     requires { ⌜ mostReply ≤ length (now out) ⌝ }
     ensures { λ r. ⌜ Writes number [] (now (out .entry)) (now (out .exit)) (r .length) × (r .sheet ≡ sheet) ⌝ }
 {
@@ -47,6 +47,21 @@ fn refuse(sheet: Sheet, number: u8, out: &mut [u8]) -> Replied
         sheet: sheet,
         length: length,
     }
+}
+
+// A load, by the bytes after its kind.
+fn reply_load(sheet: Sheet, places: &mut [u8; 4096], rest: &[u8], out: &mut [u8]) -> Replied
+    requires { ⌜ mostReply ≤ length (now out) ⌝ }
+    ensures { λ r. ⌜ RepliesLoad (panel sheet (now (places .entry))) (now (rest .entry)) (now (out .entry)) (now (out .exit)) (now (places .exit)) r ⌝ }
+{
+    let length = rest.len();
+    if length == 0 {
+        return reply_number(sheet, refusal::FRAME, out);
+    }
+    let loaded = monitor::load(sheet, places, rest[0], &rest[1..length]);
+    let after = loaded.sheet;
+    let number = loaded.number;
+    reply_number(after, number, out)
 }
 
 // The reply to a line whose bytes the lent buffer has room for.
@@ -64,14 +79,16 @@ fn reply_by(
     let decoded = hexadecimal::decode(line, frame);
     let to = decoded.length;
     if !decoded.ok {
-        return refuse(sheet, refusal::FRAME, out);
+        return reply_number(sheet, refusal::FRAME, out);
+    }
+    if kinds::is_load(&frame[0..to]) {
+        return reply_load(sheet, places, &frame[1..to], out);
     }
     let told = kinds::run_frame(sheet, places, &frame[0..to], answer);
     let until = told.length;
     let length = write_reply(told.number, &answer[0..until], out);
-    let after = told.sheet;
     Replied {
-        sheet: after,
+        sheet: sheet,
         length: length,
     }
 }
@@ -107,7 +124,7 @@ pub fn reply(sheet: Sheet, places: &mut [u8; 4096], line: &[u8], out: &mut [u8])
         };
     }
     if MOST_CHARACTERS < line.len() {
-        return refuse(sheet, refusal::OVERSIZE, out);
+        return reply_number(sheet, refusal::OVERSIZE, out);
     }
     if line.len() <= SHORT_LINE {
         return reply_short(sheet, places, line, out);
