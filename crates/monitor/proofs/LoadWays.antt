@@ -1,6 +1,6 @@
 -- What each way through a load gives, from what is known on it. Assumes nothing.
 use mathlib.Core.Path.{_≡_, refl, sym, ap, _∙_}
-use mathlib.Core.Bool.{Bool, true, false, not, _&&_, _||_, cond}
+use mathlib.Core.Bool.{Bool, true, false, not, _&&_, _||_, cond, or-assoc, or-false}
 use mathlib.Core.List.{List, [], _∷_}
 use Prim.Native.Nat.{ℕ, _+_, _-_, _<_, _≤_}
 use native.Mathlib.Omega.{arith}
@@ -30,45 +30,43 @@ abbrev beyond : ℕ → ℕ → Bool
 beyond n c = ltb c mostOperators && not (ltb c n)
 
 -- ---- is_beyond
-module _ (n c : ℕ) where
-  pub beyond-operator : c < 32 → leb n c ≡ (ltb c mostOperators && not (ltb c n))
-  beyond-operator h = go (decLt c n)
-    where
-      go : Dec (c < n) → leb n c ≡ (ltb c mostOperators && not (ltb c n))
-      go (yes g) = simp (lt-leb n c g, lt-ltb c mostOperators h, lt-ltb c n g)
-      go (no g) = let i : n ≤ c = omega arith in simp (le-leb n c i, lt-ltb c mostOperators h, le-ltb c n i)
+pub beyond-test : (n c : ℕ) → (leb n c && ltb c 32) ≡ (ltb c mostOperators && not (ltb c n))
+beyond-test n c = go (decLt c n) (decLt c mostOperators)
+  where
+    go : Dec (c < n) → Dec (c < mostOperators) → (leb n c && ltb c 32) ≡ (ltb c mostOperators && not (ltb c n))
+    go (yes g) (yes h) = simp (lt-leb n c g, lt-ltb c mostOperators h, lt-ltb c n g)
+    go (no g) (yes h) = let i : n ≤ c = omega arith in simp (le-leb n c i, lt-ltb c mostOperators h, le-ltb c n i)
+    go (yes g) (no h) = let i : mostOperators ≤ c = omega arith in simp (lt-leb n c g, le-ltb c mostOperators i)
+    go (no g) (no h) = let i : mostOperators ≤ c = omega arith in let k : n ≤ c = omega arith in simp (le-leb n c k, le-ltb c mostOperators i)
 
-  pub beyond-none : 32 ≤ c → false ≡ (ltb c mostOperators && not (ltb c n))
-  beyond-none h = rw (le-ltb c mostOperators h)
-
-pub ruleset is-beyond-ways = (beyond-operator, beyond-none, needs)
+pub ruleset is-beyond-ways = (beyond-test, needs)
 
 -- ---- uses_beyond
 module _ (n : ℕ) (bytes : List ℕ) where
-  -- nothing before the place is an operator beyond n
-  pub record Looked (i : ℕ) : Type 0 where
+  -- what is found before the place, and what stands from there on, make up the answer
+  pub record Looked (found : Bool) (i : ℕ) : Type 0 where
     pub inside : i ≤ length bytes
-    pub same : usesBeyond n bytes ≡ usesBeyond n (drop i bytes)
+    pub same : (found || usesBeyond n (drop i bytes)) ≡ usesBeyond n bytes
 
   here : (i : ℕ) → i < length bytes → usesBeyond n (drop i bytes) ≡ (beyond n (getD bytes i 0) || usesBeyond n (drop (i + 1) bytes))
   unfolding usesBeyond
   here i h = rw (drop-cons bytes i 0 h, add-one)
 
-  pub looked-none : Looked 0
+  pub looked-none : Looked false 0
   looked-none = record { inside = omega arith; same = refl }
 
-  module _ {i : ℕ} {b : Bool} (l : Looked i) (h : i < length bytes) (e : b ≡ (ltb (getD bytes i 0) mostOperators && not (ltb (getD bytes i 0) n))) where
-    pub looked-found : b ≡ true → true ≡ usesBeyond n bytes
-    looked-found f = sym (l .same ∙ here i h ∙ ap (λ x. x || usesBeyond n (drop (i + 1) bytes)) (sym e ∙ f))
+  pub looked-more : {i : ℕ} {b q : Bool} → Looked b i → i < length bytes → q ≡ (ltb (getD bytes i 0) mostOperators && not (ltb (getD bytes i 0) n)) → Looked (b || q) (i + 1)
+  looked-more {i} {b} {q} l h e =
+      record {
+        inside = omega arith;
+        same = or-assoc b q (usesBeyond n (drop (i + 1) bytes)) ∙ ap (λ x. b || (x || usesBeyond n (drop (i + 1) bytes))) e ∙ ap (λ x. b || x) (sym (here i h)) ∙ l .same;
+      }
 
-    pub looked-more : b ≡ false → Looked (i + 1)
-    looked-more f = record { inside = omega arith; same = l .same ∙ here i h ∙ ap (λ x. x || usesBeyond n (drop (i + 1) bytes)) (sym e ∙ f) }
-
-  pub looked-all : {i : ℕ} → Looked i → length bytes ≤ i → false ≡ usesBeyond n bytes
+  pub looked-all : {i : ℕ} {b : Bool} → Looked b i → length bytes ≤ i → b ≡ usesBeyond n bytes
   unfolding usesBeyond
-  looked-all {i} l h = sym (l .same ∙ ap (any (beyond n)) (drop-of-length-le bytes h))
+  looked-all {i} {b} l h = sym (or-false b) ∙ ap (λ x. b || any (beyond n) x) (sym (drop-of-length-le bytes h)) ∙ l .same
 
-pub ruleset uses-beyond-ways = (looked-none, looked-found, looked-more, looked-all, needs)
+pub ruleset uses-beyond-ways = (looked-none, looked-more, looked-all, needs)
 
 -- ---- place_uses
 pub held-uses : (n : ℕ) (places : List ℕ) (k : ℕ) {bytes : List ℕ} {b : Bool} → bytes ≡ held places k → b ≡ usesBeyond n bytes → b ≡ usesBeyond n (held places k)

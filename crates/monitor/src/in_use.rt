@@ -11,24 +11,20 @@ use places::limits;
 fn is_beyond(n: u8, byte: u8) -> bool
     ensures { λ r. ⌜ r ≡ (ltb byte mostOperators && not (ltb byte n)) ⌝ }
 {
-    if byte < sheet::limits::MOST_OPERATORS {
-        return n <= byte;
-    }
-    false
+    (n <= byte) & (byte < sheet::limits::MOST_OPERATORS)
 }
 
-// Some byte is.
+// Some byte is. The loop has no branch, so that bytes are tested side by side.
 fn uses_beyond(n: u8, bytes: &[u8]) -> bool
     ensures { λ r. ⌜ r ≡ usesBeyond n (now (bytes .entry)) ⌝ }
 {
+    let mut found = false;
     let mut i: usize = 0;
     while i < bytes.len() {
-        if is_beyond(n, bytes[i]) {
-            return true;
-        }
+        found = found | is_beyond(n, bytes[i]);
         i += 1;
     }
-    false
+    found
 }
 
 // The place holds such a byte.

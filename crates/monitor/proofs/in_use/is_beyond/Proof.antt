@@ -4,8 +4,4 @@ use Rattle.monitor.proofs.in_use.is_beyond.Statement.{statement}
 use Rattle.monitor.proofs.in_use.is_beyond.Tie as tie
 
 pub is-beyond-spec : {M : Type 1} → statement M
-is-beyond-spec =
-    tie.close
-    (tie.spec
-    (λ c. search is-beyond-ways)
-    (λ c. search is-beyond-ways))
+is-beyond-spec = tie.close (tie.spec (λ c. search is-beyond-ways))

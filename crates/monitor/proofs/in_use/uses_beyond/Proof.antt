@@ -1,4 +1,4 @@
--- `monitor::in_use::uses_beyond` meets its contract; in its loop, no byte before the place is such an operator. Assumes nothing.
+-- `monitor::in_use::uses_beyond` meets its contract; in its loop, what is found so far and what stands from the place on make up the answer. Assumes nothing.
 use Prim.Native.Nat.{_-_}
 use lib.ListN.{length}
 use Rattle.monitor.proofs.LoadWays.{Looked}
@@ -7,10 +7,10 @@ use Rattle.monitor.proofs.in_use.uses_beyond.Statement.{statement}
 use Rattle.monitor.proofs.in_use.uses_beyond.Tie as tie
 
 abbrev Inv-loop : tie.InvT-loop
-Inv-loop n bytes i₀ i = Looked n bytes i
+Inv-loop n bytes found₀ i₀ found i = Looked n bytes found i
 
 abbrev μ-loop : tie.MeasureT-loop
-μ-loop n bytes i₀ i = length bytes - i
+μ-loop n bytes found₀ i₀ found i = length bytes - i
 
 pub uses-beyond-spec : {M : Type 1} → statement M
 uses-beyond-spec =
@@ -21,7 +21,6 @@ uses-beyond-spec =
     (λ c. search uses-beyond-ways)
     (λ c. search uses-beyond-ways)
     (λ c κs. search uses-beyond-ways)
-    (λ c. search uses-beyond-ways)
     (λ c. search uses-beyond-ways)
     (λ c. search uses-beyond-ways)
     (λ c. search uses-beyond-ways)
