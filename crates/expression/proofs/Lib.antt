@@ -7,3 +7,4 @@ pub mod Lengths
 pub mod Strangers
 pub mod Numbers
 pub mod Examples
+pub mod Looking

@@ -1,18 +1,16 @@
 -- What each way through a load gives, from what is known on it. Assumes nothing.
 use mathlib.Core.Path.{_≡_, refl, sym, ap, _∙_}
-use mathlib.Core.Bool.{Bool, true, false, not, _&&_, _||_, cond, or-assoc, or-false}
+use mathlib.Core.Bool.{Bool, true, false, not, _&&_, cond}
 use mathlib.Core.List.{List, [], _∷_}
 use Prim.Native.Nat.{ℕ, _+_, _-_, _<_, _≤_}
 use native.Mathlib.Omega.{arith}
 use native.Mathlib.Decide.{decLt}
-use native.Mathlib.Numerals.{add-one}
 use lib.Dec.{ltb, leb}
-use lib.ListN.{length, getD, drop, drop-of-length-le}
-use lib.Seq.{drop-cons}
+use lib.ListN.{length}
 use borrow.Author.Tests.{lt-ltb, le-ltb, le-leb, lt-leb, ne-eqb}
 use borrow.Author.Needs.{needs}
-use Rattle.expression.specs.Lists.{any}
 use Rattle.expression.specs.Limits.{mostOperators}
+use Rattle.expression.proofs.Looking.{Looked, looked-none, looked-more, looked-all}
 use Rattle.expression.proofs.Numbers.{Numbered, passed-first, first-append, first-refused}
 use Rattle.disambiguation.specs.Below.{allBelow}
 use Rattle.disambiguation.specs.SheetChecks.{sheetNumber}
@@ -26,7 +24,7 @@ use Rattle.monitor.specs.Panel.{usesBeyond, inUseCheck, sheetChecks, reb
 use Rattle.monitor.specs.Steps.{loadNumber, sheetAfter, placesAfterLoad}
 use Rattle.monitor.specs.Contracts.{panel, LoadsPanel}
 
-abbrev beyond : ℕ → ℕ → Bool
+abbrev pub beyond : ℕ → ℕ → Bool
 beyond n c = ltb c mostOperators && not (ltb c n)
 
 -- ---- is_beyond
@@ -42,31 +40,11 @@ beyond-test n c = go (decLt c n) (decLt c mostOperators)
 pub ruleset is-beyond-ways = (beyond-test, needs)
 
 -- ---- uses_beyond
-module _ (n : ℕ) (bytes : List ℕ) where
-  -- what is found before the place, and what stands from there on, make up the answer
-  pub record Looked (found : Bool) (i : ℕ) : Type 0 where
-    pub inside : i ≤ length bytes
-    pub same : (found || usesBeyond n (drop i bytes)) ≡ usesBeyond n bytes
+pub looked-beyond : (n : ℕ) (bytes : List ℕ) {i : ℕ} {b : Bool} → Looked (beyond n) bytes b i → length bytes ≤ i → b ≡ usesBeyond n bytes
+unfolding usesBeyond
+looked-beyond n bytes l h = looked-all (beyond n) bytes l h
 
-  here : (i : ℕ) → i < length bytes → usesBeyond n (drop i bytes) ≡ (beyond n (getD bytes i 0) || usesBeyond n (drop (i + 1) bytes))
-  unfolding usesBeyond
-  here i h = rw (drop-cons bytes i 0 h, add-one)
-
-  pub looked-none : Looked false 0
-  looked-none = record { inside = omega arith; same = refl }
-
-  pub looked-more : {i : ℕ} {b q : Bool} → Looked b i → i < length bytes → q ≡ (ltb (getD bytes i 0) mostOperators && not (ltb (getD bytes i 0) n)) → Looked (b || q) (i + 1)
-  looked-more {i} {b} {q} l h e =
-      record {
-        inside = omega arith;
-        same = or-assoc b q (usesBeyond n (drop (i + 1) bytes)) ∙ ap (λ x. b || (x || usesBeyond n (drop (i + 1) bytes))) e ∙ ap (λ x. b || x) (sym (here i h)) ∙ l .same;
-      }
-
-  pub looked-all : {i : ℕ} {b : Bool} → Looked b i → length bytes ≤ i → b ≡ usesBeyond n bytes
-  unfolding usesBeyond
-  looked-all {i} {b} l h = sym (or-false b) ∙ ap (λ x. b || any (beyond n) x) (sym (drop-of-length-le bytes h)) ∙ l .same
-
-pub ruleset uses-beyond-ways = (looked-none, looked-more, looked-all, needs)
+pub ruleset uses-beyond-ways = (looked-none, looked-more, looked-beyond, needs)
 
 -- ---- place_uses
 pub held-uses : (n : ℕ) (places : List ℕ) (k : ℕ) {bytes : List ℕ} {b : Bool} → bytes ≡ held places k → b ≡ usesBeyond n bytes → b ≡ usesBeyond n (held places k)

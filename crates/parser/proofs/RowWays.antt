@@ -1,23 +1,21 @@
 -- What each way through the checks of a row gives, from what is known on it. Assumes nothing.
-use mathlib.Core.Path.{_≡_, refl, sym, ap, _∙_}
-use mathlib.Core.Bool.{Bool, true, false, not, _&&_, _||_, cond, or-assoc, or-false, and-false}
+use mathlib.Core.Path.{_≡_, sym, ap, _∙_}
+use mathlib.Core.Bool.{Bool, true, false, not, _&&_, _||_, cond, and-false}
 use mathlib.Core.List.{List}
-use Prim.Native.Nat.{ℕ, _+_, _-_, _<_, _≤_}
+use Prim.Native.Nat.{ℕ, _-_, _<_, _≤_}
 use native.Mathlib.Omega.{arith}
-use native.Mathlib.Numerals.{add-one}
 use mir.Val.{Fits}
 use mir.Syntax.{w8}
 use lib.Dec.{ltb, leb}
-use lib.ListN.{length, getD, drop, drop-of-length-le}
-use lib.Seq.{drop-cons}
+use lib.ListN.{length, drop-of-length-le}
 use borrow.Author.Tests.{lt-ltb, le-ltb, le-leb, lt-leb, ne-eqb}
 use borrow.Author.Needs.{needs}
 use native.Mathlib.Decide.{decLt, ℕ-discrete}
-use Rattle.expression.specs.Lists.{any}
 use Rattle.expression.specs.Limits.{mostOperators, mostTokens}
 use Rattle.expression.specs.Token.{opening, closing, firstReading, lastReading, class}
 use Rattle.expression.specs.RowTest.{done, complete, scan, isRow}
 use Rattle.expression.specs.Checks.{strangeInRow, rowNumber}
+use Rattle.expression.proofs.Looking.{Looked, looked-none, looked-more, looked-all}
 use Rattle.parser.specs.Rows.{tokenAt, ReadsExpression, hasStranger}
 use Rattle.parser.proofs.ReaderWays.{there, row-ends}
 
@@ -41,33 +39,14 @@ module _ (n c : ℕ) where
 pub ruleset strange-ways = (strange-test, needs)
 
 -- ---- has_stranger
-module _ (n : ℕ) (row : List ℕ) where
-  -- what is found before the place, and what stands from there on, make up the answer
-  pub record Looked (strange : Bool) (at : ℕ) : Type 0 where
-    pub inside : at ≤ length row
-    pub same : (strange || hasStranger n (drop at row)) ≡ hasStranger n row
+abbrev pub strange : ℕ → ℕ → Bool
+strange n c = strangeInRow (class n c)
 
-  here : (at : ℕ) → at < length row → hasStranger n (drop at row) ≡ (strangeInRow (class n (getD row at 0)) || hasStranger n (drop (at + 1) row))
-  unfolding hasStranger
-  here at h = rw (drop-cons row at 0 h, add-one)
+pub looked-strange : (n : ℕ) (row : List ℕ) {at : ℕ} {b : Bool} → Looked (strange n) row b at → length row ≤ at → b ≡ hasStranger n row
+unfolding hasStranger
+looked-strange n row l h = looked-all (strange n) row l h
 
-  pub looked-none : Looked false 0
-  looked-none = record { inside = omega arith; same = refl }
-
-  pub looked-more : {at : ℕ} {b q : Bool} → Looked b at → at < length row → q ≡ strangeInRow (class n (getD row at 0)) → Looked (b || q) (at + 1)
-  looked-more {at} {b} {q} l h e =
-      record {
-        inside = omega arith;
-        same = or-assoc b q (hasStranger n (drop (at + 1) row)) ∙ ap (λ x. b || (x || hasStranger n (drop (at + 1) row))) e
-            ∙ ap (λ x. b || x) (sym (here at h)) ∙ l .same;
-      }
-
-  pub looked-all : {at : ℕ} {b : Bool} → Looked b at → length row ≤ at → b ≡ hasStranger n row
-  unfolding hasStranger
-  looked-all {at} {b} l h =
-      sym (or-false b) ∙ ap (λ x. b || any (λ c. strangeInRow (class n c)) x) (sym (drop-of-length-le row h)) ∙ l .same
-
-pub ruleset stranger-ways = (looked-none, looked-more, looked-all, needs)
+pub ruleset stranger-ways = (looked-none, looked-more, looked-strange, needs)
 
 -- ---- row_number
 module _ (n : ℕ) (row : List ℕ) where

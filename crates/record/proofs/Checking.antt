@@ -16,6 +16,7 @@ use Rattle.expression.specs.Lists.{any, one, count}
 use Rattle.expression.specs.Limits.{mostOperators, mostRecordBytes}
 use Rattle.expression.specs.Token.{Class, opening, closing, firstReading, class}
 use Rattle.expression.specs.Checks.{strangeInRecord}
+use Rattle.expression.proofs.Looking.{looked-none, looked-more, looked-all}
 use Rattle.expression.proofs.Cond.{by-cond}
 use Rattle.expression.proofs.Classes.{by-class, class-reading}
 use Rattle.record.specs.Checks.{behind, lists, rowLength}
@@ -40,25 +41,10 @@ module _ (n byte : ℕ) where
 
 pub ruleset is-strange-ways = (low, middle, high, needs)
 
--- the bytes before the place are tested
-or-assoc : (a b c : Bool) → (a || b || c) ≡ (a || (b || c))
-or-assoc true b c = refl
-or-assoc false b c = refl
+abbrev pub strange : ℕ → ℕ → Bool
+strange n c = strangeInRecord (class n c)
 
-or-false : (a : Bool) → (a || false) ≡ a
-or-false true = refl
-or-false false = refl
-
-module _ (p : ℕ → Bool) (bytes : List ℕ) (at : ℕ) (so-far : Bool) (same : (so-far || any p (drop at bytes)) ≡ any p bytes) where
-  pub one-more : at < length bytes → {q r : Bool} → q ≡ p (getD bytes at 0) → r ≡ (so-far || q) → (r || any p (drop (at + 1) bytes)) ≡ any p bytes
-  one-more h {q} {r} a e =
-      ap (λ x. x || any p (drop (at + 1) bytes)) e ∙ or-assoc so-far q (any p (drop (at + 1) bytes))
-      ∙ ap (λ x. so-far || (x || any p (drop (at + 1) bytes))) a
-      ∙ ap (λ i. so-far || (p (getD bytes at 0) || any p (drop i bytes))) (add-one at)
-      ∙ ap (λ l. so-far || any p l) (sym (drop-cons bytes at 0 h)) ∙ same
-
-  pub all-tested : length bytes ≤ at → so-far ≡ any p bytes
-  all-tested h = sym (or-false so-far) ∙ ap (λ l. so-far || any p l) (sym (drop-of-length-le bytes h)) ∙ same
+pub ruleset stranger-ways = (looked-none, looked-more, looked-all, needs)
 
 or-left : (a b : Bool) → (a || b) ≡ false → a ≡ false
 or-left true b e = e

@@ -1,6 +1,6 @@
 // The checks of a record: strangers, exactly one tree, the length of its row.
 ghost use mathlib.Core.Path.{_≡_};
-ghost use mathlib.Core.Bool.{false, _||_};
+ghost use mathlib.Core.Bool.{false};
 ghost use Prim.Native.Nat.{_≤_};
 ghost use lib.Dec.{eqb, leb, ltb};
 ghost use lib.ListN.{length};
@@ -24,16 +24,6 @@ fn is_strange(n: u8, byte: u8) -> bool
     false
 }
 
-// One or the other, with no branch in the loop that asks.
-fn either(a: bool, b: bool) -> bool
-    ensures { λ r. ⌜ r ≡ (a || b) ⌝ }
-{
-    if a {
-        return true;
-    }
-    b
-}
-
 // Some byte is a stranger. The loop has no branch, so that bytes can be tested side by side.
 pub fn has_stranger(n: u8, bytes: &[u8]) -> bool
     ensures { λ r. ⌜ r ≡ any (λ c. strangeInRecord (class n c)) (now (bytes .entry)) ⌝ }
@@ -41,7 +31,7 @@ pub fn has_stranger(n: u8, bytes: &[u8]) -> bool
     let mut strange = false;
     let mut at = 0;
     while at < bytes.len() {
-        strange = either(strange, is_strange(n, bytes[at]));
+        strange = strange | is_strange(n, bytes[at]);
         at += 1;
     }
     strange

@@ -1,13 +1,13 @@
 -- `monitor::in_use::uses_beyond` meets its contract; in its loop, what is found so far and what stands from the place on make up the answer. Assumes nothing.
 use Prim.Native.Nat.{_-_}
 use lib.ListN.{length}
-use Rattle.monitor.proofs.LoadWays.{Looked}
-use Rattle.monitor.proofs.LoadWays.{uses-beyond-ways}
+use Rattle.expression.proofs.Looking.{Looked}
+use Rattle.monitor.proofs.LoadWays.{beyond, uses-beyond-ways}
 use Rattle.monitor.proofs.in_use.uses_beyond.Statement.{statement}
 use Rattle.monitor.proofs.in_use.uses_beyond.Tie as tie
 
 abbrev Inv-loop : tie.InvT-loop
-Inv-loop n bytes found₀ i₀ found i = Looked n bytes found i
+Inv-loop n bytes found₀ i₀ found i = Looked (beyond n) bytes found i
 
 abbrev μ-loop : tie.MeasureT-loop
 μ-loop n bytes found₀ i₀ found i = length bytes - i
