@@ -16,7 +16,7 @@ use Rattle.line_io.specs.Lines.{lineFeed}
 use Rattle.frame.specs.Lines.{lineReply, lineAfter}
 use Rattle.frame.specs.Contracts.{mostReply, isShort, Replies}
 use Rattle.frame.specs.declared.Replied.{Replied}
-use Rattle.panel.specs.Contracts.{block, mostAnswer, Puts}
+use Rattle.panel.specs.Contracts.{block, mostReplyLine, Puts}
 
 -- an output with room for the longest reply
 has-room : (out : List ℕ) → length out ≡ mostReply → isShort out ≡ false
@@ -32,7 +32,7 @@ line-put a t rest i e h =
     rw (add-one i, take-suc-set s i lineFeed (omega arith), front) (append-assoc a t (lineFeed ∷ []))
 
 module _ {p : Panel} {line part places : List ℕ} {r : Replied} {before : List ℕ} {at : ℕ} where
-  pub line-answered : Replies p line (midOf at (at + 514 - at) before) part places r → length before ≡ block → at + mostAnswer ≤ block → Puts p line before (set (putMid at (at + 514 - at) before part) (at + r .length) 10) at (at + r .length + 1) (r .sheet) places
+  pub line-answered : Replies p line (midOf at (at + 514 - at) before) part places r → length before ≡ block → at + mostReplyLine ≤ block → Puts p line before (set (putMid at (at + 514 - at) before part) (at + r .length) 10) at (at + r .length + 1) (r .sheet) places
   line-answered w l h =
       let mid = midOf at (at + 514 - at) before in
       let post = postOf at (at + 514 - at) before in

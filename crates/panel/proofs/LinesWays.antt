@@ -13,7 +13,7 @@ use Rattle.line_io.specs.Lines.{lineFeed, Ends}
 use Rattle.line_io.proofs.Laws.{line-end-here, none-before-line-end}
 use Rattle.frame.specs.Lines.{lineReply, lineAfter}
 use Rattle.panel.specs.Lines.{withEnds, Plain, AllPlain, panelAfter, replies}
-use Rattle.panel.specs.Contracts.{block, mostAnswer, Puts, Reads, Answers}
+use Rattle.panel.specs.Contracts.{block, mostReplyLine, Puts, Reads, Answers}
 
 -- the bytes from one place up to another
 abbrev pub between : ℕ → ℕ → List ℕ → List ℕ
@@ -60,7 +60,7 @@ pub record Answering (p : Panel) (s : List ℕ) (from : ℕ) (out : List ℕ) (r
   pub reads : Reads p s from rest lines sheet places
   pub written : take filled out ≡ withEnds (replies p lines)
   pub room : filled ≤ block
-  pub shares : filled + mostAnswer * from ≤ mostAnswer * rest
+  pub shares : filled + mostReplyLine * from ≤ mostReplyLine * rest
   pub ends : Ends s rest end
   pub long : length out ≡ block
 
@@ -97,7 +97,7 @@ module _ {p : Panel} {s : List ℕ} {from : ℕ} {out : List ℕ} {rest filled e
   pub answering-full : 65021 < filled → Answers p s from out rest filled sheet places
   answering-full h = record { lines = t .lines; reads = t .reads; written = t .written; room = t .room; shares = t .shares; all = λ e. absurd (omega arith) }
 
-  pub room-left : filled ≤ 65021 → filled + mostAnswer ≤ block
+  pub room-left : filled ≤ 65021 → filled + mostReplyLine ≤ block
   room-left h = omega arith
 
   pub line-begins : end < length s → rest ≤ end

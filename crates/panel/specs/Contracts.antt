@@ -20,14 +20,14 @@ abbrev pub mostKept : ℕ
 mostKept = 12293
 
 -- the reply to a line and its line end are no longer
-abbrev pub mostAnswer : ℕ
-mostAnswer = 515
+abbrev pub mostReplyLine : ℕ
+mostReplyLine = 515
 
 -- A line was answered: the output was `before` and became `after`, of which `filled` bytes are filled, `at` of them from earlier.
 pub record Puts (p : Panel) (line before after : List ℕ) (at filled : ℕ) (sheet : Sheet) (places : List ℕ) : Type 0 where
   pub written : take filled after ≡ take at before ++ (lineReply p line ++ lineFeed ∷ [])
   pub stands : panel sheet places ≡ lineAfter p line
-  pub inside : filled ≤ at + mostAnswer
+  pub inside : filled ≤ at + mostReplyLine
   pub more : at < filled
 
 -- The lines from one place of a buffer up to another are read, and the panel is the one after them.
@@ -45,8 +45,8 @@ pub record Answers (p : Panel) (s : List ℕ) (from : ℕ) (out : List ℕ) (res
   pub written : take filled out ≡ withEnds (replies p lines)
   pub room : filled ≤ block
   -- each line takes at least a byte of the buffer and at most 515 of the output
-  pub shares : filled + mostAnswer * from ≤ mostAnswer * rest
-  pub all : filled + mostAnswer ≤ block → length s ≤ lineEnd s rest
+  pub shares : filled + mostReplyLine * from ≤ mostReplyLine * rest
+  pub all : filled + mostReplyLine ≤ block → length s ≤ lineEnd s rest
 
 -- A block was answered: all its complete lines, but where a write failed.
 pub record Covers (p : Panel) (s : List ℕ) (rest : ℕ) (sheet : Sheet) (places : List ℕ) (ok : Bool) : Type 0 where

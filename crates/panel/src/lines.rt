@@ -3,7 +3,7 @@ ghost use mathlib.Core.Path.{_≡_};
 ghost use Prim.Native.Nat.{_+_, _≤_};
 ghost use lib.ListN.{length};
 ghost use Rattle.monitor.specs.Contracts.{panel};
-ghost use Rattle.panel.specs.Contracts.{block, mostAnswer, Puts, Answers};
+ghost use Rattle.panel.specs.Contracts.{block, mostReplyLine, Puts, Answers};
 use frame::MOST_REPLY;
 use frame::Replied;
 use line_io::LINE_FEED;
@@ -30,7 +30,7 @@ pub fn answer(
     out: &mut [u8],
     at: usize,
 ) -> Replied
-    requires { ⌜ (at + mostAnswer ≤ block) × (length (now out) ≡ block) ⌝ }
+    requires { ⌜ (at + mostReplyLine ≤ block) × (length (now out) ≡ block) ⌝ }
     ensures { λ r. ⌜ Puts (panel sheet (now (places .entry))) (now (line .entry)) (now (out .entry)) (now (out .exit)) at (at + r .length + 1) (r .sheet) (now (places .exit)) ⌝ }
 {
     let to = at + MOST_REPLY;

@@ -2,7 +2,7 @@
 use Prim.Native.Nat.{ℕ, _-_}
 use native.Mathlib.Omega.{arith}
 use mathlib.Core.Path.{_≡_, refl, ap, sym, _∙_}
-use mathlib.Core.Bool.{Bool, true, false}
+use mathlib.Core.Bool.{Bool, true, false, true≢false}
 use mathlib.Core.List.{List, [], _∷_}
 use mathlib.Core.Logic.{⊎-elim}
 use lib.ListN.{length, take, drop}
@@ -37,6 +37,8 @@ module _ (n : ℕ) (right : Bool) (bytes : List ℕ) {number : ℕ} (known : num
         ordered = omega arith;
         within = omega arith;
         stands = rw (← known, ne-eqb number accepted h);
+        left-place = λ r l. omega arith;
+        right-place = λ r l. omega arith;
       }
 
   module _ (e : number ≡ accepted) where
@@ -46,15 +48,17 @@ module _ (n : ℕ) (right : Bool) (bytes : List ℕ) {number : ℕ} (known : num
 
     -- no part, and the part where a tree stands
     empty : (t : Tree) → Accepted n bytes t → operandRecord right t ≡ [] → OperandAt n right bytes (record { from = 0; to = 0 })
-    empty t a q = record { ordered = omega arith; within = omega arith; stands = sym (part-of t a ∙ q) }
+    empty t a q = record { ordered = omega arith; within = omega arith; stands = sym (part-of t a ∙ q); left-place = λ r l. omega arith; right-place = λ r l. omega arith }
 
     standing : (t u : Tree) (from to : ℕ) → Accepted n bytes t → TreeAt n bytes from u to → operandRecord right t ≡ recordOf u
-        → OperandAt n right bytes (record { from = from; to = to })
-    standing t u from to a x q =
+        → (right ≡ false → from ≡ 1) → (right ≡ true → to ≡ length bytes) → OperandAt n right bytes (record { from = from; to = to })
+    standing t u from to a x q left-at right-at =
         record {
           ordered = omega (arith, x .ends);
           within = ends-within n bytes from u to x;
           stands = ap (take (to - from)) (x .stands) ∙ take-at (recordOf u) (drop to bytes) (to - from) (omega (arith, x .ends)) ∙ sym (part-of t a ∙ q);
+          left-place = λ r l. left-at r;
+          right-place = λ r l. right-at r;
         }
 
     module _ {x : Node} (found : x ≡ nodeAt n bytes 0) where
@@ -68,7 +72,7 @@ module _ (n : ℕ) (right : Bool) (bytes : List ℕ) {number : ℕ} (known : num
       bracket-left is r =
           let (t, a) = accepted-tree n bytes (sym known ∙ e) in
           let u = a-bracket n bytes 0 found is t (a .stands) in
-          standing t (u .0) 1 (length bytes) a (u .2) (ap (operandRecord right) (u .1) ∙ ap (λ b. operandRecord b (bracket (u .0))) r)
+          standing t (u .0) 1 (length bytes) a (u .2) (ap (operandRecord right) (u .1) ∙ ap (λ b. operandRecord b (bracket (u .0))) r) (λ f. refl) (λ f. refl)
 
       pub no-operand : OneOf (0 ∷ 2 ∷ 3 ∷ []) (tagOf nodes.the-type x) → OneOf (0 ∷ 1 ∷ 3 ∷ []) (tagOf nodes.the-type x)
           → OperandAt n right bytes (record { from = 0; to = 0 })
@@ -96,6 +100,7 @@ module _ (n : ℕ) (right : Bool) (bytes : List ℕ) {number : ℕ} (known : num
             let u = an-operator n bytes 0 found is t (a .stands) in
             let m : u .2 ≡ mid = sym (h .reached (u .0) (u .2) (u .4) .1) ∙ ap reachEnd q in
             standing t (u .1) mid (length bytes) a (rw m at (u .5)) (ap (operandRecord right) (u .3) ∙ ap (λ b. operandRecord b (binary o (u .0) (u .1))) r)
+            (λ f. absurd (true≢false (sym r ∙ f))) (λ f. refl)
 
         pub operator-left : {mid : ℕ} → w ≡ At mid → right ≡ false → OperandAt n right bytes (record { from = 1; to = mid })
         operator-left {mid} q r =
@@ -103,5 +108,6 @@ module _ (n : ℕ) (right : Bool) (bytes : List ℕ) {number : ℕ} (known : num
             let u = an-operator n bytes 0 found is t (a .stands) in
             let m : u .2 ≡ mid = sym (h .reached (u .0) (u .2) (u .4) .1) ∙ ap reachEnd q in
             standing t (u .0) 1 mid a (rw m at (u .4)) (ap (operandRecord right) (u .3) ∙ ap (λ b. operandRecord b (binary o (u .0) (u .1))) r)
+            (λ f. refl) (λ f. absurd (true≢false (sym f ∙ r)))
 
 pub ruleset operand-part-ways = (record-refused, bracket-right, bracket-left, no-operand, never-refused, operator-right, operator-left, needs)

@@ -1,7 +1,7 @@
 -- The place of an operand in its record. Assumes nothing.
-use Prim.Native.Nat.{ℕ, _-_, _≤_}
+use Prim.Native.Nat.{ℕ, _-_, _<_, _≤_}
 use mathlib.Core.Path.{_≡_}
-use mathlib.Core.Bool.{Bool}
+use mathlib.Core.Bool.{Bool, true, false}
 use mathlib.Core.List.{List}
 use lib.ListN.{length, take, drop}
 use Rattle.expression.specs.Operand.{operandPart}
@@ -12,3 +12,6 @@ pub record OperandAt (n : ℕ) (right : Bool) (bytes : List ℕ) (p : Part) : Ty
   pub ordered : p .from ≤ p .to
   pub within : p .to ≤ length bytes
   pub stands : take (p .to - p .from) (drop (p .from) bytes) ≡ operandPart n right bytes
+  -- a part that is not empty is the operand's own, not bytes like it elsewhere: the left one begins behind the top node, the right one ends with the record
+  pub left-place : right ≡ false → p .from < p .to → p .from ≡ 1
+  pub right-place : right ≡ true → p .from < p .to → p .to ≡ length bytes
