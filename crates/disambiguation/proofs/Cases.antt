@@ -4,7 +4,7 @@ use native.Mathlib.Omega.{arith}
 use mathlib.Core.Path.{_≡_, refl}
 use mathlib.Core.List.{[], _∷_}
 use Rattle.expression.specs.Lists.{All}
-use Rattle.expression.specs.Token.{class}
+use Rattle.expression.specs.Token.{operators, class}
 use Rattle.expression.specs.Tree.{Tree, reading, bracket, binary}
 use Rattle.expression.specs.RowTest.{isRow}
 use Rattle.expression.specs.Decode.{treeOf}
@@ -92,7 +92,7 @@ misreadings-hold =
     next tt
 
 -- Case 12 settles every pair, yet this row has two trees.
-pub round-has-two : HasTwo (round .n) (rulesOf (round .bytes)) (0x80 ∷ 0 ∷ 0x81 ∷ 1 ∷ 0x82 ∷ 2 ∷ 0x83 ∷ [])
+pub round-has-two : HasTwo (operators (round .n)) (rulesOf (round .bytes)) (0x80 ∷ 0 ∷ 0x81 ∷ 1 ∷ 0x82 ∷ 2 ∷ 0x83 ∷ [])
 unfolding class L R
 round-has-two = (
   binary 2 (binary 1 (binary 0 w x) y) z,

@@ -8,6 +8,7 @@ use lib.ListN.{length}
 use borrow.Author.Tests.{ltb-false}
 use Rattle.expression.specs.Limits.{mostOperators, mostRuleBytes}
 use Rattle.expression.specs.Refusal.{accepted, dead, double}
+use Rattle.expression.specs.Token.{operators}
 use Rattle.expression.proofs.Numbers.{first-append}
 use Rattle.disambiguation.specs.Rules.{L, R}
 use Rattle.disambiguation.specs.ExactlyOne.{SomeRowHasNone, EveryRowHasOne, SomeRowHasTwo, EveryRowHasExactlyOne}
@@ -21,15 +22,15 @@ module _ (n : ℕ) (bytes : List ℕ) where
     pub operators-fit : n ≤ mostOperators
     operators-fit = ltb-false mostOperators n ((neither (ltb mostOperators n) (ltb mostRuleBytes (length bytes)) (order .0)) .0)
 
-    pub sheetNumber-verdict : sheetNumber n bytes ≡ verdict n (rulesOf bytes)
+    pub sheetNumber-verdict : sheetNumber n bytes ≡ verdict (operators n) (rulesOf bytes)
     unfolding sheetNumber verdict
-    sheetNumber-verdict = first-append (orderChecks n bytes) (ruleChecks n (L (rulesOf bytes)) (R (rulesOf bytes))) order
+    sheetNumber-verdict = first-append (orderChecks n bytes) (ruleChecks (operators n) (L (rulesOf bytes)) (R (rulesOf bytes))) order
 
-    pub sheet-dead-exactly-if : (sheetNumber n bytes ≡ dead) ↔ SomeRowHasNone n (rulesOf bytes)
-    sheet-dead-exactly-if = rw sheetNumber-verdict (dead-exactly-if n (rulesOf bytes) operators-fit)
+    pub sheet-dead-exactly-if : (sheetNumber n bytes ≡ dead) ↔ SomeRowHasNone (operators n) (rulesOf bytes)
+    sheet-dead-exactly-if = rw sheetNumber-verdict (dead-exactly-if (operators n) (rulesOf bytes) operators-fit)
 
-    pub sheet-double-exactly-if : (sheetNumber n bytes ≡ double) ↔ (EveryRowHasOne n (rulesOf bytes) × SomeRowHasTwo n (rulesOf bytes))
-    sheet-double-exactly-if = rw sheetNumber-verdict (double-exactly-if n (rulesOf bytes) operators-fit)
+    pub sheet-double-exactly-if : (sheetNumber n bytes ≡ double) ↔ (EveryRowHasOne (operators n) (rulesOf bytes) × SomeRowHasTwo (operators n) (rulesOf bytes))
+    sheet-double-exactly-if = rw sheetNumber-verdict (double-exactly-if (operators n) (rulesOf bytes) operators-fit)
 
-    pub sheet-accepted-exactly-if : (sheetNumber n bytes ≡ accepted) ↔ EveryRowHasExactlyOne n (rulesOf bytes)
-    sheet-accepted-exactly-if = rw sheetNumber-verdict (accepted-exactly-if n (rulesOf bytes) operators-fit)
+    pub sheet-accepted-exactly-if : (sheetNumber n bytes ≡ accepted) ↔ EveryRowHasExactlyOne (operators n) (rulesOf bytes)
+    sheet-accepted-exactly-if = rw sheetNumber-verdict (accepted-exactly-if (operators n) (rulesOf bytes) operators-fit)

@@ -1,4 +1,4 @@
--- The verdict's tests decide the conditions, for n operators, and where one fails name the operators. Assumes nothing.
+-- The verdict's tests decide the conditions, for a sheet's operators, and where one fails name the operators. Assumes nothing.
 use Prim.Native.Nat.{ℕ, _≤_, _<_}
 use native.Mathlib.Omega.{arith}
 use mathlib.Core.Path.{_≡_, refl, ap, sym, _∙_}
@@ -6,7 +6,7 @@ use mathlib.Core.Bool.{Bool, true, false, not, _&&_, _||_, cond, true≢false, f
 use mathlib.Core.Logic.{_⊎_, inl, inr}
 use borrow.Author.Tests.{not-false}
 use Rattle.expression.specs.Limits.{mostOperators}
-use Rattle.expression.specs.Token.{Infix, class}
+use Rattle.expression.specs.Token.{Infix, Operators, class}
 use Rattle.expression.proofs.Classes.{class-operator, operator-below}
 use Rattle.disambiguation.specs.Verdict.{safe, total, within, level}
 use Rattle.disambiguation.proofs.BelowLaws.{and-true, allBelow-at, allBelow-fails, allPairs-at, allPairs-fails}
@@ -41,86 +41,86 @@ not-implies false b e = absurd (true≢false e)
 abbrev pub Uneven : (ℕ → ℕ → Bool) → ℕ → ℕ → ℕ → Type 0
 Uneven R a b c = ((R a b ≡ true) × (R b c ≡ true) × (R a c ≡ false)) ⊎ ((R a b ≡ false) × (R b c ≡ false) × (R a c ≡ true))
 
-module _ (n : ℕ) where
-  waits-below : (a : ℕ) → waits (class n a) ≡ true → a < n
-  waits-below = operator-below n waits refl refl refl refl
+module _ (ops : Operators) where
+  waits-below : (a : ℕ) → waits (class ops a) ≡ true → a < ops .count
+  waits-below = operator-below ops waits refl refl refl refl
 
-  takes-below : (b : ℕ) → takes (class n b) ≡ true → b < n
-  takes-below = operator-below n takes refl refl refl refl
+  takes-below : (b : ℕ) → takes (class ops b) ≡ true → b < ops .count
+  takes-below = operator-below ops takes refl refl refl refl
 
-  pub infix-below : (b : ℕ) → class n b ≡ Infix → b < n
+  pub infix-below : (b : ℕ) → class ops b ≡ Infix → b < ops .count
   infix-below b h = waits-below b (ap waits h)
 
   module _ (L R : ℕ → ℕ → Bool) where
-    pub safe-safe : safe n L R ≡ true → Safe L R (class n)
+    pub safe-safe : safe ops L R ≡ true → Safe L R (class ops)
     unfolding safe
-    safe-safe e a b ha hb = not-both (R a b) (L b a) (allPairs-at n (λ a b. not (R a b && L b a)) e a b (waits-below a ha) (takes-below b hb))
+    safe-safe e a b ha hb = not-both (R a b) (L b a) (allPairs-at (ops .count) (λ a b. not (R a b && L b a)) e a b (waits-below a ha) (takes-below b hb))
 
-    pub total-total : total n L R ≡ true → Total L R (class n)
+    pub total-total : total ops L R ≡ true → Total L R (class ops)
     unfolding total
-    total-total e a b ha hb = either (R a b) (L b a) (allPairs-at n (λ a b. R a b || L b a) e a b (waits-below a ha) (takes-below b hb))
+    total-total e a b ha hb = either (R a b) (L b a) (allPairs-at (ops .count) (λ a b. R a b || L b a) e a b (waits-below a ha) (takes-below b hb))
 
   module _ (R : ℕ → ℕ → Bool) where
     abbrev pub levelAt : ℕ → ℕ → Bool
-    levelAt a b = cond (R a b) (within n (R b) (R a)) (within n (R a) (R b))
+    levelAt a b = cond (R a b) (within (ops .count) (R b) (R a)) (within (ops .count) (R a) (R b))
 
-    within-at : (p q : ℕ → Bool) → within n p q ≡ true → (c : ℕ) → c < n → p c ≡ true → q c ≡ false → ⊥
+    within-at : (p q : ℕ → Bool) → within (ops .count) p q ≡ true → (c : ℕ) → c < ops .count → p c ≡ true → q c ≡ false → ⊥
     unfolding within
-    within-at p q e c h = implies (p c) (q c) (allBelow-at n (λ c. not (p c) || q c) e c h)
+    within-at p q e c h = implies (p c) (q c) (allBelow-at (ops .count) (λ c. not (p c) || q c) e c h)
 
-    within-fails : (p q : ℕ → Bool) → within n p q ≡ false → (c : ℕ) × (c < n) × (p c ≡ true) × (q c ≡ false)
+    within-fails : (p q : ℕ → Bool) → within (ops .count) p q ≡ false → (c : ℕ) × (c < ops .count) × (p c ≡ true) × (q c ≡ false)
     unfolding within
     within-fails p q e =
-        let (c, h, g) = allBelow-fails n (λ c. not (p c) || q c) e in
+        let (c, h, g) = allBelow-fails (ops .count) (λ c. not (p c) || q c) e in
         let (x, y) = not-implies (p c) (q c) g in
         (c, h, x, y)
 
-    pub level-transitive : level n R ≡ true → Transitive R (class n)
+    pub level-transitive : level ops R ≡ true → Transitive R (class ops)
     unfolding level
-    level-transitive e a b c ha hb hc ab bc ac = within-at (R b) (R a) (here (R a b) ab (allPairs-at n levelAt e a b (waits-below a ha) (infix-below b hb))) c (takes-below c hc) bc ac
+    level-transitive e a b c ha hb hc ab bc ac = within-at (R b) (R a) (here (R a b) ab (allPairs-at (ops .count) levelAt e a b (waits-below a ha) (infix-below b hb))) c (takes-below c hc) bc ac
       where
-        here : (x : Bool) → x ≡ true → cond x (within n (R b) (R a)) (within n (R a) (R b)) ≡ true → within n (R b) (R a) ≡ true
+        here : (x : Bool) → x ≡ true → cond x (within (ops .count) (R b) (R a)) (within (ops .count) (R a) (R b)) ≡ true → within (ops .count) (R b) (R a) ≡ true
         here true h e = e
         here false h e = absurd (false≢true h)
 
-    pub level-cotransitive : level n R ≡ true → Cotransitive R (class n)
+    pub level-cotransitive : level ops R ≡ true → Cotransitive R (class ops)
     unfolding level
-    level-cotransitive e a b c ha hb hc ab bc ac = within-at (R a) (R b) (here (R a b) ab (allPairs-at n levelAt e a b (waits-below a ha) (infix-below b hb))) c (infix-below c hc) ac bc
+    level-cotransitive e a b c ha hb hc ab bc ac = within-at (R a) (R b) (here (R a b) ab (allPairs-at (ops .count) levelAt e a b (waits-below a ha) (infix-below b hb))) c (infix-below c hc) ac bc
       where
-        here : (x : Bool) → x ≡ false → cond x (within n (R b) (R a)) (within n (R a) (R b)) ≡ true → within n (R a) (R b) ≡ true
+        here : (x : Bool) → x ≡ false → cond x (within (ops .count) (R b) (R a)) (within (ops .count) (R a) (R b)) ≡ true → within (ops .count) (R a) (R b) ≡ true
         here true h e = absurd (true≢false h)
         here false h e = e
 
   -- Where a test fails, operators that fail it.
-  module _ (small : n ≤ mostOperators) where
-    operator : (a : ℕ) → a < n → class n a ≡ Infix
-    operator a h = class-operator n a (omega arith) h
+  module _ (small : ops .count ≤ mostOperators) where
+    operator : (a : ℕ) → a < ops .count → class ops a ≡ Infix
+    operator a h = class-operator ops a (omega arith) h
 
     abbrev Infix₂ : ℕ → ℕ → Type 0
-    Infix₂ a b = (class n a ≡ Infix) × (class n b ≡ Infix)
+    Infix₂ a b = (class ops a ≡ Infix) × (class ops b ≡ Infix)
 
-    pub safe-fails : (L R : ℕ → ℕ → Bool) → safe n L R ≡ false → (a : ℕ) × (b : ℕ) × Infix₂ a b × (R a b ≡ true) × (L b a ≡ true)
+    pub safe-fails : (L R : ℕ → ℕ → Bool) → safe ops L R ≡ false → (a : ℕ) × (b : ℕ) × Infix₂ a b × (R a b ≡ true) × (L b a ≡ true)
     unfolding safe
     safe-fails L R e =
-        let (a, b, ha, hb, f) = allPairs-fails n (λ a b. not (R a b && L b a)) e in
+        let (a, b, ha, hb, f) = allPairs-fails (ops .count) (λ a b. not (R a b && L b a)) e in
         let (r, l) = both (R a b) (L b a) f in
         (a, b, (operator a ha, operator b hb), r, l)
 
-    pub total-fails : (L R : ℕ → ℕ → Bool) → total n L R ≡ false → (a : ℕ) × (b : ℕ) × Infix₂ a b × (R a b ≡ false) × (L b a ≡ false)
+    pub total-fails : (L R : ℕ → ℕ → Bool) → total ops L R ≡ false → (a : ℕ) × (b : ℕ) × Infix₂ a b × (R a b ≡ false) × (L b a ≡ false)
     unfolding total
     total-fails L R e =
-        let (a, b, ha, hb, f) = allPairs-fails n (λ a b. R a b || L b a) e in
+        let (a, b, ha, hb, f) = allPairs-fails (ops .count) (λ a b. R a b || L b a) e in
         let (r, l) = neither (R a b) (L b a) f in
         (a, b, (operator a ha, operator b hb), r, l)
 
-    pub level-fails : (R : ℕ → ℕ → Bool) → level n R ≡ false
-        → (a : ℕ) × (b : ℕ) × (c : ℕ) × (class n a ≡ Infix) × (class n b ≡ Infix) × (class n c ≡ Infix) × Uneven R a b c
+    pub level-fails : (R : ℕ → ℕ → Bool) → level ops R ≡ false
+        → (a : ℕ) × (b : ℕ) × (c : ℕ) × (class ops a ≡ Infix) × (class ops b ≡ Infix) × (class ops c ≡ Infix) × Uneven R a b c
     unfolding level
     level-fails R e =
-        let (a, b, ha, hb, f) = allPairs-fails n (levelAt R) e in
+        let (a, b, ha, hb, f) = allPairs-fails (ops .count) (levelAt R) e in
         let (c, hc, u) = go a b (R a b) refl f in
         (a, b, c, operator a ha, operator b hb, operator c hc, u)
       where
-        go : (a b : ℕ) (x : Bool) → R a b ≡ x → cond x (within n (R b) (R a)) (within n (R a) (R b)) ≡ false → (c : ℕ) × (c < n) × Uneven R a b c
+        go : (a b : ℕ) (x : Bool) → R a b ≡ x → cond x (within (ops .count) (R b) (R a)) (within (ops .count) (R a) (R b)) ≡ false → (c : ℕ) × (c < ops .count) × Uneven R a b c
         go a b true h f = let (c, hc, p, q) = within-fails R (R b) (R a) f in (c, hc, inl (h, p, q))
         go a b false h f = let (c, hc, p, q) = within-fails R (R a) (R b) f in (c, hc, inr (h, q, p))

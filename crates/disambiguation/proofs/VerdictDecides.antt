@@ -7,7 +7,7 @@ use mathlib.Core.Logic.{_↔_, _⊎_, inl, inr}
 use mathlib.Core.List.{List}
 use Rattle.expression.specs.Limits.{mostOperators}
 use Rattle.expression.specs.Refusal.{accepted, dead, double}
-use Rattle.expression.specs.Token.{Infix, Reading, class}
+use Rattle.expression.specs.Token.{Infix, Reading, Operators, class}
 use Rattle.expression.specs.Tree.{Tree, yield, Over}
 use Rattle.expression.specs.Grammar.{Row}
 use Rattle.expression.proofs.Classes.{brackets, class-reading}
@@ -23,15 +23,15 @@ use Rattle.disambiguation.proofs.Unique.{unique}
 use Rattle.disambiguation.proofs.Converse.{Twins, not-safe, not-total, not-transitive, not-cotransitive}
 use Rattle.disambiguation.proofs.TestsDecide.{safe-safe, total-total, level-transitive, level-cotransitive, safe-fails, total-fails, Uneven, level-fails}
 
-module _ (n : ℕ) (rules : List Rule) where
+module _ (ops : Operators) (rules : List Rule) where
   -- a reading, for the rows that show a fault
-  reading-80 : class n 0x80 ≡ Reading
-  reading-80 = class-reading n 0x80 (omega arith) (omega arith)
+  reading-80 : class ops 0x80 ≡ Reading
+  reading-80 = class-reading ops 0x80 (omega arith) (omega arith)
 
-  row-of : (t : Tree) → Over (class n) t → Row n (yield t)
-  row-of t h = row-exactly-if-yielded n (yield t) .1 (t, h, refl)
+  row-of : (t : Tree) → Over (class ops) t → Row ops (yield t)
+  row-of t h = row-exactly-if-yielded ops (yield t) .1 (t, h, refl)
 
-  two-trees : (t : Tree) (u : Tree) → Twins (L rules) (R rules) (class n) t u → SomeRowHasTwo n rules
+  two-trees : (t : Tree) (u : Tree) → Twins (L rules) (R rules) (class ops) t u → SomeRowHasTwo ops rules
   two-trees t u w = (
     yield t,
     row-of t (w .first-over),
@@ -44,104 +44,104 @@ module _ (n : ℕ) (rules : List Rule) where
     ),
   )
 
-  pub safe-has-one : safe n (L rules) (R rules) ≡ true → EveryRowHasOne n rules
+  pub safe-has-one : safe ops (L rules) (R rules) ≡ true → EveryRowHasOne ops rules
   safe-has-one e row r =
-      let (t, h, q) = row-exactly-if-yielded n row .0 r in (
+      let (t, h, q) = row-exactly-if-yielded ops row .0 r in (
         repair (R rules) t,
         record {
-          over = over-repair (R rules) (class n) t h;
+          over = over-repair (R rules) (class ops) t h;
           yields = yield-repair (R rules) t ∙ q;
-          free = repair-conflict-free (L rules) (R rules) (class n) (safe-safe n (L rules) (R rules) e) t h;
+          free = repair-conflict-free (L rules) (R rules) (class ops) (safe-safe ops (L rules) (R rules) e) t h;
         },
       )
 
-  pub tests-unique : total n (L rules) (R rules) ≡ true → level n (R rules) ≡ true → (row : List ℕ) (t u : Tree)
-      → ConflictFreeTree n rules row t → ConflictFreeTree n rules row u → t ≡ u
+  pub tests-unique : total ops (L rules) (R rules) ≡ true → level ops (R rules) ≡ true → (row : List ℕ) (t u : Tree)
+      → ConflictFreeTree ops rules row t → ConflictFreeTree ops rules row u → t ≡ u
   tests-unique e f row t u a b =
-      unique (L rules) (R rules) (class n) (total-total n (L rules) (R rules) e) (level-transitive n (R rules) f) (level-cotransitive n (R rules) f) (brackets n)
+      unique (L rules) (R rules) (class ops) (total-total ops (L rules) (R rules) e) (level-transitive ops (R rules) f) (level-cotransitive ops (R rules) f) (brackets ops)
       t u (a .over) (b .over) (a .free) (b .free) (a .yields ∙ sym (b .yields))
 
-  module _ (small : n ≤ mostOperators) where
-    unsafe-has-none : safe n (L rules) (R rules) ≡ false → SomeRowHasNone n rules
+  module _ (small : ops .count ≤ mostOperators) where
+    unsafe-has-none : safe ops (L rules) (R rules) ≡ false → SomeRowHasNone ops rules
     unsafe-has-none e =
-        let (a, b, (ha, hb), r, l) = safe-fails n small (L rules) (R rules) e in
-        let (u, (h, none)) = not-safe (L rules) (R rules) (class n) (brackets n) 0x80 reading-80 a b ha hb r l in
+        let (a, b, (ha, hb), r, l) = safe-fails ops small (L rules) (R rules) e in
+        let (u, (h, none)) = not-safe (L rules) (R rules) (class ops) (brackets ops) 0x80 reading-80 a b ha hb r l in
         (yield u, row-of u h, λ t c. none t (c .over) (c .yields) (c .free))
 
-    untotal-has-two : total n (L rules) (R rules) ≡ false → SomeRowHasTwo n rules
+    untotal-has-two : total ops (L rules) (R rules) ≡ false → SomeRowHasTwo ops rules
     untotal-has-two e =
-        let (a, b, (ha, hb), r, l) = total-fails n small (L rules) (R rules) e in
-        let (t, u, w) = not-total (L rules) (R rules) (class n) (brackets n) 0x80 reading-80 a b ha hb r l in
+        let (a, b, (ha, hb), r, l) = total-fails ops small (L rules) (R rules) e in
+        let (t, u, w) = not-total (L rules) (R rules) (class ops) (brackets ops) 0x80 reading-80 a b ha hb r l in
         two-trees t u w
 
-    uneven-has-two : safe n (L rules) (R rules) ≡ true → level n (R rules) ≡ false → SomeRowHasTwo n rules
+    uneven-has-two : safe ops (L rules) (R rules) ≡ true → level ops (R rules) ≡ false → SomeRowHasTwo ops rules
     uneven-has-two s e =
-        let (a, b, c, ha, hb, hc, uneven) = level-fails n small (R rules) e in
+        let (a, b, c, ha, hb, hc, uneven) = level-fails ops small (R rules) e in
         go a b c ha hb hc uneven
       where
-        go : (a b c : ℕ) → class n a ≡ Infix → class n b ≡ Infix → class n c ≡ Infix → Uneven (R rules) a b c → SomeRowHasTwo n rules
+        go : (a b c : ℕ) → class ops a ≡ Infix → class ops b ≡ Infix → class ops c ≡ Infix → Uneven (R rules) a b c → SomeRowHasTwo ops rules
         go a b c ha hb hc (inl (p, q, r)) =
-            let (t, u, w) = not-transitive (L rules) (R rules) (class n) (brackets n) 0x80 reading-80 (safe-safe n (L rules) (R rules) s) a b c ha hb hc p q r in
+            let (t, u, w) = not-transitive (L rules) (R rules) (class ops) (brackets ops) 0x80 reading-80 (safe-safe ops (L rules) (R rules) s) a b c ha hb hc p q r in
             two-trees t u w
         go a b c ha hb hc (inr (p, q, r)) =
-            let (t, u, w) = not-cotransitive (L rules) (R rules) (class n) (brackets n) 0x80 reading-80 (safe-safe n (L rules) (R rules) s) a b c ha hb hc p q r in
+            let (t, u, w) = not-cotransitive (L rules) (R rules) (class ops) (brackets ops) 0x80 reading-80 (safe-safe ops (L rules) (R rules) s) a b c ha hb hc p q r in
             two-trees t u w
 
     -- One of three outcomes.
     data Outcome (number : ℕ) : Type 0 where
-      is-dead : number ≡ dead → SomeRowHasNone n rules → Outcome number
-      is-double : number ≡ double → EveryRowHasOne n rules → SomeRowHasTwo n rules → Outcome number
-      is-accepted : number ≡ accepted → EveryRowHasExactlyOne n rules → Outcome number
+      is-dead : number ≡ dead → SomeRowHasNone ops rules → Outcome number
+      is-double : number ≡ double → EveryRowHasOne ops rules → SomeRowHasTwo ops rules → Outcome number
+      is-accepted : number ≡ accepted → EveryRowHasExactlyOne ops rules → Outcome number
 
-    outcome : Outcome (verdict n rules)
+    outcome : Outcome (verdict ops rules)
     unfolding verdict
-    outcome = go (safe n (L rules) (R rules)) refl (total n (L rules) (R rules) && level n (R rules)) refl
+    outcome = go (safe ops (L rules) (R rules)) refl (total ops (L rules) (R rules) && level ops (R rules)) refl
       where
-        two : safe n (L rules) (R rules) ≡ true → (total n (L rules) (R rules) ≡ false) ⊎ (level n (R rules) ≡ false) → SomeRowHasTwo n rules
+        two : safe ops (L rules) (R rules) ≡ true → (total ops (L rules) (R rules) ≡ false) ⊎ (level ops (R rules) ≡ false) → SomeRowHasTwo ops rules
         two s (inl e) = untotal-has-two e
         two s (inr e) = uneven-has-two s e
 
-        go : (a : Bool) → safe n (L rules) (R rules) ≡ a → (b : Bool) → (total n (L rules) (R rules) && level n (R rules)) ≡ b
+        go : (a : Bool) → safe ops (L rules) (R rules) ≡ a → (b : Bool) → (total ops (L rules) (R rules) && level ops (R rules)) ≡ b
             → Outcome (cond (not a) dead (cond (not b) double accepted))
         go false s b e = is-dead refl (unsafe-has-none s)
-        go true s false e = is-double refl (safe-has-one s) (two s (and-false (total n (L rules) (R rules)) (level n (R rules)) e))
+        go true s false e = is-double refl (safe-has-one s) (two s (and-false (total ops (L rules) (R rules)) (level ops (R rules)) e))
         go true s true e =
-            let (p, q) = and-true (total n (L rules) (R rules)) (level n (R rules)) e in
+            let (p, q) = and-true (total ops (L rules) (R rules)) (level ops (R rules)) e in
             is-accepted refl (λ row r. let (t, h) = safe-has-one s row r in (t, h, λ u g. tests-unique p q row u t g h))
 
     -- the three are of different sheets
-    none-or-one : SomeRowHasNone n rules → EveryRowHasOne n rules → ⊥
+    none-or-one : SomeRowHasNone ops rules → EveryRowHasOne ops rules → ⊥
     none-or-one (row, r, none) every = let (t, h) = every row r in none t h
 
-    two-or-one : SomeRowHasTwo n rules → EveryRowHasExactlyOne n rules → ⊥
+    two-or-one : SomeRowHasTwo ops rules → EveryRowHasExactlyOne ops rules → ⊥
     two-or-one (row, r, (t, u, ht, hu, different)) every = let (v, h, only) = every row r in different (only t ht ∙ sym (only u hu))
 
-    exactly-has-one : EveryRowHasExactlyOne n rules → EveryRowHasOne n rules
+    exactly-has-one : EveryRowHasExactlyOne ops rules → EveryRowHasOne ops rules
     exactly-has-one every row r = let (t, h, only) = every row r in (t, h)
 
-    -- 4 exactly if some row over the n operators has no conflict-free tree.
-    pub dead-exactly-if : (verdict n rules ≡ dead) ↔ SomeRowHasNone n rules
-    dead-exactly-if = go (verdict n rules) outcome
+    -- 4 exactly if some row over the operators has no conflict-free tree.
+    pub dead-exactly-if : (verdict ops rules ≡ dead) ↔ SomeRowHasNone ops rules
+    dead-exactly-if = go (verdict ops rules) outcome
       where
-        go : (v : ℕ) → Outcome v → (v ≡ dead) ↔ SomeRowHasNone n rules
+        go : (v : ℕ) → Outcome v → (v ≡ dead) ↔ SomeRowHasNone ops rules
         go v (is-dead e none) = (λ _. none, λ _. e)
         go v (is-double e one two) = (λ f. absurd (omega arith), λ none. absurd (none-or-one none one))
         go v (is-accepted e every) = (λ f. absurd (omega arith), λ none. absurd (none-or-one none (exactly-has-one every)))
 
     -- 5 exactly if every row has one and some row has two different ones.
-    pub double-exactly-if : (verdict n rules ≡ double) ↔ (EveryRowHasOne n rules × SomeRowHasTwo n rules)
-    double-exactly-if = go (verdict n rules) outcome
+    pub double-exactly-if : (verdict ops rules ≡ double) ↔ (EveryRowHasOne ops rules × SomeRowHasTwo ops rules)
+    double-exactly-if = go (verdict ops rules) outcome
       where
-        go : (v : ℕ) → Outcome v → (v ≡ double) ↔ (EveryRowHasOne n rules × SomeRowHasTwo n rules)
+        go : (v : ℕ) → Outcome v → (v ≡ double) ↔ (EveryRowHasOne ops rules × SomeRowHasTwo ops rules)
         go v (is-dead e none) = (λ f. absurd (omega arith), λ h. absurd (none-or-one none (h .0)))
         go v (is-double e one two) = (λ _. (one, two), λ _. e)
         go v (is-accepted e every) = (λ f. absurd (omega arith), λ h. absurd (two-or-one (h .1) every))
 
     -- 0 exactly if every row has exactly one.
-    pub accepted-exactly-if : (verdict n rules ≡ accepted) ↔ EveryRowHasExactlyOne n rules
-    accepted-exactly-if = go (verdict n rules) outcome
+    pub accepted-exactly-if : (verdict ops rules ≡ accepted) ↔ EveryRowHasExactlyOne ops rules
+    accepted-exactly-if = go (verdict ops rules) outcome
       where
-        go : (v : ℕ) → Outcome v → (v ≡ accepted) ↔ EveryRowHasExactlyOne n rules
+        go : (v : ℕ) → Outcome v → (v ≡ accepted) ↔ EveryRowHasExactlyOne ops rules
         go v (is-dead e none) = (λ f. absurd (omega arith), λ every. absurd (none-or-one none (exactly-has-one every)))
         go v (is-double e one two) = (λ f. absurd (omega arith), λ every. absurd (two-or-one two every))
         go v (is-accepted e every) = (λ _. every, λ _. e)

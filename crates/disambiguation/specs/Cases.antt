@@ -4,7 +4,7 @@ use mathlib.Core.Path.{_≡_}
 use mathlib.Core.List.{List, [], _∷_}
 use mathlib.Core.Option.{some}
 use Rattle.expression.specs.Refusal.{accepted, dead, double, noRow, noTree}
-use Rattle.expression.specs.Token.{class}
+use Rattle.expression.specs.Token.{Operators, operators, class}
 use Rattle.expression.specs.Tree.{Tree, yield}
 use Rattle.expression.specs.Decode.{treeOf}
 use Rattle.expression.specs.Checks.{rowNumber, recordNumber}
@@ -30,22 +30,25 @@ pub data Case : Type 0 where
   tree : Sheet → List ℕ → ℕ → Case
   sheet : Sheet → ℕ → Case
 
+abbrev ops : Sheet → Operators
+ops s = operators (s .n)
+
 abbrev rules : Sheet → List Rule
 rules s = rulesOf (s .bytes)
 
 -- t is the tree that the record is of
 abbrev Records : Sheet → List ℕ → Tree → Type 0
-Records s bytes t = (recordNumber (s .n) bytes ≡ accepted) × (treeOf (class (s .n)) bytes ≡ some t)
+Records s bytes t = (recordNumber (ops s) bytes ≡ accepted) × (treeOf (class (ops s)) bytes ≡ some t)
 
 -- What a line of the table claims.
 abbrev pub Holds : Case → Type 0
 Holds (built s tokens answer) =
-    (rowNumber (s .n) tokens ≡ accepted) × ((t : Tree) × Records s answer t × ConflictFreeTree (s .n) (rules s) tokens t)
+    (rowNumber (ops s) tokens ≡ accepted) × ((t : Tree) × Records s answer t × ConflictFreeTree (ops s) (rules s) tokens t)
 Holds (repaired s bytes answer) =
-    (t : Tree) × (u : Tree) × Records s bytes t × Records s answer u × ConflictFreeTree (s .n) (rules s) (yield t) u × (repair (R (rules s)) t ≡ u)
+    (t : Tree) × (u : Tree) × Records s bytes t × Records s answer u × ConflictFreeTree (ops s) (rules s) (yield t) u × (repair (R (rules s)) t ≡ u)
 Holds (counted s bytes number) = (t : Tree) × Records s bytes t × (conflictCount (rules s) t ≡ number)
-Holds (row s tokens number) = rowNumber (s .n) tokens ≡ number
-Holds (tree s bytes number) = recordNumber (s .n) bytes ≡ number
+Holds (row s tokens number) = rowNumber (ops s) tokens ≡ number
+Holds (tree s bytes number) = recordNumber (ops s) bytes ≡ number
 Holds (sheet s number) = sheetNumber (s .n) (s .bytes) ≡ number
 
 -- Sheet A: two operators, 01 over 00, each left with itself.

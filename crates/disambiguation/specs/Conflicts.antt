@@ -4,7 +4,7 @@ use mathlib.Core.Path.{_≡_}
 use mathlib.Core.Bool.{Bool}
 use mathlib.Core.List.{List}
 use Rattle.expression.specs.Lists.{count}
-use Rattle.expression.specs.Token.{class}
+use Rattle.expression.specs.Token.{Operators, class}
 use Rattle.expression.specs.Tree.{Tree, reading, bracket, binary, yield, Over}
 use Rattle.disambiguation.specs.Rules.{Rule, L, R}
 use Rattle.disambiguation.specs.Edges.{seenFromRight, seenFromLeft}
@@ -19,8 +19,8 @@ conflicts L R (binary o l r) = count (L o) (seenFromRight l) + count (R o) (seen
 abbrev pub conflictCount : List Rule → Tree → ℕ
 conflictCount rules = conflicts (L rules) (R rules)
 
--- A row's conflict-free tree under a sheet: a tree over its n operators, with that yield and conflict count 0.
-pub record ConflictFreeTree (n : ℕ) (rules : List Rule) (row : List ℕ) (t : Tree) : Type 0 where
-  pub over : Over (class n) t
+-- A row's conflict-free tree under a sheet: a tree over its operators, with that yield and conflict count 0.
+pub record ConflictFreeTree (ops : Operators) (rules : List Rule) (row : List ℕ) (t : Tree) : Type 0 where
+  pub over : Over (class ops) t
   pub yields : yield t ≡ row
   pub free : conflictCount rules t ≡ 0

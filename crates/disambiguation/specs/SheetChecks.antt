@@ -7,6 +7,7 @@ use lib.ListN.{length}
 use Rattle.expression.specs.Lists.{any}
 use Rattle.expression.specs.Limits.{mostOperators, mostRules, mostRuleBytes, bytesOfRule}
 use Rattle.expression.specs.Refusal.{Check, Passed, first, oversize, torn, stranger}
+use Rattle.expression.specs.Token.{operators}
 use Rattle.disambiguation.specs.Rules.{Rule, rule, priority, right, L, R}
 use Rattle.disambiguation.specs.Verdict.{ruleChecks}
 
@@ -41,7 +42,7 @@ module _ (n : ℕ) (bytes : List ℕ) where
 
   -- The number of a sheet: 1, 2, 3, 4, 5 or 0.
   unfoldable pub sheetNumber : ℕ
-  sheetNumber = first (orderChecks ++ ruleChecks n (L (rulesOf bytes)) (R (rulesOf bytes)))
+  sheetNumber = first (orderChecks ++ ruleChecks (operators n) (L (rulesOf bytes)) (R (rulesOf bytes)))
 
 -- Rules as a list of records: over 2,048 records is 1, and there is no 2.
 module _ (n : ℕ) (rules : List Rule) where
@@ -52,4 +53,4 @@ module _ (n : ℕ) (rules : List Rule) where
   ListInOrder = Passed listOrderChecks
 
   unfoldable pub listNumber : ℕ
-  listNumber = first (listOrderChecks ++ ruleChecks n (L rules) (R rules))
+  listNumber = first (listOrderChecks ++ ruleChecks (operators n) (L rules) (R rules))

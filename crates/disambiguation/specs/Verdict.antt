@@ -3,31 +3,32 @@ use Prim.Native.Nat.{ℕ}
 use mathlib.Core.Bool.{Bool, not, _&&_, _||_, cond}
 use mathlib.Core.List.{List, [], _∷_}
 use Rattle.expression.specs.Refusal.{Check, first, dead, double}
+use Rattle.expression.specs.Token.{Operators}
 use Rattle.disambiguation.specs.Rules.{Rule, L, R}
 use Rattle.disambiguation.specs.Below.{allBelow, allPairs}
 
--- For relations L and R over the operators below n.
-module _ (n : ℕ) (L R : ℕ → ℕ → Bool) where
+-- For relations L and R over a sheet's operators.
+module _ (ops : Operators) (L R : ℕ → ℕ → Bool) where
   -- no pair is excluded both ways
   unfoldable pub safe : Bool
-  safe = allPairs n (λ a b. not (R a b && L b a))
+  safe = allPairs (ops .count) (λ a b. not (R a b && L b a))
 
   -- every pair is excluded one way at least
   unfoldable pub total : Bool
-  total = allPairs n (λ a b. R a b || L b a)
+  total = allPairs (ops .count) (λ a b. R a b || L b a)
 
 -- all that p holds of below n, q holds of
 unfoldable pub within : ℕ → (ℕ → Bool) → (ℕ → Bool) → Bool
 within n p q = allBelow n (λ c. not (p c) || q c)
 
 -- for each pair, what one of them closes before, the other does too: b's if a closes before b, else a's
-unfoldable pub level : ℕ → (ℕ → ℕ → Bool) → Bool
-level n R = allPairs n (λ a b. cond (R a b) (within n (R b) (R a)) (within n (R a) (R b)))
+unfoldable pub level : Operators → (ℕ → ℕ → Bool) → Bool
+level ops R = allPairs (ops .count) (λ a b. cond (R a b) (within (ops .count) (R b) (R a)) (within (ops .count) (R a) (R b)))
 
 -- 4 and 5, in this order
-abbrev pub ruleChecks : ℕ → (ℕ → ℕ → Bool) → (ℕ → ℕ → Bool) → List Check
-ruleChecks n L R = (not (safe n L R), dead) ∷ (not (total n L R && level n R), double) ∷ []
+abbrev pub ruleChecks : Operators → (ℕ → ℕ → Bool) → (ℕ → ℕ → Bool) → List Check
+ruleChecks ops L R = (not (safe ops L R), dead) ∷ (not (total ops L R && level ops R), double) ∷ []
 
 -- The number of a sheet for its rules: 4, 5 or 0.
-unfoldable pub verdict : ℕ → List Rule → ℕ
-verdict n rules = first (ruleChecks n (L rules) (R rules))
+unfoldable pub verdict : Operators → List Rule → ℕ
+verdict ops rules = first (ruleChecks ops (L rules) (R rules))

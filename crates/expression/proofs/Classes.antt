@@ -6,7 +6,7 @@ use mathlib.Core.Bool.{Bool, true, false, true≢false}
 use lib.Dec.{eqb, ltb}
 use borrow.Author.Tests.{ltb-true, ltb-false, lt-ltb, le-ltb, eqb-true, ne-eqb}
 use Rattle.expression.specs.Limits.{mostOperators}
-use Rattle.expression.specs.Token.{Class, Infix, Opening, Closing, Reading, Meaningless, opening, closing, firstReading, lastReading, class}
+use Rattle.expression.specs.Token.{Class, Infix, Opening, Closing, Reading, Meaningless, opening, closing, firstReading, lastReading, Operators, class}
 use Rattle.expression.proofs.Cond.{by-cond}
 
 -- 20 and 21 are the brackets, and no other byte is one. The theory of trees and rows needs no more of the classes.
@@ -16,34 +16,34 @@ pub record Brackets (k : ℕ → Class) : Type 0 where
   pub opening-only : (c : ℕ) → k c ≡ Opening → c ≡ opening
   pub closing-only : (c : ℕ) → k c ≡ Closing → c ≡ closing
 
-module _ (n : ℕ) where
-  pub class-operator : (c : ℕ) → c < mostOperators → c < n → class n c ≡ Infix
+module _ (ops : Operators) where
+  pub class-operator : (c : ℕ) → c < mostOperators → c < ops .count → class ops c ≡ Infix
   unfolding class
-  class-operator c h g = rw (lt-ltb c mostOperators h, lt-ltb c n g)
+  class-operator c h g = rw (lt-ltb c mostOperators h, lt-ltb c (ops .count) g)
 
-  pub class-reading : (c : ℕ) → firstReading ≤ c → c ≤ lastReading → class n c ≡ Reading
+  pub class-reading : (c : ℕ) → firstReading ≤ c → c ≤ lastReading → class ops c ≡ Reading
   unfolding class
   class-reading c h g =
       rw (le-ltb c mostOperators (omega arith), ne-eqb c opening (λ e. omega arith), ne-eqb c closing (λ e. omega arith), le-ltb c firstReading h, le-ltb lastReading c g)
 
   -- whatever holds of the class in each of its cases holds of it
   pub by-class : (P : Class → Type 0) (c : ℕ)
-      → (c < mostOperators → c < n → P Infix)
+      → (c < mostOperators → c < ops .count → P Infix)
       → (c ≡ opening → P Opening)
       → (c ≡ closing → P Closing)
       → (firstReading ≤ c → c ≤ lastReading → P Reading)
       → P Meaningless
-      → P (class n c)
+      → P (class ops c)
   unfolding class
   by-class P c i o s r m =
       by-cond P (ltb c mostOperators)
-      (λ h. by-cond P (ltb c n) (λ g. i (ltb-true c mostOperators h) (ltb-true c n g)) (λ _. m))
+      (λ h. by-cond P (ltb c (ops .count)) (λ g. i (ltb-true c mostOperators h) (ltb-true c (ops .count) g)) (λ _. m))
       (λ _. by-cond P (eqb c opening) (λ h. o (eqb-true c opening h))
       (λ _. by-cond P (eqb c closing) (λ h. s (eqb-true c closing h))
       (λ _. by-cond P (ltb c firstReading) (λ _. m)
       (λ h. by-cond P (ltb lastReading c) (λ _. m) (λ g. r (ltb-false c firstReading h) (ltb-false lastReading c g))))))
 
-  pub brackets : Brackets (class n)
+  pub brackets : Brackets (class ops)
   unfolding class
   brackets =
       record {
@@ -53,9 +53,9 @@ module _ (n : ℕ) where
         closing-only = λ c. by-class (λ x. x ≡ Closing → c ≡ closing) c (λ _ _ e. cc) (λ _ e. cc) (λ h _. h) (λ _ _ e. cc) (λ e. cc);
       }
 
-  -- a byte that passes a test that no other class than an operator's passes is below n
+  -- a byte that passes a test that no other class than an operator's passes is below the count
   pub operator-below : (p : Class → Bool) → p Opening ≡ false → p Closing ≡ false → p Reading ≡ false → p Meaningless ≡ false
-      → (c : ℕ) → p (class n c) ≡ true → c < n
+      → (c : ℕ) → p (class ops c) ≡ true → c < ops .count
   operator-below p o s r m c =
-      by-class (λ x. p x ≡ true → c < n) c (λ _ h _. h) (λ _ e. absurd (true≢false (sym e ∙ o))) (λ _ e. absurd (true≢false (sym e ∙ s)))
+      by-class (λ x. p x ≡ true → c < ops .count) c (λ _ h _. h) (λ _ e. absurd (true≢false (sym e ∙ o))) (λ _ e. absurd (true≢false (sym e ∙ s)))
       (λ _ _ e. absurd (true≢false (sym e ∙ r))) (λ e. absurd (true≢false (sym e ∙ m)))

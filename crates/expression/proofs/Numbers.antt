@@ -11,7 +11,7 @@ use borrow.Author.Tests.{ltb-false, lt-ltb, le-ltb, not-false}
 use Rattle.expression.specs.Lists.{All}
 use Rattle.expression.specs.Limits.{mostTokens, mostRecordBytes}
 use Rattle.expression.specs.Refusal.{Check, Passed, first, accepted, short}
-use Rattle.expression.specs.Token.{class}
+use Rattle.expression.specs.Token.{Operators, class}
 use Rattle.expression.specs.Tree.{Tree, yield, recordOf, Over}
 use Rattle.expression.specs.Grammar.{Row}
 use Rattle.expression.specs.RowTest.{isRow}
@@ -59,28 +59,28 @@ first-short cs answer room e n h = first-append cs (shortCheck answer room ∷ [
 pub first-roomy : (cs : List Check) (answer room : ℕ) → first cs ≡ accepted → Numbered cs → answer ≤ room → first (cs ++ (shortCheck answer room ∷ [])) ≡ accepted
 first-roomy cs answer room e n h = first-append cs (shortCheck answer room ∷ []) (passed-first cs n e) ∙ rw (le-ltb room answer h)
 
-module _ (n : ℕ) where
-  pub row-numbered : (tokens : List ℕ) → Numbered (rowChecks n tokens)
+module _ (ops : Operators) where
+  pub row-numbered : (tokens : List ℕ) → Numbered (rowChecks ops tokens)
   row-numbered tokens = (λ e. omega arith, (λ e. omega arith, (λ e. omega arith, tt)))
 
-  pub record-numbered : (bytes : List ℕ) → Numbered (recordChecks n bytes)
+  pub record-numbered : (bytes : List ℕ) → Numbered (recordChecks ops bytes)
   record-numbered bytes = (λ e. omega arith, (λ e. omega arith, (λ e. omega arith, (λ e. omega arith, tt))))
 
-  -- A row is accepted exactly if it is within the length and is a row over the n operators.
-  pub row-accepted : (tokens : List ℕ) → (rowNumber n tokens ≡ accepted) ↔ ((length tokens ≤ mostTokens) × Row n tokens)
+  -- A row is accepted exactly if it is within the length and is a row over the operators.
+  pub row-accepted : (tokens : List ℕ) → (rowNumber ops tokens ≡ accepted) ↔ ((length tokens ≤ mostTokens) × Row ops tokens)
   unfolding rowNumber
   row-accepted tokens = (
     λ e.
-        let (a, (b, (c, _))) = passed-first (rowChecks n tokens) (row-numbered tokens) e in
-        (ltb-false mostTokens (length tokens) a, isRow-exactly-if-row n tokens .0 (not-false (isRow (class n) tokens) c)),
+        let (a, (b, (c, _))) = passed-first (rowChecks ops tokens) (row-numbered tokens) e in
+        (ltb-false mostTokens (length tokens) a, isRow-exactly-if-row ops tokens .0 (not-false (isRow (class ops) tokens) c)),
     λ h.
-        let e = isRow-exactly-if-row n tokens .1 (h .1) in
-        first-passed (rowChecks n tokens) (le-ltb mostTokens (length tokens) (h .0), (row-has-no-stranger (class n) tokens e, (rw e, tt))),
+        let e = isRow-exactly-if-row ops tokens .1 (h .1) in
+        first-passed (rowChecks ops tokens) (le-ltb mostTokens (length tokens) (h .0), (row-has-no-stranger (class ops) tokens e, (rw e, tt))),
   )
 
-  -- The bytes are the record of t, a tree over the n operators, and it and its row are within the lengths.
+  -- The bytes are the record of t, a tree over the operators, and it and its row are within the lengths.
   pub record Recorded (bytes : List ℕ) (t : Tree) : Type 0 where
-    pub over : Over (class n) t
+    pub over : Over (class ops) t
     pub recorded : recordOf t ≡ bytes
     pub bytes-fit : length bytes ≤ mostRecordBytes
     pub tokens-fit : length (yield t) ≤ mostTokens
@@ -90,26 +90,26 @@ module _ (n : ℕ) where
   is-some (some t) e = (t, refl)
 
   -- A record is accepted exactly if it is so recorded of some tree.
-  pub record-accepted : (bytes : List ℕ) → (recordNumber n bytes ≡ accepted) ↔ ((t : Tree) × Recorded bytes t)
+  pub record-accepted : (bytes : List ℕ) → (recordNumber ops bytes ≡ accepted) ↔ ((t : Tree) × Recorded bytes t)
   unfolding recordNumber
   record-accepted bytes = (
     λ e.
-        let (a, (b, (c, (d, _)))) = passed-first (recordChecks n bytes) (record-numbered bytes) e in
-        let (t, q) = is-some (treeOf (class n) bytes) c in
-        let (r, h) = record-treeOf (class n) (brackets n) bytes t q in (
+        let (a, (b, (c, (d, _)))) = passed-first (recordChecks ops bytes) (record-numbered bytes) e in
+        let (t, q) = is-some (treeOf (class ops) bytes) c in
+        let (r, h) = record-treeOf (class ops) (brackets ops) bytes t q in (
           t,
           record {
             over = h;
             recorded = r;
             bytes-fit = ltb-false mostRecordBytes (length bytes) a;
-            tokens-fit = rw (ap rowTokens q) at (ltb-false mostTokens (rowTokens (treeOf (class n) bytes)) d);
+            tokens-fit = rw (ap rowTokens q) at (ltb-false mostTokens (rowTokens (treeOf (class ops) bytes)) d);
           },
         ),
     λ h.
         let (t, r) = h in
-        let q = ap (treeOf (class n)) (sym (r .recorded)) ∙ treeOf-record (class n) (brackets n) t (r .over) in
-        first-passed (recordChecks n bytes) (
+        let q = ap (treeOf (class ops)) (sym (r .recorded)) ∙ treeOf-record (class ops) (brackets ops) t (r .over) in
+        first-passed (recordChecks ops bytes) (
           le-ltb mostRecordBytes (length bytes) (r .bytes-fit),
-          (record-has-no-stranger (class n) bytes t q, (rw q, (rw q (le-ltb mostTokens (length (yield t)) (r .tokens-fit)), tt))),
+          (record-has-no-stranger (class ops) bytes t q, (rw q, (rw q (le-ltb mostTokens (length (yield t)) (r .tokens-fit)), tt))),
         ),
   )

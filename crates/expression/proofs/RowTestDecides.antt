@@ -4,7 +4,7 @@ use mathlib.Core.Path.{_≡_, refl, ap, sym, _∙_}
 use mathlib.Core.Bool.{true, false, false≢true}
 use mathlib.Core.Logic.{_↔_}
 use mathlib.Core.List.{List, [], _∷_, _++_, append-assoc}
-use Rattle.expression.specs.Token.{Class, Infix, Opening, Closing, Reading, Meaningless, opening, closing, class}
+use Rattle.expression.specs.Token.{Class, Infix, Opening, Closing, Reading, Meaningless, opening, closing, Operators, class}
 use Rattle.expression.specs.Grammar.{Operand, single, bracketed, Expression, operand-then, Tail, end, operator-then, Row}
 use Rattle.expression.specs.RowTest.{Progress, due, done, wrong, whereDue, whereDone, closed, complete, advance, scan, isRow}
 use Rattle.expression.proofs.Classes.{Brackets, brackets}
@@ -94,6 +94,6 @@ module _ (k : ℕ → Class) where
       λ x. ap complete (scan-expression tokens x 0),
     )
 
--- Of a sheet with n operators.
-pub isRow-exactly-if-row : (n : ℕ) (tokens : List ℕ) → (isRow (class n) tokens ≡ true) ↔ Row n tokens
-isRow-exactly-if-row n = isRow-decides (class n) (brackets n)
+-- Of a sheet's operators.
+pub isRow-exactly-if-row : (ops : Operators) (tokens : List ℕ) → (isRow (class ops) tokens ≡ true) ↔ Row ops tokens
+isRow-exactly-if-row ops = isRow-decides (class ops) (brackets ops)

@@ -3,7 +3,7 @@ use Prim.Native.Nat.{ℕ}
 use mathlib.Core.Path.{_≡_, refl, ap, sym, _∙_}
 use mathlib.Core.Logic.{_↔_}
 use mathlib.Core.List.{List, [], _∷_, _++_, append-assoc, append-nil}
-use Rattle.expression.specs.Token.{Class, Infix, opening, closing, class}
+use Rattle.expression.specs.Token.{Class, Infix, opening, closing, Operators, class}
 use Rattle.expression.specs.Tree.{Tree, reading, bracket, binary, yield, Over}
 use Rattle.expression.specs.Grammar.{Operand, single, bracketed, Expression, operand-then, Tail, end, operator-then, Row}
 
@@ -53,6 +53,6 @@ module _ (k : ℕ → Class) where
   pub expression-exactly-if-yielded : (tokens : List ℕ) → Expression k tokens ↔ Yielded tokens
   expression-exactly-if-yielded tokens = (tree-of-expression tokens, λ y. rw (← y .2) (expression-yield (y .0) (y .1)))
 
--- Of the tokens that are a row over n operators.
-pub row-exactly-if-yielded : (n : ℕ) (tokens : List ℕ) → Row n tokens ↔ Yielded (class n) tokens
-row-exactly-if-yielded n = expression-exactly-if-yielded (class n)
+-- Of the tokens that are a row over a sheet's operators.
+pub row-exactly-if-yielded : (ops : Operators) (tokens : List ℕ) → Row ops tokens ↔ Yielded (class ops) tokens
+row-exactly-if-yielded ops = expression-exactly-if-yielded (class ops)

@@ -8,7 +8,7 @@ use lib.ListN.{length}
 use Rattle.expression.specs.Lists.{any, count}
 use Rattle.expression.specs.Limits.{mostTokens, mostRecordBytes}
 use Rattle.expression.specs.Refusal.{Check, first, oversize, stranger, noRow, noTree, short}
-use Rattle.expression.specs.Token.{Class, Infix, Opening, Closing, Reading, Meaningless, closing, class}
+use Rattle.expression.specs.Token.{Class, Infix, Opening, Closing, Reading, Meaningless, closing, Operators, class}
 use Rattle.expression.specs.Tree.{Tree, yield}
 use Rattle.expression.specs.RowTest.{isRow}
 use Rattle.expression.specs.Decode.{treeOf}
@@ -46,25 +46,25 @@ rowTokens (some t) = length (yield t)
 abbrev pub recordBytes : List ℕ → ℕ
 recordBytes tokens = count (λ c. not (eqb c closing)) tokens
 
-module _ (n : ℕ) where
+module _ (ops : Operators) where
   -- Of a row: 1, 3, 6.
   abbrev pub rowChecks : List ℕ → List Check
   rowChecks tokens =
       (ltb mostTokens (length tokens), oversize)
-      ∷ (any (λ c. strangeInRow (class n c)) tokens, stranger)
-      ∷ (not (isRow (class n) tokens), noRow)
+      ∷ (any (λ c. strangeInRow (class ops c)) tokens, stranger)
+      ∷ (not (isRow (class ops) tokens), noRow)
       ∷ []
 
   -- Of a record: 1 for its bytes, 3, 7, 1 for its row.
   abbrev pub recordChecks : List ℕ → List Check
   recordChecks bytes =
       (ltb mostRecordBytes (length bytes), oversize)
-      ∷ (any (λ c. strangeInRecord (class n c)) bytes, stranger)
-      ∷ (isNone (treeOf (class n) bytes), noTree)
-      ∷ (ltb mostTokens (rowTokens (treeOf (class n) bytes)), oversize)
+      ∷ (any (λ c. strangeInRecord (class ops c)) bytes, stranger)
+      ∷ (isNone (treeOf (class ops) bytes), noTree)
+      ∷ (ltb mostTokens (rowTokens (treeOf (class ops) bytes)), oversize)
       ∷ []
 
-  -- The number of a row, where n is the sheet's count of operators.
+  -- The number of a row over the sheet's operators.
   unfoldable pub rowNumber : List ℕ → ℕ
   rowNumber tokens = first (rowChecks tokens)
 
@@ -82,4 +82,4 @@ module _ (n : ℕ) where
 
   -- and a yield by the tree's row.
   unfoldable pub yieldNumber : List ℕ → ℕ → ℕ
-  yieldNumber bytes room = first (recordChecks bytes ++ (shortCheck (rowTokens (treeOf (class n) bytes)) room ∷ []))
+  yieldNumber bytes room = first (recordChecks bytes ++ (shortCheck (rowTokens (treeOf (class ops) bytes)) room ∷ []))

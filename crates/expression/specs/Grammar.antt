@@ -2,7 +2,7 @@
 use Prim.Native.Nat.{ℕ}
 use mathlib.Core.Path.{_≡_}
 use mathlib.Core.List.{List, [], _∷_, _++_}
-use Rattle.expression.specs.Token.{Class, Infix, Reading, opening, closing, class}
+use Rattle.expression.specs.Token.{Class, Infix, Reading, opening, closing, Operators, class}
 
 -- Each constructor ends with what the tokens are.
 mutual
@@ -20,6 +20,6 @@ mutual
     end : {tokens : List ℕ} → tokens ≡ [] → Tail k tokens
     operator-then : {tokens : List ℕ} (o : ℕ) (head rest : List ℕ) → k o ≡ Infix → Operand k head → Tail k rest → tokens ≡ o ∷ head ++ rest → Tail k tokens
 
--- A row over the operators of a sheet with n of them: a list of tokens that is one expression.
-abbrev pub Row : ℕ → List ℕ → Type 0
-Row n tokens = Expression (class n) tokens
+-- A row over a sheet's operators: a list of tokens that is one expression.
+abbrev pub Row : Operators → List ℕ → Type 0
+Row ops tokens = Expression (class ops) tokens

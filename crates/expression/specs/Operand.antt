@@ -5,7 +5,7 @@ use mathlib.Core.Option.{Option, none, some}
 use mathlib.Core.List.{List, []}
 use lib.Dec.{eqb}
 use Rattle.expression.specs.Refusal.{accepted}
-use Rattle.expression.specs.Token.{class}
+use Rattle.expression.specs.Token.{Operators, class}
 use Rattle.expression.specs.Tree.{Tree, reading, bracket, binary, yield, recordOf}
 use Rattle.expression.specs.Decode.{treeOf}
 use Rattle.expression.specs.Checks.{recordNumber}
@@ -26,5 +26,5 @@ operandIn right none = []
 operandIn right (some t) = operandRecord right t
 
 -- The part that an operand call hands back: empty where the record is refused.
-unfoldable pub operandPart : ℕ → Bool → List ℕ → List ℕ
-operandPart n right bytes = cond (eqb (recordNumber n bytes) accepted) (operandIn right (treeOf (class n) bytes)) []
+unfoldable pub operandPart : Operators → Bool → List ℕ → List ℕ
+operandPart ops right bytes = cond (eqb (recordNumber ops bytes) accepted) (operandIn right (treeOf (class ops) bytes)) []

@@ -22,10 +22,17 @@ firstReading = 0x80
 abbrev pub lastReading : ℕ
 lastReading = 0xff
 
--- The class of a byte where the sheet used has n operators. 00 to 1F are operators; one that is not below n has no meaning there.
-unfoldable pub class : ℕ → ℕ → Class
-class n c =
-    cond (ltb c mostOperators) (cond (ltb c n) Infix Meaningless)
+-- The operators of a sheet: all that tells the class of a byte. The count is document 01's n.
+pub record Operators : Type 0 where
+  pub count : ℕ
+
+abbrev pub operators : ℕ → Operators
+operators n = record { count = n }
+
+-- The class of a byte under a sheet's operators. 00 to 1F are operators; one that is not below n has no meaning there.
+unfoldable pub class : Operators → ℕ → Class
+class ops c =
+    cond (ltb c mostOperators) (cond (ltb c (ops .count)) Infix Meaningless)
     (cond (eqb c opening) Opening
     (cond (eqb c closing) Closing
     (cond (ltb c firstReading) Meaningless

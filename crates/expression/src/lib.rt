@@ -1,1 +1,4 @@
-// Tokens, trees, records and rows: definitions in specs/, theorems in proofs/. No function.
+// The bytes, the lengths and the numbers of document 01 for the code, each named once. Tokens, trees and rows stand in the specification.
+pub mod limits;
+pub mod refusal;
+pub mod token;

@@ -9,7 +9,7 @@ use lib.ListN.{length}
 use borrow.Author.Tests.{ltb-false}
 use Rattle.expression.specs.Limits.{mostTokens, mostRecordBytes}
 use Rattle.expression.specs.Refusal.{Check, Passed, first, accepted}
-use Rattle.expression.specs.Token.{class}
+use Rattle.expression.specs.Token.{Operators, class}
 use Rattle.expression.specs.Tree.{Tree, yield}
 use Rattle.expression.specs.Decode.{treeOf}
 use Rattle.expression.specs.Checks.{isNone, rowTokens, recordChecks, recordNumber}
@@ -31,34 +31,34 @@ first-refused (c ∷ cs) ds h = go (c .0) (first-refused cs ds) h
     go false f h = f h
 
 -- t is the tree of the record
-pub record Accepted (n : ℕ) (bytes : List ℕ) (t : Tree) : Type 0 where
-  pub passed : Passed (recordChecks n bytes)
-  pub read : treeOf (class n) bytes ≡ some t
-  pub stands : TreeAt n bytes 0 t (length bytes)
+pub record Accepted (ops : Operators) (bytes : List ℕ) (t : Tree) : Type 0 where
+  pub passed : Passed (recordChecks ops bytes)
+  pub read : treeOf (class ops) bytes ≡ some t
+  pub stands : TreeAt ops bytes 0 t (length bytes)
   pub bytes-fit : length bytes ≤ mostRecordBytes
   pub row-is : length (yield t) ≡ rowLength bytes
   pub row-fits : length (yield t) ≤ mostTokens
 
-module _ (n : ℕ) (bytes : List ℕ) where
-  all-passed : recordNumber n bytes ≡ accepted → Passed (recordChecks n bytes)
+module _ (ops : Operators) (bytes : List ℕ) where
+  all-passed : recordNumber ops bytes ≡ accepted → Passed (recordChecks ops bytes)
   unfolding recordNumber
-  all-passed e = passed-first (recordChecks n bytes) (λ e. omega arith, (λ e. omega arith, (λ e. omega arith, (λ e. omega arith, tt)))) e
+  all-passed e = passed-first (recordChecks ops bytes) (λ e. omega arith, (λ e. omega arith, (λ e. omega arith, (λ e. omega arith, tt)))) e
 
   is-tree : (o : Option Tree) → isNone o ≡ false → (t : Tree) × (o ≡ some t)
   is-tree none e = let z : _≡_ {A = ℕ} 0 1 = cc in absurd (omega arith)
   is-tree (some t) e = (t, refl)
 
-  pub accepted-tree : recordNumber n bytes ≡ accepted → (t : Tree) × Accepted n bytes t
+  pub accepted-tree : recordNumber ops bytes ≡ accepted → (t : Tree) × Accepted ops bytes t
   accepted-tree e =
       let p = all-passed e in
-      let (t, q) = is-tree (treeOf (class n) bytes) (p .1 .1 .0) in (
+      let (t, q) = is-tree (treeOf (class ops) bytes) (p .1 .1 .0) in (
         t,
         record {
           passed = p;
           read = q;
-          stands = whole n bytes t q;
+          stands = whole ops bytes t q;
           bytes-fit = ltb-false mostRecordBytes (length bytes) (p .0);
-          row-is = sym (ap rowTokens q) ∙ row-length-of-record (class n) (brackets n) bytes t q;
-          row-fits = omega (arith, ap rowTokens q, ltb-false mostTokens (rowTokens (treeOf (class n) bytes)) (p .1 .1 .1 .0));
+          row-is = sym (ap rowTokens q) ∙ row-length-of-record (class ops) (brackets ops) bytes t q;
+          row-fits = omega (arith, ap rowTokens q, ltb-false mostTokens (rowTokens (treeOf (class ops) bytes)) (p .1 .1 .1 .0));
         },
       )

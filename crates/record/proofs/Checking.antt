@@ -10,41 +10,51 @@ use lib.ListN.{length, getD, drop, drop-of-length-le}
 use lib.Seq.{drop-cons}
 use borrow.Author.Needs.{needs}
 use borrow.Author.Tests.{ltb-true, ltb-false, lt-ltb, le-ltb, le-leb, lt-leb, eq-eqb, ne-eqb}
-use mir.Syntax.{w8, w64}
+use mir.Syntax.{w8, w16, w64}
 use mir.Val.{Fits}
 use Rattle.expression.specs.Lists.{any, one, count}
 use Rattle.expression.specs.Limits.{mostOperators, mostRecordBytes}
-use Rattle.expression.specs.Token.{Class, opening, closing, firstReading, class}
+use Rattle.expression.specs.Token.{Class, opening, closing, firstReading, Operators, operators, class}
 use Rattle.expression.specs.Checks.{strangeInRecord}
-use Rattle.expression.proofs.Looking.{looked-none, looked-more, looked-all}
+use Rattle.expression.proofs.Looking.{Looked, looked-none, looked-more, looked-all}
 use Rattle.expression.proofs.Cond.{by-cond}
 use Rattle.expression.proofs.Classes.{by-class, class-reading}
-use Rattle.record.specs.Checks.{behind, lists, rowLength}
+use Rattle.record.specs.Checks.{hasStranger, behind, lists, rowLength}
 
 -- a stranger, by the tests of its byte
 module _ (n byte : ℕ) where
-  pub low : byte < mostOperators → leb n byte ≡ strangeInRecord (class n byte)
+  pub low : byte < mostOperators → leb n byte ≡ strangeInRecord (class (operators n) byte)
   unfolding class
   low h =
       rw (lt-ltb byte mostOperators h)
       (by-cond (λ k. leb n byte ≡ strangeInRecord k) (ltb byte n) (λ g. lt-leb n byte (ltb-true byte n g)) (λ g. le-leb n byte (ltb-false byte n g)))
 
-  pub middle : mostOperators ≤ byte → byte < firstReading → not (eqb byte opening) ≡ strangeInRecord (class n byte)
+  pub middle : mostOperators ≤ byte → byte < firstReading → not (eqb byte opening) ≡ strangeInRecord (class (operators n) byte)
   unfolding class
   middle h g =
       rw (le-ltb byte mostOperators h)
       (by-cond (λ k. not (eqb byte opening) ≡ strangeInRecord k) (eqb byte opening) (λ e. rw e)
       (λ e. by-cond (λ k. not (eqb byte opening) ≡ strangeInRecord k) (eqb byte closing) (λ _. rw e) (λ _. rw (lt-ltb byte firstReading g, e))))
 
-  pub high : Fits w8 byte → firstReading ≤ byte → false ≡ strangeInRecord (class n byte)
-  high f h = sym (ap strangeInRecord (class-reading n byte h (omega arith)))
+  pub high : Fits w8 byte → firstReading ≤ byte → false ≡ strangeInRecord (class (operators n) byte)
+  high f h = sym (ap strangeInRecord (class-reading (operators n) byte h (omega arith)))
 
 pub ruleset is-strange-ways = (low, middle, high, needs)
 
 abbrev pub strange : ℕ → ℕ → Bool
-strange n c = strangeInRecord (class n c)
+strange n c = strangeInRecord (class (operators n) c)
 
-pub ruleset stranger-ways = (looked-none, looked-more, looked-all, needs)
+pub looked-through : (n : ℕ) (bytes : List ℕ) {at : ℕ} {found : Bool} → Looked (strange n) bytes found at → length bytes ≤ at → found ≡ hasStranger (operators n) bytes
+unfolding hasStranger
+looked-through n bytes l h = looked-all (strange n) bytes l h
+
+pub ruleset strange-ways = (looked-none, looked-more, looked-through, needs)
+
+-- strangers are told by the count of operators alone
+pub by-count : (ops : Operators) (bytes : List ℕ) {n : ℕ} {r : Bool} → n ≡ ops .count → r ≡ hasStranger (operators n) bytes → r ≡ hasStranger ops bytes
+by-count ops bytes e q = q ∙ ap (λ m. hasStranger (operators m) bytes) e
+
+pub ruleset stranger-ways = (by-count, needs)
 
 or-left : (a b : Bool) → (a || b) ≡ false → a ≡ false
 or-left true b e = e
@@ -73,9 +83,9 @@ fewer-none byte h = rw (lt-leb firstReading byte h)
 pub fewer-one : (byte : ℕ) → firstReading ≤ byte → 1 ≡ one (leb firstReading byte)
 fewer-one byte h = rw (le-leb firstReading byte h)
 
-behind-is : (n c d : ℕ) → strangeInRecord (class n c) ≡ false → behind (class n c) d ≡ suc d + one (ltb c opening) - one (leb firstReading c)
-behind-is n c d =
-    by-class n (λ y. strangeInRecord y ≡ false → behind y d ≡ suc d + one (ltb c opening) - one (leb firstReading c)) c
+behind-is : (ops : Operators) (c d : ℕ) → strangeInRecord (class ops c) ≡ false → behind (class ops c) d ≡ suc d + one (ltb c opening) - one (leb firstReading c)
+behind-is ops c d =
+    by-class ops (λ y. strangeInRecord y ≡ false → behind y d ≡ suc d + one (ltb c opening) - one (leb firstReading c)) c
     (λ h _ _. rw (lt-ltb c opening h, lt-leb firstReading c (omega arith)) (omega arith))
     (λ e _. rw (le-ltb c opening (omega arith), lt-leb firstReading c (omega arith)) (omega arith))
     (λ _ e. cc)
@@ -106,30 +116,31 @@ none-due : (k : ℕ → Class) (c : ℕ) (cs : List ℕ) → false ≡ lists k 0
 unfolding lists
 none-due k c cs = refl
 
-lists-step : (n c : ℕ) (cs : List ℕ) (due : ℕ) → strangeInRecord (class n c) ≡ false → (due ≡ 0 → ⊥)
-    → lists (class n) due (c ∷ cs) ≡ lists (class n) (due + one (ltb c opening) - one (leb firstReading c)) cs
+lists-step : (ops : Operators) (c : ℕ) (cs : List ℕ) (due : ℕ) → strangeInRecord (class ops c) ≡ false → (due ≡ 0 → ⊥)
+    → lists (class ops) due (c ∷ cs) ≡ lists (class ops) (due + one (ltb c opening) - one (leb firstReading c)) cs
 unfolding lists
-lists-step n c cs zero e h = absurd (h refl)
-lists-step n c cs (suc d) e h = rw e (ap (λ x. lists (class n) x cs) (behind-is n c d e))
+lists-step ops c cs zero e h = absurd (h refl)
+lists-step ops c cs (suc d) e h = rw e (ap (λ x. lists (class ops) x cs) (behind-is ops c d e))
 
 -- What is due at the place is listed from there on.
-module _ (n : ℕ) (bytes : List ℕ) (at due : ℕ) (same : lists (class n) due (drop at bytes) ≡ lists (class n) 1 bytes) where
-  pub too-early : at < length bytes → due ≡ 0 → false ≡ lists (class n) 1 bytes
+module _ (ops : Operators) (bytes : List ℕ) (at due : ℕ) (same : lists (class ops) due (drop at bytes) ≡ lists (class ops) 1 bytes) where
+  pub too-early : at < length bytes → due ≡ 0 → false ≡ lists (class ops) 1 bytes
   too-early h e =
-      none-due (class n) (getD bytes at 0) (drop (suc at) bytes) ∙ ap (λ d. lists (class n) d (getD bytes at 0 ∷ drop (suc at) bytes)) (sym e)
-      ∙ ap (lists (class n) due) (sym (drop-cons bytes at 0 h)) ∙ same
+      none-due (class ops) (getD bytes at 0) (drop (suc at) bytes) ∙ ap (λ d. lists (class ops) d (getD bytes at 0 ∷ drop (suc at) bytes)) (sym e)
+      ∙ ap (lists (class ops) due) (sym (drop-cons bytes at 0 h)) ∙ same
 
-  pub goes-on : {more fewer : ℕ} → at < length bytes → any (λ c. strangeInRecord (class n c)) bytes ≡ false → (due ≡ 0 → ⊥)
+  pub goes-on : {more fewer : ℕ} → at < length bytes → hasStranger ops bytes ≡ false → (due ≡ 0 → ⊥)
       → more ≡ one (ltb (getD bytes at 0) opening) → fewer ≡ one (leb firstReading (getD bytes at 0))
-      → lists (class n) (due + more - fewer) (drop (at + 1) bytes) ≡ lists (class n) 1 bytes
+      → lists (class ops) (due + more - fewer) (drop (at + 1) bytes) ≡ lists (class ops) 1 bytes
+  unfolding hasStranger
   goes-on h e some m f =
-      ap (λ d. lists (class n) d (drop (at + 1) bytes)) (omega (arith, m, f))
-      ∙ ap (λ i. lists (class n) (due + one (ltb (getD bytes at 0) opening) - one (leb firstReading (getD bytes at 0))) (drop i bytes)) (add-one at)
-      ∙ sym (lists-step n (getD bytes at 0) (drop (suc at) bytes) due (plain-byte (λ c. strangeInRecord (class n c)) bytes at e h) some)
-      ∙ ap (lists (class n) due) (sym (drop-cons bytes at 0 h)) ∙ same
+      ap (λ d. lists (class ops) d (drop (at + 1) bytes)) (omega (arith, m, f))
+      ∙ ap (λ i. lists (class ops) (due + one (ltb (getD bytes at 0) opening) - one (leb firstReading (getD bytes at 0))) (drop i bytes)) (add-one at)
+      ∙ sym (lists-step ops (getD bytes at 0) (drop (suc at) bytes) due (plain-byte (λ c. strangeInRecord (class ops c)) bytes at e h) some)
+      ∙ ap (lists (class ops) due) (sym (drop-cons bytes at 0 h)) ∙ same
 
-  pub at-end : length bytes ≤ at → eqb due 0 ≡ lists (class n) 1 bytes
-  at-end h = none-left (class n) due ∙ ap (lists (class n) due) (sym (drop-of-length-le bytes h)) ∙ same
+  pub at-end : length bytes ≤ at → eqb due 0 ≡ lists (class ops) 1 bytes
+  at-end h = none-left (class ops) due ∙ ap (lists (class ops) due) (sym (drop-of-length-le bytes h)) ∙ same
 
 -- the tokens of the row
 pub opens-one : (byte : ℕ) → byte ≡ opening → 1 ≡ one (eqb byte opening)
@@ -139,7 +150,7 @@ pub opens-none : (byte : ℕ) → (byte ≡ opening → ⊥) → 0 ≡ one (eqb 
 opens-none byte e = rw (ne-eqb byte opening e)
 
 module _ (bytes : List ℕ) (at brackets : ℕ) (small : brackets ≤ at) (within : at < length bytes) where
-  pub brackets-fit : {v : ℕ} → length bytes ≤ mostRecordBytes → v ≡ one (eqb (getD bytes at 0) opening) → Fits w8 (brackets + v)
+  pub brackets-fit : {v : ℕ} → length bytes ≤ mostRecordBytes → v ≡ one (eqb (getD bytes at 0) opening) → Fits w16 (brackets + v)
   brackets-fit h e = omega (arith, one-small (eqb (getD bytes at 0) opening))
 
   pub brackets-small : {v : ℕ} → v ≡ one (eqb (getD bytes at 0) opening) → brackets + v ≤ at + 1

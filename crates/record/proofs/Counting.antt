@@ -14,8 +14,9 @@ use Rattle.expression.specs.Lists.{one, count}
 use Rattle.expression.specs.Limits.{mostRecordBytes}
 use Rattle.expression.specs.Tree.{Tree, reading, bracket, binary}
 use Rattle.disambiguation.specs.Edges.{seenFromRight, seenFromLeft}
+use Rattle.sheet.specs.Layout.{operatorsOf}
 use Rattle.sheet.specs.Relation.{closesIn}
-use Rattle.record.specs.Held.{front}
+use Rattle.record.specs.Held.{front, base}
 use Rattle.record.specs.Node.{nodeAt}
 use Rattle.record.specs.TreeAt.{TreeAt}
 use Rattle.record.specs.Counts.{excludedLeft, conflictsIn, onLeft, onRight, tallyEnd, tallyCount, Counts}
@@ -27,45 +28,45 @@ use Rattle.record.proofs.Holding.{front-fits}
 use Rattle.record.proofs.Trees.{topOf, record-positive, top-node, a-reading, a-bracket, an-operator, no-tree, none-past}
 
 -- the sides
-module _ (words : List ℕ) (o : ℕ) where
-  no-left : (x : Node) → OneOf (0 ∷ 1 ∷ 3 ∷ []) (tagOf nodes.the-type x) → 0 ≡ onLeft words o x
+module _ (sheet : List ℕ) (o : ℕ) where
+  no-left : (x : Node) → OneOf (0 ∷ 1 ∷ 3 ∷ []) (tagOf nodes.the-type x) → 0 ≡ onLeft sheet o x
   no-left (node.Reading a) k = refl
   no-left node.Bracket k = refl
   no-left (node.Operator b) k = absurd (⊎-elim (λ w. omega arith) (⊎-elim (λ w. omega arith) (λ w. omega arith)) k)
   no-left node.Other k = refl
 
-  no-right : (x : Node) → OneOf (0 ∷ 1 ∷ 3 ∷ []) (tagOf nodes.the-type x) → 0 ≡ onRight words o x
+  no-right : (x : Node) → OneOf (0 ∷ 1 ∷ 3 ∷ []) (tagOf nodes.the-type x) → 0 ≡ onRight sheet o x
   no-right (node.Reading a) k = refl
   no-right node.Bracket k = refl
   no-right (node.Operator b) k = absurd (⊎-elim (λ w. omega arith) (⊎-elim (λ w. omega arith) (λ w. omega arith)) k)
   no-right node.Other k = refl
 
   module _ (y : Node) {x : Node} (found : x ≡ y) where
-    pub left-none : OneOf (0 ∷ 1 ∷ 3 ∷ []) (tagOf nodes.the-type x) → 0 ≡ onLeft words o y
-    left-none k = no-left x k ∙ ap (onLeft words o) found
+    pub left-none : OneOf (0 ∷ 1 ∷ 3 ∷ []) (tagOf nodes.the-type x) → 0 ≡ onLeft sheet o y
+    left-none k = no-left x k ∙ ap (onLeft sheet o) found
 
-    pub right-none : OneOf (0 ∷ 1 ∷ 3 ∷ []) (tagOf nodes.the-type x) → 0 ≡ onRight words o y
-    right-none k = no-right x k ∙ ap (onRight words o) found
+    pub right-none : OneOf (0 ∷ 1 ∷ 3 ∷ []) (tagOf nodes.the-type x) → 0 ≡ onRight sheet o y
+    right-none k = no-right x k ∙ ap (onRight sheet o) found
 
-    pub left-in-order : {b : ℕ} {q : Bool} → x ≡ node.Operator b → q ≡ closesIn words b o → q ≡ true → 0 ≡ onLeft words o y
-    left-in-order is a e = sym (ap (onLeft words o) (sym found ∙ is) ∙ ap (λ z. one (not z)) (sym a ∙ e))
+    pub left-in-order : {b : ℕ} {q : Bool} → x ≡ node.Operator b → q ≡ closesIn sheet b o → q ≡ true → 0 ≡ onLeft sheet o y
+    left-in-order is a e = sym (ap (onLeft sheet o) (sym found ∙ is) ∙ ap (λ z. one (not z)) (sym a ∙ e))
 
-    pub left-shown : {b : ℕ} {q : Bool} → x ≡ node.Operator b → q ≡ closesIn words b o → q ≡ false → 1 ≡ onLeft words o y
-    left-shown is a e = sym (ap (onLeft words o) (sym found ∙ is) ∙ ap (λ z. one (not z)) (sym a ∙ e))
+    pub left-shown : {b : ℕ} {q : Bool} → x ≡ node.Operator b → q ≡ closesIn sheet b o → q ≡ false → 1 ≡ onLeft sheet o y
+    left-shown is a e = sym (ap (onLeft sheet o) (sym found ∙ is) ∙ ap (λ z. one (not z)) (sym a ∙ e))
 
-    pub right-shown : {b : ℕ} {q : Bool} → x ≡ node.Operator b → q ≡ closesIn words o b → q ≡ true → 1 ≡ onRight words o y
-    right-shown is a e = sym (ap (onRight words o) (sym found ∙ is) ∙ ap one (sym a ∙ e))
+    pub right-shown : {b : ℕ} {q : Bool} → x ≡ node.Operator b → q ≡ closesIn sheet o b → q ≡ true → 1 ≡ onRight sheet o y
+    right-shown is a e = sym (ap (onRight sheet o) (sym found ∙ is) ∙ ap one (sym a ∙ e))
 
-    pub right-in-order : {b : ℕ} {q : Bool} → x ≡ node.Operator b → q ≡ closesIn words o b → q ≡ false → 0 ≡ onRight words o y
-    right-in-order is a e = sym (ap (onRight words o) (sym found ∙ is) ∙ ap one (sym a ∙ e))
+    pub right-in-order : {b : ℕ} {q : Bool} → x ≡ node.Operator b → q ≡ closesIn sheet o b → q ≡ false → 0 ≡ onRight sheet o y
+    right-in-order is a e = sym (ap (onRight sheet o) (sym found ∙ is) ∙ ap one (sym a ∙ e))
 
   -- a side shows what the tree's top does
-  left-count : (t : Tree) → onLeft words o (topOf t) ≡ count (excludedLeft words o) (seenFromRight t)
+  left-count : (t : Tree) → onLeft sheet o (topOf t) ≡ count (excludedLeft sheet o) (seenFromRight t)
   left-count (reading a) = refl
   left-count (bracket t) = refl
   left-count (binary b l r) = omega arith
 
-  right-count : (t : Tree) → onRight words o (topOf t) ≡ count (closesIn words o) (seenFromLeft t)
+  right-count : (t : Tree) → onRight sheet o (topOf t) ≡ count (closesIn sheet o) (seenFromLeft t)
   right-count (reading a) = refl
   right-count (bracket t) = refl
   right-count (binary b l r) = omega arith
@@ -75,13 +76,13 @@ pub ruleset on-left-ways = (left-none, left-in-order, left-shown, needs)
 pub ruleset on-right-ways = (right-none, right-shown, right-in-order, needs)
 
 -- an answer that counted nothing has no tree
-pub not-counted : {A : Type 0} {n : ℕ} {words bytes : List ℕ} {from before to r : ℕ} (t : Tree) → r ≡ noTree → Counts n words bytes from before r
-    → TreeAt n bytes from t to → A
+pub not-counted : {A : Type 0} {sheet bytes : List ℕ} {from before to r : ℕ} (t : Tree) → r ≡ noTree → Counts sheet bytes from before r
+    → TreeAt (operatorsOf sheet) bytes from t to → A
 not-counted {to = to} t e h x = absurd (omega (arith, h .counted t to x .0, x .ends, record-positive t))
 
 -- 0 where no tree stands
-none-here : {n : ℕ} (words : List ℕ) {bytes : List ℕ} {from : ℕ} (before : ℕ) → ((t : Tree) (to : ℕ) → TreeAt n bytes from t to → ⊥) → Counts n words bytes from before noTree
-none-here words before never =
+none-here : (sheet : List ℕ) {bytes : List ℕ} {from : ℕ} (before : ℕ) → ((t : Tree) (to : ℕ) → TreeAt (operatorsOf sheet) bytes from t to → ⊥) → Counts sheet bytes from before noTree
+none-here sheet before never =
     record {
       counted = λ t to k. absurd (never t to k);
       onward = λ e. absurd (e refl);
@@ -89,79 +90,79 @@ none-here words before never =
       small = λ e. absurd (e refl);
     }
 
-pub past-end : (n : ℕ) (words : List ℕ) (size : ℕ) (held : List ℕ) (from before : ℕ) → size ≤ from → Counts n words (front size held) from before noTree
-past-end n words size held from before h = none-here words before (λ t to x. none-past n size held from h t x)
+pub past-end : (sheet : List ℕ) (size : ℕ) (held : List ℕ) (from before : ℕ) → size ≤ from → Counts sheet (front size held) from before noTree
+past-end sheet size held from before h = none-here sheet before (λ t to x. none-past (operatorsOf sheet) size held from h t x)
 
-module _ (n : ℕ) (words bytes : List ℕ) (from before : ℕ) {x : Node} (found : x ≡ nodeAt n bytes from) where
-  pub a-leaf : {a : ℕ} → length bytes ≤ mostRecordBytes → before ≤ from → x ≡ node.Reading a → Counts n words bytes from before ((from + 1) * 256 + before)
+module _ (sheet bytes : List ℕ) (from before : ℕ) {x : Node} (found : x ≡ nodeAt (operatorsOf sheet) bytes from) where
+  pub a-leaf : {a : ℕ} → length bytes ≤ mostRecordBytes → before ≤ from → x ≡ node.Reading a → Counts sheet bytes from before ((from + 1) * base + before)
   a-leaf most low is =
-      let d = within-as n bytes from found is refl in
+      let d = within-as (operatorsOf sheet) bytes from found is refl in
       record {
-        counted = λ t to h. let u = a-reading n bytes from found is t h in (omega (arith, u .1), omega (arith, ap (conflictsIn words) (u .0)));
+        counted = λ t to h. let u = a-reading (operatorsOf sheet) bytes from found is t h in (omega (arith, u .1), omega (arith, ap (conflictsIn sheet) (u .0)));
         onward = λ e. omega arith;
         within = omega arith;
         small = λ e. omega arith;
       }
 
-  pub a-bracketed : {r : ℕ} → x ≡ node.Bracket → Counts n words bytes (from + 1) before r → Counts n words bytes from before r
+  pub a-bracketed : {r : ℕ} → x ≡ node.Bracket → Counts sheet bytes (from + 1) before r → Counts sheet bytes from before r
   a-bracketed is h =
       record {
         counted = λ t to k.
-            let u = a-bracket n bytes from found is t k in
+            let u = a-bracket (operatorsOf sheet) bytes from found is t k in
             let a = h .counted (u .0) to (u .2) in
-            (a .0, omega (arith, a .1, ap (conflictsIn words) (u .1)));
+            (a .0, omega (arith, a .1, ap (conflictsIn sheet) (u .1)));
         onward = λ e. let k = h .onward e in omega arith;
         within = h .within;
         small = h .small;
       }
 
   pub other : OneOf (1 ∷ 2 ∷ 3 ∷ []) (tagOf nodes.the-type x) → OneOf (0 ∷ 2 ∷ 3 ∷ []) (tagOf nodes.the-type x) → OneOf (0 ∷ 1 ∷ 3 ∷ []) (tagOf nodes.the-type x)
-      → Counts n words bytes from before noTree
-  other p q r = none-here words before (λ t to k. no-tree n bytes from found (is-other x p q r) t k)
+      → Counts sheet bytes from before noTree
+  other p q r = none-here sheet before (λ t to k. no-tree (operatorsOf sheet) bytes from found (is-other x p q r) t k)
 
-  module _ (o first l : ℕ) (is : x ≡ node.Operator o) (h : Counts n words bytes (from + 1) (before + first) l) where
-    pub left-refused : l ≡ noTree → Counts n words bytes from before noTree
-    left-refused e = none-here words before (λ t to k. let u = an-operator n bytes from found is t k in not-counted (u .0) e h (u .4))
+  module _ (o first l : ℕ) (is : x ≡ node.Operator o) (h : Counts sheet bytes (from + 1) (before + first) l) where
+    pub left-refused : l ≡ noTree → Counts sheet bytes from before noTree
+    left-refused e = none-here sheet before (λ t to k. let u = an-operator (operatorsOf sheet) bytes from found is t k in not-counted (u .0) e h (u .4))
 
-    pub an-infix : {second r : ℕ} → first ≡ onLeft words o (nodeAt n bytes (from + 1)) → (l ≡ noTree → ⊥)
-        → second ≡ onRight words o (nodeAt n bytes (tallyEnd l)) → Counts n words bytes (tallyEnd l) (tallyCount l + second) r → Counts n words bytes from before r
+    pub an-infix : {second r : ℕ} → first ≡ onLeft sheet o (nodeAt (operatorsOf sheet) bytes (from + 1)) → (l ≡ noTree → ⊥)
+        → second ≡ onRight sheet o (nodeAt (operatorsOf sheet) bytes (tallyEnd l)) → Counts sheet bytes (tallyEnd l) (tallyCount l + second) r → Counts sheet bytes from before r
     an-infix {second} {r} first-is some second-is g =
         record {
           counted = λ t to k.
-              let u = an-operator n bytes from found is t k in
+              let u = an-operator (operatorsOf sheet) bytes from found is t k in
               let a = h .counted (u .0) (u .2) (u .4) in
-              let x : TreeAt n bytes (tallyEnd l) (u .1) to = rw (sym (a .0)) at (u .5) in
+              let x : TreeAt (operatorsOf sheet) bytes (tallyEnd l) (u .1) to = rw (sym (a .0)) at (u .5) in
               let b = g .counted (u .1) to x in
-              let f : first ≡ _ = first-is ∙ ap (onLeft words o) (top-node n bytes (from + 1) (u .0) (u .4)) ∙ left-count words o (u .0) in
-              let s : second ≡ _ = second-is ∙ ap (onRight words o) (top-node n bytes (tallyEnd l) (u .1) x) ∙ right-count words o (u .1) in
-              (b .0, omega (arith, b .1, a .1, f, s, ap (conflictsIn words) (u .3)));
+              let f : first ≡ _ = first-is ∙ ap (onLeft sheet o) (top-node (operatorsOf sheet) bytes (from + 1) (u .0) (u .4)) ∙ left-count sheet o (u .0) in
+              let s : second ≡ _ = second-is ∙ ap (onRight sheet o) (top-node (operatorsOf sheet) bytes (tallyEnd l) (u .1) x) ∙ right-count sheet o (u .1) in
+              (b .0, omega (arith, b .1, a .1, f, s, ap (conflictsIn sheet) (u .3)));
           onward = λ e. let a = h .onward some in let b = g .onward e in omega arith;
           within = g .within;
           small = g .small;
         }
 
 -- A left operand that is a reading, two places on: no call is made for it.
-module _ (n : ℕ) (bytes : List ℕ) (from : ℕ) {o a : ℕ} {x y : Node} (found : x ≡ nodeAt n bytes from) (is : x ≡ node.Operator o)
-    (next : y ≡ nodeAt n bytes (from + 1)) (leaf : y ≡ node.Reading a) where
-  pub a-leaf-infix : (words : List ℕ) (before : ℕ) {second r : ℕ} → second ≡ onRight words o (nodeAt n bytes (from + 2))
-      → Counts n words bytes (from + 2) (before + second) r → Counts n words bytes from before r
-  a-leaf-infix words before {second} {r} second-is g =
+module _ (sheet bytes : List ℕ) (from : ℕ) {o a : ℕ} {x y : Node} (found : x ≡ nodeAt (operatorsOf sheet) bytes from) (is : x ≡ node.Operator o)
+    (next : y ≡ nodeAt (operatorsOf sheet) bytes (from + 1)) (leaf : y ≡ node.Reading a) where
+  pub a-leaf-infix : (before : ℕ) {second r : ℕ} → second ≡ onRight sheet o (nodeAt (operatorsOf sheet) bytes (from + 2))
+      → Counts sheet bytes (from + 2) (before + second) r → Counts sheet bytes from before r
+  a-leaf-infix before {second} {r} second-is g =
       record {
         counted = λ t to k.
-            let u = an-operator n bytes from found is t k in
-            let v = a-reading n bytes (from + 1) next leaf (u .0) (u .4) in
+            let u = an-operator (operatorsOf sheet) bytes from found is t k in
+            let v = a-reading (operatorsOf sheet) bytes (from + 1) next leaf (u .0) (u .4) in
             let e : u .2 ≡ from + 2 = v .1 ∙ omega arith in
-            let z : TreeAt n bytes (from + 2) (u .1) to = rw e at (u .5) in
+            let z : TreeAt (operatorsOf sheet) bytes (from + 2) (u .1) to = rw e at (u .5) in
             let b = g .counted (u .1) to z in
-            let s : second ≡ _ = second-is ∙ ap (onRight words o) (top-node n bytes (from + 2) (u .1) z) ∙ right-count words o (u .1) in
-            (b .0, omega (arith, b .1, s, ap (conflictsIn words) (u .3 ∙ ap (λ l. binary o l (u .1)) (v .0))));
+            let s : second ≡ _ = second-is ∙ ap (onRight sheet o) (top-node (operatorsOf sheet) bytes (from + 2) (u .1) z) ∙ right-count sheet o (u .1) in
+            (b .0, omega (arith, b .1, s, ap (conflictsIn sheet) (u .3 ∙ ap (λ l. binary o l (u .1)) (v .0))));
         onward = λ e. let b = g .onward e in omega arith;
         within = g .within;
         small = g .small;
       }
 
 -- what the sums and the calls ask
-module _ (from : ℕ) {n : ℕ} {words bytes : List ℕ} {before l : ℕ} (h : Counts n words bytes (from + 1) before l) (some : l ≡ noTree → ⊥) where
+module _ (from : ℕ) {sheet bytes : List ℕ} {before l : ℕ} (h : Counts sheet bytes (from + 1) before l) (some : l ≡ noTree → ⊥) where
   pub mid-falls : {size t : ℕ} → from < size → size - from ≡ t → size - tallyEnd l < t
   mid-falls low e = omega (arith, h .onward some)
 

@@ -7,6 +7,7 @@ use mathlib.Core.List.{List, _++_}
 use lib.ListN.{length, take, drop, length-take}
 use lib.Seq.{take-all, take-at}
 use Rattle.expression.specs.Limits.{mostRecordBytes}
+use Rattle.expression.specs.Token.{Operators}
 use Rattle.record.specs.Held.{front}
 use Rattle.record.specs.Node.{nodeAt}
 use Rattle.record.specs.declared.Node.{Node}
@@ -25,6 +26,6 @@ front-copied bytes held rest e =
     ap (take (length bytes)) (e ∙ ap (λ b. b ++ rest) (take-all (length bytes) bytes (omega arith))) ∙ take-at bytes rest (length bytes) refl
 
 -- the part from the start on
-pub from-start : (n size at : ℕ) (held : List ℕ) {x : Node} → x ≡ nodeAt n (take (size - 0) (drop 0 held)) at → x ≡ nodeAt n (front size held) at
+pub from-start : (ops : Operators) (size at : ℕ) (held : List ℕ) {x : Node} → x ≡ nodeAt ops (take (size - 0) (drop 0 held)) at → x ≡ nodeAt ops (front size held) at
 unfolding front
-from-start n size at held e = e ∙ ap (λ k. nodeAt n (take k held) at) (sub-zero size)
+from-start ops size at held e = e ∙ ap (λ k. nodeAt ops (take k held) at) (sub-zero size)

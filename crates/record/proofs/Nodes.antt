@@ -14,41 +14,41 @@ use mir.Val.{Fits}
 use types.Run.{OneOf}
 use denote.Enum.Declared.{tagOf}
 use Rattle.expression.specs.Limits.{mostOperators}
-use Rattle.expression.specs.Token.{Reading, opening, firstReading, class}
+use Rattle.expression.specs.Token.{Reading, opening, firstReading, Operators, class}
 use Rattle.expression.proofs.Classes.{by-class, class-operator, class-reading, brackets}
 use Rattle.record.specs.Node.{nodeOf, nodeAt}
 use Rattle.record.specs.declared.Node.{Node}
 use Rattle.record.specs.declared.Node.the-variants as node
 use Rattle.record.proofs.Node.{the-type}
 
-module _ (n : ℕ) (bytes : List ℕ) (at : ℕ) where
-  pub past : length bytes ≤ at → node.Other ≡ nodeAt n bytes at
+module _ (ops : Operators) (bytes : List ℕ) (at : ℕ) where
+  pub past : length bytes ≤ at → node.Other ≡ nodeAt ops bytes at
   past h = rw (le-ltb at (length bytes) h)
 
   -- within the bytes, the byte's class decides
-  pub within-node : at < length bytes → nodeAt n bytes at ≡ nodeOf (class n (getD bytes at 0)) (getD bytes at 0)
+  pub within-node : at < length bytes → nodeAt ops bytes at ≡ nodeOf (class ops (getD bytes at 0)) (getD bytes at 0)
   within-node h = rw (lt-ltb at (length bytes) h)
 
-  pub operator : at < length bytes → getD bytes at 0 < mostOperators → getD bytes at 0 < n → node.Operator (getD bytes at 0) ≡ nodeAt n bytes at
-  operator h a b = sym (within-node h ∙ ap (λ k. nodeOf k (getD bytes at 0)) (class-operator n (getD bytes at 0) a b))
+  pub operator : {n : ℕ} → at < length bytes → getD bytes at 0 < mostOperators → n ≡ ops .count → getD bytes at 0 < n → node.Operator (getD bytes at 0) ≡ nodeAt ops bytes at
+  operator h a e b = sym (within-node h ∙ ap (λ k. nodeOf k (getD bytes at 0)) (class-operator ops (getD bytes at 0) a (omega arith)))
 
-  pub no-operator : at < length bytes → getD bytes at 0 < mostOperators → n ≤ getD bytes at 0 → node.Other ≡ nodeAt n bytes at
-  no-operator h a b =
-      by-class n (λ k. node.Other ≡ nodeOf k (getD bytes at 0)) (getD bytes at 0) (λ _ g. absurd (omega arith)) (λ g. absurd (omega arith)) (λ _. refl)
+  pub no-operator : {n : ℕ} → at < length bytes → getD bytes at 0 < mostOperators → n ≡ ops .count → n ≤ getD bytes at 0 → node.Other ≡ nodeAt ops bytes at
+  no-operator h a e b =
+      by-class ops (λ k. node.Other ≡ nodeOf k (getD bytes at 0)) (getD bytes at 0) (λ _ g. absurd (omega arith)) (λ g. absurd (omega arith)) (λ _. refl)
       (λ g _. absurd (omega arith)) refl
       ∙ sym (within-node h)
 
-  pub bracket : at < length bytes → getD bytes at 0 ≡ opening → node.Bracket ≡ nodeAt n bytes at
-  bracket h e = sym (within-node h ∙ ap (λ k. nodeOf k (getD bytes at 0)) (ap (class n) e ∙ brackets n .opens))
+  pub bracket : at < length bytes → getD bytes at 0 ≡ opening → node.Bracket ≡ nodeAt ops bytes at
+  bracket h e = sym (within-node h ∙ ap (λ k. nodeOf k (getD bytes at 0)) (ap (class ops) e ∙ brackets ops .opens))
 
-  pub neither : at < length bytes → mostOperators ≤ getD bytes at 0 → (getD bytes at 0 ≡ opening → ⊥) → getD bytes at 0 < firstReading → node.Other ≡ nodeAt n bytes at
+  pub neither : at < length bytes → mostOperators ≤ getD bytes at 0 → (getD bytes at 0 ≡ opening → ⊥) → getD bytes at 0 < firstReading → node.Other ≡ nodeAt ops bytes at
   neither h a b d =
-      by-class n (λ k. node.Other ≡ nodeOf k (getD bytes at 0)) (getD bytes at 0) (λ g _. absurd (omega arith)) (λ g. absurd (b g)) (λ _. refl)
+      by-class ops (λ k. node.Other ≡ nodeOf k (getD bytes at 0)) (getD bytes at 0) (λ g _. absurd (omega arith)) (λ g. absurd (b g)) (λ _. refl)
       (λ g _. absurd (omega arith)) refl
       ∙ sym (within-node h)
 
-  pub reading : ((k : ℕ) → Fits w8 (getD bytes k 0)) → at < length bytes → firstReading ≤ getD bytes at 0 → node.Reading (getD bytes at 0) ≡ nodeAt n bytes at
-  reading f h a = sym (within-node h ∙ ap (λ k. nodeOf k (getD bytes at 0)) (class-reading n (getD bytes at 0) a (omega (arith, f at))))
+  pub reading : ((k : ℕ) → Fits w8 (getD bytes k 0)) → at < length bytes → firstReading ≤ getD bytes at 0 → node.Reading (getD bytes at 0) ≡ nodeAt ops bytes at
+  reading f h a = sym (within-node h ∙ ap (λ k. nodeOf k (getD bytes at 0)) (class-reading ops (getD bytes at 0) a (omega (arith, f at))))
 
 pub ruleset node-at-ways = (past, operator, no-operator, bracket, neither, reading, needs)
 
@@ -59,13 +59,13 @@ isOther (node.Operator o) = false
 isOther node.Other = true
 
 -- a node stands within the bytes
-pub within : (n : ℕ) (bytes : List ℕ) (at : ℕ) → isOther (nodeAt n bytes at) ≡ false → at < length bytes
-within n bytes at h = go (decLt at (length bytes))
+pub within : (ops : Operators) (bytes : List ℕ) (at : ℕ) → isOther (nodeAt ops bytes at) ≡ false → at < length bytes
+within ops bytes at h = go (decLt at (length bytes))
   where
     go : Dec (at < length bytes) → at < length bytes
     go (yes d) = d
     go (no d) =
-        let e : node.Other ≡ nodeAt n bytes at = past n bytes at (omega arith) in
+        let e : node.Other ≡ nodeAt ops bytes at = past ops bytes at (omega arith) in
         let z : _≡_ {A = ℕ} 0 1 = cc (ap isOther e, h) in
         omega arith
 
@@ -77,9 +77,9 @@ is-other (node.Operator o) p q r = absurd (⊎-elim (λ w. omega arith) (⊎-eli
 is-other node.Other p q r = refl
 
 -- what a walk that goes on past a node asks
-module _ (n : ℕ) (bytes : List ℕ) (at : ℕ) {x y : Node} (found : x ≡ nodeAt n bytes at) (is : x ≡ y) where
+module _ (ops : Operators) (bytes : List ℕ) (at : ℕ) {x y : Node} (found : x ≡ nodeAt ops bytes at) (is : x ≡ y) where
   pub within-as : isOther y ≡ false → at < length bytes
-  within-as h = within n bytes at (ap isOther (sym found ∙ is) ∙ h)
+  within-as h = within ops bytes at (ap isOther (sym found ∙ is) ∙ h)
 
   pub next-fits : length bytes < 2 ^ 64 → isOther y ≡ false → Fits w64 (at + 1)
   next-fits r h = let d = within-as h in omega arith

@@ -7,7 +7,7 @@ use mathlib.Core.Option.{some}
 use mathlib.Core.List.{List, _∷_, _++_, append-assoc, append-nil}
 use lib.ListN.{length, getD, drop, length-drop, length-append}
 use lib.Seq.{getD-drop, drop-drop, drop-append-seam, drop-length}
-use Rattle.expression.specs.Token.{opening, class}
+use Rattle.expression.specs.Token.{opening, Operators, class}
 use Rattle.expression.specs.Tree.{Tree, reading, bracket, binary, recordOf}
 use Rattle.expression.specs.Decode.{treeOf}
 use Rattle.expression.proofs.Classes.{brackets}
@@ -31,11 +31,11 @@ record-positive (reading a) = omega arith
 record-positive (bracket t) = omega arith
 record-positive (binary o l r) = omega arith
 
-module _ (n : ℕ) (bytes : List ℕ) where
+module _ (ops : Operators) (bytes : List ℕ) where
   -- a record that is read as a tree holds it from its start to its end
-  pub whole : (t : Tree) → treeOf (class n) bytes ≡ some t → TreeAt n bytes 0 t (length bytes)
+  pub whole : (t : Tree) → treeOf (class ops) bytes ≡ some t → TreeAt ops bytes 0 t (length bytes)
   whole t e =
-      let (r, h) = record-treeOf (class n) (brackets n) bytes t e in
+      let (r, h) = record-treeOf (class ops) (brackets ops) bytes t e in
       record {
         over = h;
         ends = omega (arith, ap length r);
@@ -46,25 +46,25 @@ module _ (n : ℕ) (bytes : List ℕ) where
     head-in : (b : ℕ) (rest : List ℕ) → drop from bytes ≡ b ∷ rest → from < length bytes
     head-in b rest h = omega (arith, length-drop from bytes, ap length h)
 
-    head-node : (b : ℕ) (rest : List ℕ) → drop from bytes ≡ b ∷ rest → nodeAt n bytes from ≡ nodeOf (class n b) b
+    head-node : (b : ℕ) (rest : List ℕ) → drop from bytes ≡ b ∷ rest → nodeAt ops bytes from ≡ nodeOf (class ops b) b
     head-node b rest h =
         let e : getD bytes from 0 ≡ b = sym (getD-drop from bytes 0 0 ∙ rw add-zero) ∙ ap (λ l. getD l 0 0) h in
-        within-node n bytes from (head-in b rest h) ∙ ap (λ c. nodeOf (class n c) c) e
+        within-node ops bytes from (head-in b rest h) ∙ ap (λ c. nodeOf (class ops c) c) e
 
     tail-after : (b : ℕ) (rest : List ℕ) → drop from bytes ≡ b ∷ rest → drop (from + 1) bytes ≡ rest
     tail-after b rest h = sym (drop-drop 1 from bytes) ∙ ap (drop 1) h
 
-    pub top-node : (t : Tree) {to : ℕ} → TreeAt n bytes from t to → nodeAt n bytes from ≡ topOf t
+    pub top-node : (t : Tree) {to : ℕ} → TreeAt ops bytes from t to → nodeAt ops bytes from ≡ topOf t
     top-node (reading a) x = head-node a _ (x .stands) ∙ ap (λ k. nodeOf k a) (x .over)
-    top-node (bracket t) x = head-node opening _ (x .stands) ∙ ap (λ k. nodeOf k opening) (brackets n .opens)
+    top-node (bracket t) x = head-node opening _ (x .stands) ∙ ap (λ k. nodeOf k opening) (brackets ops .opens)
     top-node (binary o l r) x = head-node o _ (x .stands) ∙ ap (λ k. nodeOf k o) (x .over .0)
 
-    pub ends-within : (t : Tree) (to : ℕ) → TreeAt n bytes from t to → to ≤ length bytes
+    pub ends-within : (t : Tree) (to : ℕ) → TreeAt ops bytes from t to → to ≤ length bytes
     ends-within t to x =
         omega (arith, record-positive t, length-drop from bytes, ap length (x .stands), length-append (recordOf t) (drop to bytes), x .ends)
 
     -- the tree in a bracket
-    pub in-bracket : (t : Tree) (to : ℕ) → TreeAt n bytes from (bracket t) to → TreeAt n bytes (from + 1) t to
+    pub in-bracket : (t : Tree) (to : ℕ) → TreeAt ops bytes from (bracket t) to → TreeAt ops bytes (from + 1) t to
     in-bracket t to x =
         record {
           over = x .over;
@@ -73,7 +73,7 @@ module _ (n : ℕ) (bytes : List ℕ) where
         }
 
     -- the operands of an operator
-    module _ (o : ℕ) (l r : Tree) (to : ℕ) (x : TreeAt n bytes from (binary o l r) to) where
+    module _ (o : ℕ) (l r : Tree) (to : ℕ) (x : TreeAt ops bytes from (binary o l r) to) where
       abbrev seam : ℕ
       seam = from + 1 + length (recordOf l)
 
@@ -83,46 +83,46 @@ module _ (n : ℕ) (bytes : List ℕ) where
       at-seam : drop seam bytes ≡ recordOf r ++ drop to bytes
       at-seam = sym (drop-drop (length (recordOf l)) (from + 1) bytes) ∙ ap (drop (length (recordOf l))) behind ∙ drop-append-seam (recordOf l) (recordOf r ++ drop to bytes)
 
-      left-at : TreeAt n bytes (from + 1) l seam
+      left-at : TreeAt ops bytes (from + 1) l seam
       left-at = record { over = x .over .1; ends = refl; stands = behind ∙ ap (λ rest. recordOf l ++ rest) (sym at-seam) }
 
-      right-at : TreeAt n bytes seam r to
+      right-at : TreeAt ops bytes seam r to
       right-at = record { over = x .over .2; ends = omega (arith, x .ends, length-append (recordOf l) (recordOf r)); stands = at-seam }
 
 -- What stands at a place, by the node there.
-module _ (n : ℕ) (bytes : List ℕ) (from : ℕ) {x : Node} (found : x ≡ nodeAt n bytes from) where
-  top-is : {y : Node} (t : Tree) {to : ℕ} → TreeAt n bytes from t to → x ≡ y → topOf t ≡ y
-  top-is t h e = sym (top-node n bytes from t h) ∙ sym found ∙ e
+module _ (ops : Operators) (bytes : List ℕ) (from : ℕ) {x : Node} (found : x ≡ nodeAt ops bytes from) where
+  top-is : {y : Node} (t : Tree) {to : ℕ} → TreeAt ops bytes from t to → x ≡ y → topOf t ≡ y
+  top-is t h e = sym (top-node ops bytes from t h) ∙ sym found ∙ e
 
-  pub a-reading : {a : ℕ} → x ≡ node.Reading a → (t : Tree) {to : ℕ} → TreeAt n bytes from t to → (t ≡ reading a) × (to ≡ from + 1)
+  pub a-reading : {a : ℕ} → x ≡ node.Reading a → (t : Tree) {to : ℕ} → TreeAt ops bytes from t to → (t ≡ reading a) × (to ≡ from + 1)
   a-reading {a} e t {to} h = go t h (top-is t h e)
     where
-      go : (t : Tree) → TreeAt n bytes from t to → topOf t ≡ node.Reading a → (t ≡ reading a) × (to ≡ from + 1)
+      go : (t : Tree) → TreeAt ops bytes from t to → topOf t ≡ node.Reading a → (t ≡ reading a) × (to ≡ from + 1)
       go (reading b) h q = let z : b ≡ a = cc in (ap reading z, h .ends)
       go (bracket t) h q = let z : _≡_ {A = ℕ} 0 1 = cc in absurd (omega arith)
       go (binary o l r) h q = let z : _≡_ {A = ℕ} 0 1 = cc in absurd (omega arith)
 
-  pub a-bracket : x ≡ node.Bracket → (t : Tree) {to : ℕ} → TreeAt n bytes from t to → (u : Tree) × (t ≡ bracket u) × TreeAt n bytes (from + 1) u to
+  pub a-bracket : x ≡ node.Bracket → (t : Tree) {to : ℕ} → TreeAt ops bytes from t to → (u : Tree) × (t ≡ bracket u) × TreeAt ops bytes (from + 1) u to
   a-bracket e t {to} h = go t h (top-is t h e)
     where
-      go : (t : Tree) → TreeAt n bytes from t to → topOf t ≡ node.Bracket → (u : Tree) × (t ≡ bracket u) × TreeAt n bytes (from + 1) u to
+      go : (t : Tree) → TreeAt ops bytes from t to → topOf t ≡ node.Bracket → (u : Tree) × (t ≡ bracket u) × TreeAt ops bytes (from + 1) u to
       go (reading b) h q = let z : _≡_ {A = ℕ} 0 1 = cc in absurd (omega arith)
-      go (bracket u) h q = (u, refl, in-bracket n bytes from u to h)
+      go (bracket u) h q = (u, refl, in-bracket ops bytes from u to h)
       go (binary o l r) h q = let z : _≡_ {A = ℕ} 0 1 = cc in absurd (omega arith)
 
-  pub an-operator : {o : ℕ} → x ≡ node.Operator o → (t : Tree) {to : ℕ} → TreeAt n bytes from t to
-      → (l : Tree) × (r : Tree) × (mid : ℕ) × (t ≡ binary o l r) × TreeAt n bytes (from + 1) l mid × TreeAt n bytes mid r to
+  pub an-operator : {o : ℕ} → x ≡ node.Operator o → (t : Tree) {to : ℕ} → TreeAt ops bytes from t to
+      → (l : Tree) × (r : Tree) × (mid : ℕ) × (t ≡ binary o l r) × TreeAt ops bytes (from + 1) l mid × TreeAt ops bytes mid r to
   an-operator {o} e t {to} h = go t h (top-is t h e)
     where
-      go : (t : Tree) → TreeAt n bytes from t to → topOf t ≡ node.Operator o
-          → (l : Tree) × (r : Tree) × (mid : ℕ) × (t ≡ binary o l r) × TreeAt n bytes (from + 1) l mid × TreeAt n bytes mid r to
+      go : (t : Tree) → TreeAt ops bytes from t to → topOf t ≡ node.Operator o
+          → (l : Tree) × (r : Tree) × (mid : ℕ) × (t ≡ binary o l r) × TreeAt ops bytes (from + 1) l mid × TreeAt ops bytes mid r to
       go (reading b) h q = let z : _≡_ {A = ℕ} 0 1 = cc in absurd (omega arith)
       go (bracket u) h q = let z : _≡_ {A = ℕ} 0 1 = cc in absurd (omega arith)
       go (binary p l r) h q =
           let z : p ≡ o = cc in
-          (l, r, seam n bytes from p l r to h, ap (λ p. binary p l r) z, left-at n bytes from p l r to h, right-at n bytes from p l r to h)
+          (l, r, seam ops bytes from p l r to h, ap (λ p. binary p l r) z, left-at ops bytes from p l r to h, right-at ops bytes from p l r to h)
 
-  pub no-tree : {A : Type 0} → x ≡ node.Other → (t : Tree) {to : ℕ} → TreeAt n bytes from t to → A
+  pub no-tree : {A : Type 0} → x ≡ node.Other → (t : Tree) {to : ℕ} → TreeAt ops bytes from t to → A
   no-tree {A} e t h = go t (top-is t h e)
     where
       go : (t : Tree) → topOf t ≡ node.Other → A
@@ -131,5 +131,5 @@ module _ (n : ℕ) (bytes : List ℕ) (from : ℕ) {x : Node} (found : x ≡ nod
       go (binary p l r) q = let z : _≡_ {A = ℕ} 0 1 = cc in absurd (omega arith)
 
 -- past the end of the record no tree stands
-pub none-past : (n size : ℕ) (held : List ℕ) (from : ℕ) → size ≤ from → (t : Tree) {to : ℕ} → TreeAt n (front size held) from t to → ⊥
-none-past n size held from h t x = no-tree n (front size held) from (past n (front size held) from (omega (arith, front-short size held))) refl t x
+pub none-past : (ops : Operators) (size : ℕ) (held : List ℕ) (from : ℕ) → size ≤ from → (t : Tree) {to : ℕ} → TreeAt ops (front size held) from t to → ⊥
+none-past ops size held from h t x = no-tree ops (front size held) from (past ops (front size held) from (omega (arith, front-short size held))) refl t x

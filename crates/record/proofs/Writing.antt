@@ -14,9 +14,9 @@ use types.Run.{OneOf}
 use denote.Enum.Declared.{tagOf}
 use Rattle.expression.specs.Refusal.{noTree}
 use Rattle.expression.specs.Limits.{mostTokens, mostRecordBytes}
-use Rattle.expression.specs.Token.{opening, closing}
+use Rattle.expression.specs.Token.{opening, closing, Operators}
 use Rattle.expression.specs.Tree.{Tree, reading, bracket, binary, yield}
-use Rattle.record.specs.Held.{front}
+use Rattle.record.specs.Held.{front, base}
 use Rattle.record.specs.Node.{nodeAt}
 use Rattle.record.specs.TreeAt.{TreeAt}
 use Rattle.record.specs.Rows.{writtenEnd, writtenLast, Writes}
@@ -51,13 +51,13 @@ operator-tokens : (o : ℕ) (t l r : Tree) → t ≡ binary o l r → length (yi
 operator-tokens o t l r e = ap (λ v. length (yield v)) e ∙ length-append (yield l) (o ∷ yield r)
 
 -- an answer that gives no places has no tree with room
-pub not-written : {A : Type 0} {n : ℕ} {bytes before after : List ℕ} {from at to r : ℕ} (t : Tree) → r ≡ noTree → Writes n bytes from before at after r
-    → TreeAt n bytes from t to → at + length (yield t) ≤ mostTokens → A
+pub not-written : {A : Type 0} {ops : Operators} {bytes before after : List ℕ} {from at to r : ℕ} (t : Tree) → r ≡ noTree → Writes ops bytes from before at after r
+    → TreeAt ops bytes from t to → at + length (yield t) ≤ mostTokens → A
 not-written {to = to} t e h x room = absurd (omega (arith, h .wrote t to x room .0, x .ends, record-positive t))
 
 -- 0 where no tree stands with room
-none-here : {n : ℕ} {bytes : List ℕ} {from at : ℕ} (before after : List ℕ)
-    → ((t : Tree) (to : ℕ) → TreeAt n bytes from t to → at + length (yield t) ≤ mostTokens → ⊥) → Writes n bytes from before at after noTree
+none-here : {ops : Operators} {bytes : List ℕ} {from at : ℕ} (before after : List ℕ)
+    → ((t : Tree) (to : ℕ) → TreeAt ops bytes from t to → at + length (yield t) ≤ mostTokens → ⊥) → Writes ops bytes from before at after noTree
 none-here before after never =
     record {
       wrote = λ t to x room. absurd (never t to x room);
@@ -65,52 +65,52 @@ none-here before after never =
       within = omega arith;
     }
 
-pub past-end : (n size : ℕ) (held : List ℕ) (from : ℕ) (before : List ℕ) (at : ℕ) → size ≤ from → Writes n (front size held) from before at before noTree
-past-end n size held from before at h =
-    none-here before before (λ t to x room. none-past n size held from h t x)
+pub past-end : (ops : Operators) (size : ℕ) (held : List ℕ) (from : ℕ) (before : List ℕ) (at : ℕ) → size ≤ from → Writes ops (front size held) from before at before noTree
+past-end ops size held from before at h =
+    none-here before before (λ t to x room. none-past ops size held from h t x)
 
-pub full : (n : ℕ) (bytes : List ℕ) (from : ℕ) (before : List ℕ) (at : ℕ) → mostTokens ≤ at → Writes n bytes from before at before noTree
-full n bytes from before at h = none-here before before (λ t to x room. omega (arith, yield-positive t))
+pub full : (ops : Operators) (bytes : List ℕ) (from : ℕ) (before : List ℕ) (at : ℕ) → mostTokens ≤ at → Writes ops bytes from before at before noTree
+full ops bytes from before at h = none-here before before (λ t to x room. omega (arith, yield-positive t))
 
-module _ (n : ℕ) (bytes : List ℕ) (from : ℕ) {x : Node} (found : x ≡ nodeAt n bytes from) (before : List ℕ) (at : ℕ) where
+module _ (ops : Operators) (bytes : List ℕ) (from : ℕ) {x : Node} (found : x ≡ nodeAt ops bytes from) (before : List ℕ) (at : ℕ) where
   pub other : OneOf (1 ∷ 2 ∷ 3 ∷ []) (tagOf nodes.the-type x) → OneOf (0 ∷ 2 ∷ 3 ∷ []) (tagOf nodes.the-type x) → OneOf (0 ∷ 1 ∷ 3 ∷ []) (tagOf nodes.the-type x)
-      → Writes n bytes from before at before noTree
-  other p q r = none-here before before (λ t to h room. no-tree n bytes from found (is-other x p q r) t h)
+      → Writes ops bytes from before at before noTree
+  other p q r = none-here before before (λ t to h room. no-tree ops bytes from found (is-other x p q r) t h)
 
-  pub a-leaf : {a : ℕ} → x ≡ node.Reading a → at < mostTokens → Writes n bytes from before at (set before at a) ((from + 1) * 256 + (at + 1))
+  pub a-leaf : {a : ℕ} → x ≡ node.Reading a → at < mostTokens → Writes ops bytes from before at (set before at a) ((from + 1) * base + (at + 1))
   a-leaf {a} is low =
-      let d = within-as n bytes from found is refl in
+      let d = within-as ops bytes from found is refl in
       record {
         wrote = λ t to h room.
-            let u = a-reading n bytes from found is t h in
+            let u = a-reading ops bytes from found is t h in
             (omega (arith, u .1), omega (arith, ap (λ v. length (yield v)) (u .0)), ap (λ v. sets before at (yield v)) (sym (u .0)));
         onward = λ e. omega arith;
         within = omega arith;
       }
 
-  module _ (after : List ℕ) (w : ℕ) (is : x ≡ node.Bracket) (h : Writes n bytes (from + 1) (set before at opening) (at + 1) after w) where
+  module _ (after : List ℕ) (w : ℕ) (is : x ≡ node.Bracket) (h : Writes ops bytes (from + 1) (set before at opening) (at + 1) after w) where
     inner-room : (t u : Tree) → t ≡ bracket u → at + length (yield t) ≤ mostTokens → at + 1 + length (yield u) ≤ mostTokens
     inner-room t u e room = omega (arith, bracket-tokens t u e)
 
-    pub inner-refused : w ≡ noTree → Writes n bytes from before at after noTree
+    pub inner-refused : w ≡ noTree → Writes ops bytes from before at after noTree
     inner-refused e =
         none-here before after λ t to k room.
-        let u = a-bracket n bytes from found is t k in
+        let u = a-bracket ops bytes from found is t k in
         not-written (u .0) e h (u .2) (inner-room t (u .0) (u .1) room)
 
-    pub inner-full : mostTokens ≤ writtenLast w → Writes n bytes from before at after noTree
+    pub inner-full : mostTokens ≤ writtenLast w → Writes ops bytes from before at after noTree
     inner-full over =
         none-here before after λ t to k room.
-        let u = a-bracket n bytes from found is t k in
+        let u = a-bracket ops bytes from found is t k in
         omega (arith, h .wrote (u .0) to (u .2) (inner-room t (u .0) (u .1) room) .1, bracket-tokens t (u .0) (u .1))
 
-    pub a-bracketed : (w ≡ noTree → ⊥) → writtenLast w < mostTokens → Writes n bytes from before at (set after (writtenLast w) closing) (w + 1)
+    pub a-bracketed : (w ≡ noTree → ⊥) → writtenLast w < mostTokens → Writes ops bytes from before at (set after (writtenLast w) closing) (w + 1)
     a-bracketed some low =
         let m : writtenLast (w + 1) ≡ writtenLast w + 1 = omega arith in
         let e : writtenEnd (w + 1) ≡ writtenEnd w = omega arith in
         record {
           wrote = λ t to k room.
-              let u = a-bracket n bytes from found is t k in
+              let u = a-bracket ops bytes from found is t k in
               let a = h .wrote (u .0) to (u .2) (inner-room t (u .0) (u .1) room) in (
                 e ∙ a .0,
                 omega (arith, m, a .1, bracket-tokens t (u .0) (u .1)),
@@ -121,26 +121,26 @@ module _ (n : ℕ) (bytes : List ℕ) (from : ℕ) {x : Node} (found : x ≡ nod
           within = omega (arith, e, h .within);
         }
 
-  module _ (after : List ℕ) (w : ℕ) {o : ℕ} (is : x ≡ node.Operator o) (h : Writes n bytes (from + 1) before at after w) where
-    pub left-refused : w ≡ noTree → Writes n bytes from before at after noTree
+  module _ (after : List ℕ) (w : ℕ) {o : ℕ} (is : x ≡ node.Operator o) (h : Writes ops bytes (from + 1) before at after w) where
+    pub left-refused : w ≡ noTree → Writes ops bytes from before at after noTree
     left-refused e =
         none-here before after λ t to k room.
-        let u = an-operator n bytes from found is t k in
+        let u = an-operator ops bytes from found is t k in
         not-written (u .0) e h (u .4) (omega (arith, operator-tokens o t (u .0) (u .1) (u .3)))
 
-    pub left-full : mostTokens ≤ writtenLast w → Writes n bytes from before at after noTree
+    pub left-full : mostTokens ≤ writtenLast w → Writes ops bytes from before at after noTree
     left-full over =
         none-here before after λ t to k room.
-        let u = an-operator n bytes from found is t k in
+        let u = an-operator ops bytes from found is t k in
         let m = operator-tokens o t (u .0) (u .1) (u .3) in
         omega (arith, h .wrote (u .0) (u .2) (u .4) (omega arith) .1)
 
-    pub an-infix : {r : ℕ} (last : List ℕ) → (w ≡ noTree → ⊥) → Writes n bytes (writtenEnd w) (set after (writtenLast w) o) (writtenLast w + 1) last r
-        → Writes n bytes from before at last r
+    pub an-infix : {r : ℕ} (last : List ℕ) → (w ≡ noTree → ⊥) → Writes ops bytes (writtenEnd w) (set after (writtenLast w) o) (writtenLast w + 1) last r
+        → Writes ops bytes from before at last r
     an-infix last some g =
         record {
           wrote = λ t to k room.
-              let u = an-operator n bytes from found is t k in
+              let u = an-operator ops bytes from found is t k in
               let m = operator-tokens o t (u .0) (u .1) (u .3) in
               let a = h .wrote (u .0) (u .2) (u .4) (omega arith) in
               let b = g .wrote (u .1) to (rw (sym (a .0)) at (u .5)) (omega (arith, a .1)) in (
@@ -155,22 +155,22 @@ module _ (n : ℕ) (bytes : List ℕ) (from : ℕ) {x : Node} (found : x ≡ nod
         }
 
   -- a left operand that is a reading, two places on: no call is made for it
-  module _ {o a : ℕ} {y : Node} (is : x ≡ node.Operator o) (next : y ≡ nodeAt n bytes (from + 1)) (leaf : y ≡ node.Reading a) where
-    leaf-tokens : (t : Tree) {to : ℕ} → TreeAt n bytes from t to → (r : Tree) × (t ≡ binary o (reading a) r) × TreeAt n bytes (from + 2) r to
+  module _ {o a : ℕ} {y : Node} (is : x ≡ node.Operator o) (next : y ≡ nodeAt ops bytes (from + 1)) (leaf : y ≡ node.Reading a) where
+    leaf-tokens : (t : Tree) {to : ℕ} → TreeAt ops bytes from t to → (r : Tree) × (t ≡ binary o (reading a) r) × TreeAt ops bytes (from + 2) r to
     leaf-tokens t {to} k =
-        let u = an-operator n bytes from found is t k in
-        let v = a-reading n bytes (from + 1) next leaf (u .0) (u .4) in
+        let u = an-operator ops bytes from found is t k in
+        let v = a-reading ops bytes (from + 1) next leaf (u .0) (u .4) in
         let e : u .2 ≡ from + 2 = v .1 ∙ omega arith in
         (u .1, u .3 ∙ ap (λ l. binary o l (u .1)) (v .0), rw e at (u .5))
 
-    pub leaf-full : mostTokens ≤ at + 1 → Writes n bytes from before at before noTree
+    pub leaf-full : mostTokens ≤ at + 1 → Writes ops bytes from before at before noTree
     leaf-full over =
         none-here before before λ t to k room.
         let u = leaf-tokens t k in
         omega (arith, ap (λ v. length (yield v)) (u .1))
 
-    pub a-leaf-infix : {r : ℕ} (laid last : List ℕ) → laid ≡ set (set before at a) (at + 1) o → Writes n bytes (from + 2) laid (at + 1 + 1) last r
-        → Writes n bytes from before at last r
+    pub a-leaf-infix : {r : ℕ} (laid last : List ℕ) → laid ≡ set (set before at a) (at + 1) o → Writes ops bytes (from + 2) laid (at + 1 + 1) last r
+        → Writes ops bytes from before at last r
     a-leaf-infix laid last set-is g =
         record {
           wrote = λ t to k room.
@@ -187,7 +187,7 @@ module _ (n : ℕ) (bytes : List ℕ) (from : ℕ) {x : Node} (found : x ≡ nod
         }
 
 -- what the sums and the measure ask
-module _ (from : ℕ) {n : ℕ} {bytes before after : List ℕ} {at w : ℕ} (h : Writes n bytes (from + 1) before at after w) where
+module _ (from : ℕ) {ops : Operators} {bytes before after : List ℕ} {at w : ℕ} (h : Writes ops bytes (from + 1) before at after w) where
   pub mid-falls : {size t : ℕ} → (w ≡ noTree → ⊥) → from < size → size - from ≡ t → size - writtenEnd w < t
   mid-falls some low e = omega (arith, h .onward some)
 

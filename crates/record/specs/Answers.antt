@@ -8,30 +8,31 @@ use lib.Dec.{eqb}
 use lib.ListN.{length}
 use Rattle.expression.specs.Refusal.{accepted}
 use Rattle.expression.specs.Lent.{outputAfter, lengthAfter}
-use Rattle.expression.specs.Token.{class}
+use Rattle.expression.specs.Token.{Operators, class}
 use Rattle.expression.specs.Tree.{Tree}
 use Rattle.expression.specs.Decode.{treeOf}
 use Rattle.expression.specs.Checks.{recordNumber, yieldNumber}
 use Rattle.expression.specs.Operand.{rowOf}
+use Rattle.sheet.specs.Layout.{operatorsOf}
 use Rattle.record.specs.Counts.{conflictsIn}
 use Rattle.record.specs.declared.Answer.{Answer}
 use Rattle.record.specs.declared.Judgement.{Judgement}
 
 -- A yield: the lent output was `before` and became `after`.
-pub record Yields (n : ℕ) (bytes before after : List ℕ) (r : Answer) : Type 0 where
-  pub numbered : r .number ≡ yieldNumber n bytes (length before)
-  pub measured : r .length ≡ lengthAfter (r .number) (rowOf (treeOf (class n) bytes))
-  pub output : after ≡ outputAfter (r .number) (rowOf (treeOf (class n) bytes)) before
+pub record Yields (ops : Operators) (bytes before after : List ℕ) (r : Answer) : Type 0 where
+  pub numbered : r .number ≡ yieldNumber ops bytes (length before)
+  pub measured : r .length ≡ lengthAfter (r .number) (rowOf (treeOf (class ops) bytes))
+  pub output : after ≡ outputAfter (r .number) (rowOf (treeOf (class ops) bytes)) before
 
 -- the conflict count of the tree that a record is of
 abbrev pub countIn : List ℕ → Option Tree → ℕ
-countIn words none = 0
-countIn words (some t) = conflictsIn words t
+countIn sheet none = 0
+countIn sheet (some t) = conflictsIn sheet t
 
--- The number and the count of a record; the count is 0 after a refusal.
-unfoldable pub judgement : ℕ → List ℕ → List ℕ → Judgement
-judgement n words bytes =
+-- The number and the count of a record under a sheet; the count is 0 after a refusal.
+unfoldable pub judgement : List ℕ → List ℕ → Judgement
+judgement sheet bytes =
     record {
-      number = recordNumber n bytes;
-      count = cond (eqb (recordNumber n bytes) accepted) (countIn words (treeOf (class n) bytes)) 0;
+      number = recordNumber (operatorsOf sheet) bytes;
+      count = cond (eqb (recordNumber (operatorsOf sheet) bytes) accepted) (countIn sheet (treeOf (class (operatorsOf sheet)) bytes)) 0;
     }

@@ -1,12 +1,16 @@
--- What the checks of a record count: the trees still due, and the tokens of its row. Assumes nothing.
+-- What the checks of a record find: strangers, the trees still due, and the tokens of its row. Assumes nothing.
 use Prim.Native.Nat.{ℕ, zero, suc, _+_}
 use mathlib.Core.Bool.{Bool, true, false, cond}
 use mathlib.Core.List.{List, [], _∷_}
 use lib.Dec.{eqb}
 use lib.ListN.{length}
-use Rattle.expression.specs.Lists.{count}
-use Rattle.expression.specs.Token.{Class, Infix, Opening, Closing, Reading, Meaningless, opening}
+use Rattle.expression.specs.Lists.{any, count}
+use Rattle.expression.specs.Token.{Class, Infix, Opening, Closing, Reading, Meaningless, opening, Operators, class}
 use Rattle.expression.specs.Checks.{strangeInRecord}
+
+-- some byte stands in no record under the operators
+unfoldable pub hasStranger : Operators → List ℕ → Bool
+hasStranger ops bytes = any (λ c. strangeInRecord (class ops c)) bytes
 
 -- one of the trees due is the byte's: what is due behind it, where d more are
 abbrev pub behind : Class → ℕ → ℕ

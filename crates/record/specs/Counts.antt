@@ -1,4 +1,4 @@
--- The conflict count of the tree at a place of a record, under a relation "closes before" in words. Assumes nothing.
+-- The conflict count of the tree at a place of a record, under a sheet. Assumes nothing.
 use Prim.Native.Nat.{ℕ, _+_, _/_, _%_, _≤_, _<_}
 use mathlib.Core.Path.{_≡_}
 use mathlib.Core.Bool.{Bool, not}
@@ -8,42 +8,44 @@ use Rattle.expression.specs.Lists.{one}
 use Rattle.expression.specs.Refusal.{noTree}
 use Rattle.expression.specs.Tree.{Tree}
 use Rattle.disambiguation.specs.Conflicts.{conflicts}
+use Rattle.sheet.specs.Layout.{operatorsOf}
 use Rattle.sheet.specs.Relation.{closesIn}
+use Rattle.record.specs.Held.{base}
 use Rattle.record.specs.TreeAt.{TreeAt}
 use Rattle.record.specs.declared.Node.{Node}
 use Rattle.record.specs.declared.Node.the-variants.{Reading, Bracket, Operator, Other}
 
 -- L(o,b) is excluded where b does not close before o, and R(o,b) where o closes before b.
 abbrev pub excludedLeft : List ℕ → ℕ → ℕ → Bool
-excludedLeft words o b = not (closesIn words b o)
+excludedLeft sheet o b = not (closesIn sheet b o)
 
 abbrev pub conflictsIn : List ℕ → Tree → ℕ
-conflictsIn words = conflicts (excludedLeft words) (closesIn words)
+conflictsIn sheet = conflicts (excludedLeft sheet) (closesIn sheet)
 
 -- what operator o shows with an operand that has the node on top
 abbrev pub onLeft : List ℕ → ℕ → Node → ℕ
-onLeft words o (Reading a) = 0
-onLeft words o Bracket = 0
-onLeft words o (Operator b) = one (excludedLeft words o b)
-onLeft words o Other = 0
+onLeft sheet o (Reading a) = 0
+onLeft sheet o Bracket = 0
+onLeft sheet o (Operator b) = one (excludedLeft sheet o b)
+onLeft sheet o Other = 0
 
 abbrev pub onRight : List ℕ → ℕ → Node → ℕ
-onRight words o (Reading a) = 0
-onRight words o Bracket = 0
-onRight words o (Operator b) = one (closesIn words o b)
-onRight words o Other = 0
+onRight sheet o (Reading a) = 0
+onRight sheet o Bracket = 0
+onRight sheet o (Operator b) = one (closesIn sheet o b)
+onRight sheet o Other = 0
 
--- An answer is one word: the number 7 where no tree stands; else the place after the tree times 256, and the count.
+-- An answer is one word: the number 7 where no tree stands; else the place after the tree times the base, and the count.
 abbrev pub tallyEnd : ℕ → ℕ
-tallyEnd r = r / 256
+tallyEnd r = r / base
 
 abbrev pub tallyCount : ℕ → ℕ
-tallyCount r = r % 256
+tallyCount r = r % base
 
 -- From the place `from`, with so many counted before it.
-pub record Counts (n : ℕ) (words bytes : List ℕ) (from before : ℕ) (r : ℕ) : Type 0 where
+pub record Counts (sheet bytes : List ℕ) (from before : ℕ) (r : ℕ) : Type 0 where
   -- where a tree stands, its end, and its conflicts added
-  pub counted : (t : Tree) (to : ℕ) → TreeAt n bytes from t to → (tallyEnd r ≡ to) × (tallyCount r ≡ before + conflictsIn words t)
+  pub counted : (t : Tree) (to : ℕ) → TreeAt (operatorsOf sheet) bytes from t to → (tallyEnd r ≡ to) × (tallyCount r ≡ before + conflictsIn sheet t)
   -- a place that is given lies further on, and the count is below it
   pub onward : (r ≡ noTree → ⊥) → from < tallyEnd r
   pub within : tallyEnd r ≤ length bytes

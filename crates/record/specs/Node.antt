@@ -4,7 +4,7 @@ use mathlib.Core.Bool.{cond}
 use mathlib.Core.List.{List}
 use lib.Dec.{ltb}
 use lib.ListN.{length, getD}
-use Rattle.expression.specs.Token.{Class, Infix, Opening, Closing, Reading, Meaningless, class}
+use Rattle.expression.specs.Token.{Class, Infix, Opening, Closing, Reading, Meaningless, Operators, class}
 use Rattle.record.specs.declared.Node.{Node}
 use Rattle.record.specs.declared.Node.the-variants as node
 
@@ -16,6 +16,6 @@ nodeOf Closing c = node.Other
 nodeOf Reading c = node.Reading c
 nodeOf Meaningless c = node.Other
 
--- the node at a place, where the sheet used has n operators; past the end there is none
-abbrev pub nodeAt : ℕ → List ℕ → ℕ → Node
-nodeAt n bytes at = cond (ltb at (length bytes)) (nodeOf (class n (getD bytes at 0)) (getD bytes at 0)) node.Other
+-- the node at a place, where the sheet used has these operators; past the end there is none
+abbrev pub nodeAt : Operators → List ℕ → ℕ → Node
+nodeAt ops bytes at = cond (ltb at (length bytes)) (nodeOf (class ops (getD bytes at 0)) (getD bytes at 0)) node.Other

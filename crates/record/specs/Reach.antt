@@ -3,6 +3,7 @@ use Prim.Native.Nat.{ℕ, _<_}
 use mathlib.Core.Path.{_≡_}
 use mathlib.Core.List.{List}
 use Rattle.expression.specs.Refusal.{accepted}
+use Rattle.expression.specs.Token.{Operators}
 use Rattle.expression.specs.Tree.{Tree}
 use Rattle.record.specs.TreeAt.{TreeAt}
 use Rattle.record.specs.declared.ends.Reach.{Reach}
@@ -19,8 +20,8 @@ reachEnd (At to) = to
 reachEnd (Refused number) = 0
 
 -- From the place `from`.
-pub record Reaches (n : ℕ) (bytes : List ℕ) (from : ℕ) (r : Reach) : Type 0 where
+pub record Reaches (ops : Operators) (bytes : List ℕ) (from : ℕ) (r : Reach) : Type 0 where
   -- where a tree stands, its end
-  pub reached : (t : Tree) (to : ℕ) → TreeAt n bytes from t to → (reachNumber r ≡ accepted) × (reachEnd r ≡ to)
+  pub reached : (t : Tree) (to : ℕ) → TreeAt ops bytes from t to → (reachNumber r ≡ accepted) × (reachEnd r ≡ to)
   -- a place that is given lies further on
   pub onward : reachNumber r ≡ accepted → from < reachEnd r

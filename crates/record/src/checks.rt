@@ -4,16 +4,18 @@ ghost use mathlib.Core.Bool.{false};
 ghost use Prim.Native.Nat.{_≤_};
 ghost use lib.Dec.{eqb, leb, ltb};
 ghost use lib.ListN.{length};
-ghost use Rattle.expression.specs.Lists.{any, one};
+ghost use Rattle.expression.specs.Lists.{one};
 ghost use Rattle.expression.specs.Limits.{mostRecordBytes};
-ghost use Rattle.expression.specs.Token.{opening, firstReading, class};
+ghost use Rattle.expression.specs.Token.{opening, firstReading, operators, class};
 ghost use Rattle.expression.specs.Checks.{strangeInRecord};
-ghost use Rattle.record.specs.Checks.{lists, rowLength};
-use sheet::token;
+ghost use Rattle.sheet.specs.Layout.{operatorsOf};
+ghost use Rattle.record.specs.Checks.{hasStranger, lists, rowLength};
+use expression::token;
+use sheet::layout::SHEET_WORDS;
 
 // The byte stands in no record: it has no meaning under n operators, or closes a bracket.
 fn is_strange(n: u8, byte: u8) -> bool
-    ensures { λ r. ⌜ r ≡ strangeInRecord (class n byte) ⌝ }
+    ensures { λ r. ⌜ r ≡ strangeInRecord (class (operators n) byte) ⌝ }
 {
     if byte < token::OPENING {
         return n <= byte;
@@ -25,8 +27,8 @@ fn is_strange(n: u8, byte: u8) -> bool
 }
 
 // Some byte is a stranger. The loop has no branch, so that bytes can be tested side by side.
-pub fn has_stranger(n: u8, bytes: &[u8]) -> bool
-    ensures { λ r. ⌜ r ≡ any (λ c. strangeInRecord (class n c)) (now (bytes .entry)) ⌝ }
+fn any_strange(n: u8, bytes: &[u8]) -> bool
+    ensures { λ r. ⌜ r ≡ hasStranger (operators n) (now (bytes .entry)) ⌝ }
 {
     let mut strange = false;
     let mut at = 0;
@@ -35,6 +37,13 @@ pub fn has_stranger(n: u8, bytes: &[u8]) -> bool
         at += 1;
     }
     strange
+}
+
+// The same under a sheet's operators: their count tells.
+pub fn has_stranger(sheet: &[u32; SHEET_WORDS], bytes: &[u8]) -> bool
+    ensures { λ r. ⌜ r ≡ hasStranger (operatorsOf (now (sheet .entry))) (now (bytes .entry)) ⌝ }
+{
+    any_strange(sheet::operator_count(sheet), bytes)
 }
 
 // 1 where a tree more is due behind the byte, as behind an operator; else 0.
@@ -57,11 +66,11 @@ fn one_fewer(byte: u8) -> usize
     1
 }
 
-// Bytes with no stranger are exactly one tree over n operators: the trees due are counted, and none is due too early.
-pub fn is_tree(n: u8, bytes: &[u8]) -> bool
+// Bytes with no stranger are exactly one tree over the sheet's operators: the trees due are counted, and none is due too early.
+pub fn is_tree(sheet: &[u32; SHEET_WORDS], bytes: &[u8]) -> bool
     requires { ⌜ length (now bytes) ≤ mostRecordBytes ⌝ }
-    requires { ⌜ any (λ c. strangeInRecord (class n c)) (now bytes) ≡ false ⌝ }
-    ensures { λ r. ⌜ r ≡ lists (class n) 1 (now (bytes .entry)) ⌝ }
+    requires { ⌜ hasStranger (operatorsOf (now sheet)) (now bytes) ≡ false ⌝ }
+    ensures { λ r. ⌜ r ≡ lists (class (operatorsOf (now (sheet .entry)))) 1 (now (bytes .entry)) ⌝ }
 {
     let mut due = 1;
     let mut at = 0;
@@ -77,7 +86,7 @@ pub fn is_tree(n: u8, bytes: &[u8]) -> bool
 }
 
 // 1 where the byte opens a bracket, else 0.
-fn opens(byte: u8) -> u8
+fn opens(byte: u8) -> u16
     ensures { λ r. ⌜ r ≡ one (eqb byte opening) ⌝ }
 {
     if byte == token::OPENING {
@@ -91,7 +100,7 @@ pub fn row_length(bytes: &[u8]) -> usize
     requires { ⌜ length (now bytes) ≤ mostRecordBytes ⌝ }
     ensures { λ r. ⌜ r ≡ rowLength (now (bytes .entry)) ⌝ }
 {
-    let mut brackets = 0u8;
+    let mut brackets = 0u16;
     let mut at = 0;
     while at < bytes.len() {
         brackets += opens(bytes[at]);

@@ -1,8 +1,10 @@
 // Where the tree at a place of a record ends.
+ghost use Rattle.sheet.specs.Layout.{operatorsOf};
 ghost use Rattle.record.specs.Reach.{Reaches};
 use crate::Node;
 use crate::node_at;
-use sheet::refusal;
+use expression::refusal;
+use sheet::layout::SHEET_WORDS;
 
 // The place after the tree, or the number of the refusal.
 pub enum Reach {
@@ -11,22 +13,22 @@ pub enum Reach {
 }
 
 // The end of the tree that starts at the place.
-pub fn end_at(n: u8, bytes: &[u8], at: usize) -> Reach
-    ensures { λ r. ⌜ Reaches n (now (bytes .entry)) at r ⌝ }
+pub fn end_at(sheet: &[u32; SHEET_WORDS], bytes: &[u8], at: usize) -> Reach
+    ensures { λ r. ⌜ Reaches (operatorsOf (now (sheet .entry))) (now (bytes .entry)) at r ⌝ }
 {
-    let node = node_at(n, bytes, at);
+    let node = node_at(sheet, bytes, at);
     if let Node::Reading(_) = node {
         return Reach::At(at + 1);
     }
     if let Node::Bracket = node {
-        return end_at(n, bytes, at + 1);
+        return end_at(sheet, bytes, at + 1);
     }
     let Node::Operator(_) = node else {
         return Reach::Refused(refusal::NO_TREE);
     };
-    let left = end_at(n, bytes, at + 1);
+    let left = end_at(sheet, bytes, at + 1);
     let Reach::At(mid) = left else {
         return left;
     };
-    end_at(n, bytes, mid)
+    end_at(sheet, bytes, mid)
 }

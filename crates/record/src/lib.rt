@@ -2,11 +2,13 @@
 ghost use mathlib.Core.Path.{_≡_};
 ghost use Rattle.expression.specs.Checks.{recordNumber};
 ghost use Rattle.expression.specs.Operand.{operandPart};
+ghost use Rattle.sheet.specs.Layout.{operatorsOf};
 ghost use Rattle.record.specs.Node.{nodeAt};
 ghost use Rattle.record.specs.Answers.{Yields, judgement};
-use sheet::limits;
-use sheet::refusal;
-use sheet::token;
+use expression::limits;
+use expression::refusal;
+use expression::token;
+use sheet::layout::SHEET_WORDS;
 
 mod checks;
 mod conflicts;
@@ -15,7 +17,7 @@ mod held;
 pub mod operands;
 mod rows;
 
-// What stands at a place of a record. Other: no byte, or one that begins no tree under n operators.
+// What stands at a place of a record. Other: no byte, or one that begins no tree under the sheet's operators.
 pub enum Node {
     Reading(u8),
     Bracket,
@@ -23,16 +25,16 @@ pub enum Node {
     Other,
 }
 
-// The node at a place, where the sheet used has n operators.
-pub fn node_at(n: u8, bytes: &[u8], at: usize) -> Node
-    ensures { λ r. ⌜ r ≡ nodeAt n (now (bytes .entry)) at ⌝ }
+// The node at a place, under the sheet's operators.
+pub fn node_at(sheet: &[u32; SHEET_WORDS], bytes: &[u8], at: usize) -> Node
+    ensures { λ r. ⌜ r ≡ nodeAt (operatorsOf (now (sheet .entry))) (now (bytes .entry)) at ⌝ }
 {
     if bytes.len() <= at {
         return Node::Other;
     }
     let byte = bytes[at];
     if byte < token::OPENING {
-        if byte < n {
+        if byte < sheet::operator_count(sheet) {
             return Node::Operator(byte);
         }
         return Node::Other;
@@ -46,17 +48,17 @@ pub fn node_at(n: u8, bytes: &[u8], at: usize) -> Node
     Node::Reading(byte)
 }
 
-// The number of a record, where the sheet used has n operators: 1 for its bytes, 3, 7, 1 for its row, or 0.
-pub fn record_number(n: u8, bytes: &[u8]) -> u8
-    ensures { λ r. ⌜ r ≡ recordNumber n (now (bytes .entry)) ⌝ }
+// The number of a record under the sheet's operators: 1 for its bytes, 3, 7, 1 for its row, or 0.
+pub fn record_number(sheet: &[u32; SHEET_WORDS], bytes: &[u8]) -> u8
+    ensures { λ r. ⌜ r ≡ recordNumber (operatorsOf (now (sheet .entry))) (now (bytes .entry)) ⌝ }
 {
     if limits::MOST_RECORD_BYTES < bytes.len() {
         return refusal::OVERSIZE;
     }
-    if checks::has_stranger(n, bytes) {
+    if checks::has_stranger(sheet, bytes) {
         return refusal::STRANGER;
     }
-    if !checks::is_tree(n, bytes) {
+    if !checks::is_tree(sheet, bytes) {
         return refusal::NO_TREE;
     }
     if limits::MOST_TOKENS < checks::row_length(bytes) {
@@ -73,10 +75,10 @@ pub struct Answer {
 }
 
 // The row of the record's tree, written at the front of `out`. After a refusal `out` is as it was.
-pub fn yield_row(n: u8, bytes: &[u8], out: &mut [u8]) -> Answer
-    ensures { λ r. ⌜ Yields n (now (bytes .entry)) (now (out .entry)) (now (out .exit)) r ⌝ }
+pub fn yield_row(sheet: &[u32; SHEET_WORDS], bytes: &[u8], out: &mut [u8]) -> Answer
+    ensures { λ r. ⌜ Yields (operatorsOf (now (sheet .entry))) (now (bytes .entry)) (now (out .entry)) (now (out .exit)) r ⌝ }
 {
-    let number = record_number(n, bytes);
+    let number = record_number(sheet, bytes);
     if number != refusal::ACCEPTED {
         return Answer {
             number: number,
@@ -90,10 +92,10 @@ pub fn yield_row(n: u8, bytes: &[u8], out: &mut [u8]) -> Answer
             length: 0,
         };
     }
-    let mut held = [0u8; 255];
+    let mut held = [0u8; limits::MOST_RECORD_BYTES];
     bytes::copy(bytes, &mut held);
-    let mut row = [0u8; 255];
-    let written = rows::write_row(n, &held, bytes.len(), 0, &mut row, 0);
+    let mut row = [0u8; limits::MOST_TOKENS];
+    let written = rows::write_row(sheet, &held, bytes.len(), 0, &mut row, 0);
     if written == held::NO_TREE {
         return Answer {
             number: refusal::NO_TREE,
@@ -114,20 +116,20 @@ pub struct Judgement {
     pub count: u8,
 }
 
-// The record judged under n operators and the relation "closes before".
-pub fn judge(n: u8, relation: &[u32; 32], bytes: &[u8]) -> Judgement
-    ensures { λ r. ⌜ r ≡ judgement n (now (relation .entry)) (now (bytes .entry)) ⌝ }
+// The record judged under a sheet.
+pub fn judge(sheet: &[u32; SHEET_WORDS], bytes: &[u8]) -> Judgement
+    ensures { λ r. ⌜ r ≡ judgement (now (sheet .entry)) (now (bytes .entry)) ⌝ }
 {
-    let number = record_number(n, bytes);
+    let number = record_number(sheet, bytes);
     if number != refusal::ACCEPTED {
         return Judgement {
             number: number,
             count: 0,
         };
     }
-    let mut held = [0u8; 255];
+    let mut held = [0u8; limits::MOST_RECORD_BYTES];
     bytes::copy(bytes, &mut held);
-    let tally = conflicts::count_at(n, relation, &held, bytes.len(), 0, 0);
+    let tally = conflicts::count_at(sheet, &held, bytes.len(), 0, 0);
     if tally == held::NO_TREE {
         return Judgement {
             number: refusal::NO_TREE,
@@ -136,15 +138,15 @@ pub fn judge(n: u8, relation: &[u32; 32], bytes: &[u8]) -> Judgement
     }
     Judgement {
         number: refusal::ACCEPTED,
-        count: (tally % 256) as u8,
+        count: (tally % held::BASE) as u8,
     }
 }
 
 // The record of the left or of the right operand of the top node: that part of `bytes`. Its number is `record_number`.
-pub fn operand(n: u8, bytes: &[u8], right: bool) -> &[u8]
-    ensures { λ r. ⌜ now r ≡ operandPart n right (now (bytes .entry)) ⌝ }
+pub fn operand<'a, 'b>(sheet: &'a [u32; SHEET_WORDS], bytes: &'b [u8], right: bool) -> &'b [u8]
+    ensures { λ r. ⌜ now r ≡ operandPart (operatorsOf (now (sheet .entry))) right (now (bytes .entry)) ⌝ }
 {
-    let part = operands::operand_part(n, bytes, right);
+    let part = operands::operand_part(sheet, bytes, right);
     let from = part.from;
     let to = part.to;
     &bytes[from..to]

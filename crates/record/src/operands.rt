@@ -1,11 +1,13 @@
 // Where the operands of a record's top node stand.
+ghost use Rattle.sheet.specs.Layout.{operatorsOf};
 ghost use Rattle.record.specs.Operands.{OperandAt};
 use crate::Node;
 use crate::ends;
 use crate::ends::Reach;
 use crate::node_at;
 use crate::record_number;
-use sheet::refusal;
+use expression::refusal;
+use sheet::layout::SHEET_WORDS;
 
 // A part of a record, from a place up to another.
 #[repr(C)]
@@ -15,13 +17,13 @@ pub struct Part {
 }
 
 // The place of the left or of the right operand. A bracket's tree counts as its left; nowhere where there is none.
-pub fn operand_part(n: u8, bytes: &[u8], right: bool) -> Part
-    ensures { λ r. ⌜ OperandAt n right (now (bytes .entry)) r ⌝ }
+pub fn operand_part(sheet: &[u32; SHEET_WORDS], bytes: &[u8], right: bool) -> Part
+    ensures { λ r. ⌜ OperandAt (operatorsOf (now (sheet .entry))) right (now (bytes .entry)) r ⌝ }
 {
-    if record_number(n, bytes) != refusal::ACCEPTED {
+    if record_number(sheet, bytes) != refusal::ACCEPTED {
         return Part { from: 0, to: 0 };
     }
-    let node = node_at(n, bytes, 0);
+    let node = node_at(sheet, bytes, 0);
     if let Node::Bracket = node {
         if right {
             return Part { from: 0, to: 0 };
@@ -34,7 +36,7 @@ pub fn operand_part(n: u8, bytes: &[u8], right: bool) -> Part
     let Node::Operator(_) = node else {
         return Part { from: 0, to: 0 };
     };
-    let left = ends::end_at(n, bytes, 1);
+    let left = ends::end_at(sheet, bytes, 1);
     let Reach::At(mid) = left else {
         return Part { from: 0, to: 0 };
     };

@@ -1,18 +1,22 @@
-// The row of the tree at a place of a record, written into 255 bytes, the most that a row has.
+// The row of the tree at a place of a record, written into as many bytes as a row has at most.
 ghost use mathlib.Core.Path.{_≡_};
 ghost use Prim.Native.Nat.{_<_, _≤_};
 ghost use lib.ListN.{set};
 ghost use Rattle.expression.specs.Limits.{mostTokens, mostRecordBytes};
+ghost use Rattle.sheet.specs.Layout.{operatorsOf};
 ghost use Rattle.record.specs.Held.{front};
 ghost use Rattle.record.specs.Rows.{Writes};
 use crate::Node;
+use crate::held::BASE;
 use crate::held::NO_TREE;
 use crate::held::node_in;
-use sheet::limits;
-use sheet::token;
+use expression::limits::MOST_RECORD_BYTES;
+use expression::limits::MOST_TOKENS;
+use expression::token;
+use sheet::layout::SHEET_WORDS;
 
 // Two tokens, at two places.
-fn set_two(out: &mut [u8; 255], to: usize, next: usize, a: u8, b: u8)
+fn set_two(out: &mut [u8; MOST_TOKENS], to: usize, next: usize, a: u8, b: u8)
     requires { ⌜ to < mostTokens ⌝ }
     requires { ⌜ next < mostTokens ⌝ }
     ensures { λ _. ⌜ now (out .exit) ≡ set (set (now (out .entry)) to a) next b ⌝ }
@@ -21,38 +25,38 @@ fn set_two(out: &mut [u8; 255], to: usize, next: usize, a: u8, b: u8)
     out[next] = b;
 }
 
-// The row goes to `out` from the place `to` on. The answer is the place after the tree in the record times 256, and that
+// The row goes to `out` from the place `to` on. The answer is the place after the tree in the record times the base, and that
 // after its row in `out`. A reading on the left, as in most trees, takes no call.
 pub fn write_row(
-    n: u8,
-    held: &[u8; 255],
+    sheet: &[u32; SHEET_WORDS],
+    held: &[u8; MOST_RECORD_BYTES],
     size: usize,
     at: usize,
-    out: &mut [u8; 255],
+    out: &mut [u8; MOST_TOKENS],
     to: usize,
 ) -> usize
     requires { ⌜ size ≤ mostRecordBytes ⌝ }
-    ensures { λ r. ⌜ Writes n (front size (now (held .entry))) at (now (out .entry)) to (now (out .exit)) r ⌝ }
+    ensures { λ r. ⌜ Writes (operatorsOf (now (sheet .entry))) (front size (now (held .entry))) at (now (out .entry)) to (now (out .exit)) r ⌝ }
 {
     if size <= at {
         return NO_TREE;
     }
-    if limits::MOST_TOKENS <= to {
+    if MOST_TOKENS <= to {
         return NO_TREE;
     }
-    let node = node_in(n, held, size, at);
+    let node = node_in(sheet, held, size, at);
     if let Node::Reading(a) = node {
         out[to] = a;
-        return (at + 1) * 256 + (to + 1);
+        return (at + 1) * BASE + (to + 1);
     }
     if let Node::Bracket = node {
         out[to] = token::OPENING;
-        let inner = write_row(n, held, size, at + 1, out, to + 1);
+        let inner = write_row(sheet, held, size, at + 1, out, to + 1);
         if inner == NO_TREE {
             return NO_TREE;
         }
-        let last = inner % 256;
-        if limits::MOST_TOKENS <= last {
+        let last = inner % BASE;
+        if MOST_TOKENS <= last {
             return NO_TREE;
         }
         out[last] = token::CLOSING;
@@ -61,24 +65,24 @@ pub fn write_row(
     let Node::Operator(o) = node else {
         return NO_TREE;
     };
-    let top = node_in(n, held, size, at + 1);
+    let top = node_in(sheet, held, size, at + 1);
     if let Node::Reading(a) = top {
         let past = at + 2;
         let next = to + 1;
-        if limits::MOST_TOKENS <= next {
+        if MOST_TOKENS <= next {
             return NO_TREE;
         }
         set_two(out, to, next, a, o);
-        return write_row(n, held, size, past, out, next + 1);
+        return write_row(sheet, held, size, past, out, next + 1);
     }
-    let left = write_row(n, held, size, at + 1, out, to);
+    let left = write_row(sheet, held, size, at + 1, out, to);
     if left == NO_TREE {
         return NO_TREE;
     }
-    let seam = left % 256;
-    if limits::MOST_TOKENS <= seam {
+    let seam = left % BASE;
+    if MOST_TOKENS <= seam {
         return NO_TREE;
     }
     out[seam] = o;
-    write_row(n, held, size, left / 256, out, seam + 1)
+    write_row(sheet, held, size, left / BASE, out, seam + 1)
 }

@@ -7,108 +7,105 @@ use native.Mathlib.Nat.{lt-of-lt-of-le}
 use native.Mathlib.Omega.{arith}
 use borrow.Author.Tests.{lt-ltb, le-ltb, eq-eqb, ne-eqb, ltb-false}
 use borrow.Author.Needs.{needs}
+use mir.Val.{Fits}
+use mir.Syntax.{w8}
 use lib.Dec.{eqb, ltb}
-use lib.ListN.{length}
+use lib.ListN.{length, set}
 use Rattle.expression.specs.Lists.{any}
+use Rattle.expression.specs.Limits.{mostOperators, mostRuleBytes, bytesOfRule}
 use Rattle.expression.specs.Refusal.{accepted, oversize, torn, stranger}
+use Rattle.expression.specs.Token.{operators}
 use Rattle.disambiguation.specs.Rules.{L, R}
 use Rattle.disambiguation.specs.SheetChecks.{rulesOf, strangeRule, sheetNumber}
-use Rattle.sheet.specs.Relation.{closes, closesIn, turned}
+use Rattle.sheet.specs.Layout.{countWord, fresh}
+use Rattle.sheet.specs.Relation.{closesIn, turned}
 use Rattle.sheet.specs.Marking.{Reads}
 use Rattle.sheet.specs.Loading.{sizeNumber, rulesNumber, sheetOf, Loads}
-use Rattle.sheet.specs.declared.Sheet.{Sheet}
-use Rattle.sheet.proofs.Marks.{blank, closes-is-R, closes-is-L}
-use Rattle.sheet.proofs.Verdicts.{number-same, accepts, opposite}
+use Rattle.sheet.proofs.Marks.{closes-is-R, closes-is-L}
+use Rattle.sheet.proofs.Verdicts.{number-same}
 
 -- ---- size_number
 module _ (n size : ℕ) where
-  pub many-operators : 32 < n → 1 ≡ sizeNumber n size
+  pub many-operators : mostOperators < n → 1 ≡ sizeNumber n size
   unfolding sizeNumber
-  many-operators h = simp (lt-ltb 32 n h)
+  many-operators h = simp (lt-ltb mostOperators n h)
 
-  pub many-bytes : n ≤ 32 → 6144 < size → 1 ≡ sizeNumber n size
+  pub many-bytes : n ≤ mostOperators → mostRuleBytes < size → 1 ≡ sizeNumber n size
   unfolding sizeNumber
-  many-bytes h k = simp (le-ltb 32 n h, lt-ltb 6144 size k)
+  many-bytes h k = simp (le-ltb mostOperators n h, lt-ltb mostRuleBytes size k)
 
-  pub torn-bytes : n ≤ 32 → size ≤ 6144 → (size % 3 ≡ 0 → ⊥) → 2 ≡ sizeNumber n size
+  pub torn-bytes : n ≤ mostOperators → size ≤ mostRuleBytes → (size % bytesOfRule ≡ 0 → ⊥) → 2 ≡ sizeNumber n size
   unfolding sizeNumber
-  torn-bytes h k t = simp (le-ltb 32 n h, le-ltb 6144 size k, ne-eqb (size % 3) 0 t)
+  torn-bytes h k t = simp (le-ltb mostOperators n h, le-ltb mostRuleBytes size k, ne-eqb (size % bytesOfRule) 0 t)
 
-  pub size-right : n ≤ 32 → size ≤ 6144 → size % 3 ≡ 0 → 0 ≡ sizeNumber n size
+  pub size-right : n ≤ mostOperators → size ≤ mostRuleBytes → size % bytesOfRule ≡ 0 → 0 ≡ sizeNumber n size
   unfolding sizeNumber
-  size-right h k t = simp (le-ltb 32 n h, le-ltb 6144 size k, eq-eqb (size % 3) 0 t)
+  size-right h k t = simp (le-ltb mostOperators n h, le-ltb mostRuleBytes size k, eq-eqb (size % bytesOfRule) 0 t)
 
 pub ruleset size-ways = (many-operators, many-bytes, torn-bytes, size-right, needs)
 
 -- ---- load
-few : (n size : ℕ) → sizeNumber n size ≡ 0 → n ≤ 32
+few : (n size : ℕ) → sizeNumber n size ≡ 0 → n ≤ mostOperators
 unfolding sizeNumber
-few n size e = go (ltb 32 n) (ltb 6144 size) (not (eqb (size % 3) 0)) refl e
+few n size e = go (ltb mostOperators n) (ltb mostRuleBytes size) (not (eqb (size % bytesOfRule) 0)) refl e
   where
-    go : (p q t : Bool) → ltb 32 n ≡ p → cond (p || q) oversize (cond t torn accepted) ≡ accepted → n ≤ 32
+    go : (p q t : Bool) → ltb mostOperators n ≡ p → cond (p || q) oversize (cond t torn accepted) ≡ accepted → n ≤ mostOperators
     go true q t a z = absurd (omega arith)
-    go false q t a z = ltb-false 32 n a
+    go false q t a z = ltb-false mostOperators n a
 
-pub few-operators : {size : ℕ} (n k : ℕ) → size ≡ sizeNumber n k → size ≡ 0 → n ≤ 32
+pub few-operators : {size : ℕ} (n k : ℕ) → size ≡ sizeNumber n k → size ≡ 0 → n ≤ mostOperators
 few-operators n k e z = few n k (sym e ∙ z)
+
+-- so their count fits a byte
+pub few-byte : {size : ℕ} (n k : ℕ) → size ≡ sizeNumber n k → size ≡ 0 → Fits w8 n
+few-byte n k e z = record { fits = omega (arith, few n k (sym e ∙ z)) }
 
 module _ (n : ℕ) (bytes : List ℕ) where
   -- the number by its two parts
   by-size : (sizeNumber n (length bytes) ≡ 0 → ⊥) → sizeNumber n (length bytes) ≡ sheetNumber n bytes
   unfolding sizeNumber sheetNumber
-  by-size h = go (ltb 32 n || ltb 6144 (length bytes)) (not (eqb (length bytes % 3) 0)) _ h
+  by-size h = go (ltb mostOperators n || ltb mostRuleBytes (length bytes)) (not (eqb (length bytes % bytesOfRule) 0)) _ h
     where
       go : (p t : Bool) (rest : ℕ) → (cond p oversize (cond t torn accepted) ≡ accepted → ⊥) → cond p oversize (cond t torn accepted) ≡ cond p oversize (cond t torn rest)
       go true t rest k = refl
       go false true rest k = refl
       go false false rest k = absurd (k refl)
 
-  by-rules : sizeNumber n (length bytes) ≡ 0 → rulesNumber (any (strangeRule n) (rulesOf bytes)) n (L (rulesOf bytes)) (R (rulesOf bytes)) ≡ sheetNumber n bytes
+  by-rules : sizeNumber n (length bytes) ≡ 0 → rulesNumber (any (strangeRule n) (rulesOf bytes)) (operators n) (L (rulesOf bytes)) (R (rulesOf bytes)) ≡ sheetNumber n bytes
   unfolding sizeNumber sheetNumber rulesNumber
-  by-rules h = go (ltb 32 n || ltb 6144 (length bytes)) (not (eqb (length bytes % 3) 0)) _ h
+  by-rules h = go (ltb mostOperators n || ltb mostRuleBytes (length bytes)) (not (eqb (length bytes % bytesOfRule) 0)) _ h
     where
       go : (p t : Bool) (rest : ℕ) → cond p oversize (cond t torn accepted) ≡ accepted → rest ≡ cond p oversize (cond t torn rest)
       go true t rest k = absurd (omega arith)
       go false true rest k = absurd (omega arith)
       go false false rest k = refl
 
-  refused : {number : ℕ} (old : Sheet) → number ≡ sheetNumber n bytes → (number ≡ 0 → ⊥) → Loads old n bytes (record { number = number; sheet = old })
-  refused old e h = record {
-    number = e;
-    kept = λ k. refl;
-    whole = λ z. absurd (h (e ∙ z));
-    operators = λ z. absurd (h (e ∙ z));
-    relation = λ z. absurd (h (e ∙ z));
-    opposite = λ z. absurd (h (e ∙ z));
-  }
+  refused : {number : ℕ} (before : List ℕ) → number ≡ sheetNumber n bytes → (number ≡ 0 → ⊥) → Loads before n bytes number before
+  refused before e h = record { number = e; stands = rw (ne-eqb (sheetNumber n bytes) accepted (λ z. h (e ∙ z))) }
 
-  pub load-size : {size : ℕ} (old : Sheet) → size ≡ sizeNumber n (length bytes) → (size ≡ 0 → ⊥) → Loads old n bytes (record { number = size; sheet = old })
-  load-size old e h = refused old (e ∙ by-size (λ z. h (e ∙ z))) h
+  pub load-size : {size : ℕ} (before : List ℕ) → size ≡ sizeNumber n (length bytes) → (size ≡ 0 → ⊥) → Loads before n bytes size before
+  load-size before e h = refused before (e ∙ by-size (λ z. h (e ∙ z))) h
 
--- a sheet of these words
-abbrev made : ℕ → List ℕ → Sheet
-made n words = record { n = n; closes = words }
-
--- The rules read, from blank tables.
-module _ (n : ℕ) (bytes t u : List ℕ) {strange : Bool} (few : n ≤ 32) (read : Reads n bytes blank blank t u strange) where
-  relation-is : strange ≡ false → (a b : ℕ) → a < 32 → b < 32 → closesIn t a b ≡ R (rulesOf bytes) a b
+-- The rules read, from tables with no mark.
+module _ (n : ℕ) (bytes t u : List ℕ) {strange : Bool} (few : n ≤ mostOperators) (read : Reads n bytes fresh fresh t u strange) where
+  relation-is : strange ≡ false → (a b : ℕ) → a < mostOperators → b < mostOperators → closesIn t a b ≡ R (rulesOf bytes) a b
   relation-is z a b ha hb = ap (λ (w : List ℕ). closesIn w a b) (read .excludes-right z) ∙ closes-is-R (rulesOf bytes) a b ha hb
 
-  turned-is : strange ≡ false → (a b : ℕ) → a < 32 → b < 32 → turned (closesIn u) a b ≡ L (rulesOf bytes) a b
+  turned-is : strange ≡ false → (a b : ℕ) → a < mostOperators → b < mostOperators → turned (closesIn u) a b ≡ L (rulesOf bytes) a b
   turned-is z a b ha hb = ap (λ (w : List ℕ). closesIn w b a) (read .excludes-left z) ∙ closes-is-L (rulesOf bytes) b a hb ha
 
-  number-is : rulesNumber strange n (turned (closesIn u)) (closesIn t) ≡ rulesNumber (any (strangeRule n) (rulesOf bytes)) n (L (rulesOf bytes)) (R (rulesOf bytes))
+  number-is : rulesNumber strange (operators n) (turned (closesIn u)) (closesIn t) ≡ rulesNumber (any (strangeRule n) (rulesOf bytes)) (operators n) (L (rulesOf bytes)) (R (rulesOf bytes))
   unfolding rulesNumber
-  number-is = go strange refl ∙ ap (λ (s : Bool). rulesNumber s n (L (rulesOf bytes)) (R (rulesOf bytes))) (read .strange)
+  number-is = go strange refl ∙ ap (λ (s : Bool). rulesNumber s (operators n) (L (rulesOf bytes)) (R (rulesOf bytes))) (read .strange)
     where
-      go : (s : Bool) → strange ≡ s → rulesNumber strange n (turned (closesIn u)) (closesIn t) ≡ rulesNumber strange n (L (rulesOf bytes)) (R (rulesOf bytes))
+      go : (s : Bool) → strange ≡ s → rulesNumber strange (operators n) (turned (closesIn u)) (closesIn t) ≡ rulesNumber strange (operators n) (L (rulesOf bytes)) (R (rulesOf bytes))
       go true z = rw z
       go false z =
           number-same n (turned (closesIn u)) (L (rulesOf bytes)) (closesIn t) (R (rulesOf bytes))
           (λ a b ha hb. turned-is z a b (lt-of-lt-of-le ha few) (lt-of-lt-of-le hb few))
           (λ a b ha hb. relation-is z a b (lt-of-lt-of-le ha few) (lt-of-lt-of-le hb few)) strange
 
-  none-strange : rulesNumber strange n (turned (closesIn u)) (closesIn t) ≡ accepted → strange ≡ false
+  none-strange : rulesNumber strange (operators n) (turned (closesIn u)) (closesIn t) ≡ accepted → strange ≡ false
   unfolding rulesNumber
   none-strange e = go strange _ refl e
     where
@@ -116,29 +113,21 @@ module _ (n : ℕ) (bytes t u : List ℕ) {strange : Bool} (few : n ≤ 32) (rea
       go true rest z k = absurd (omega arith)
       go false rest z k = z
 
-module _ {size number : ℕ} {strange : Bool} (old : Sheet) (n : ℕ) (bytes t u : List ℕ) (size-is : size ≡ sizeNumber n (length bytes)) (small : size ≡ 0)
-    (read : Reads n bytes blank blank t u strange) (number-of : number ≡ rulesNumber strange n (turned (closesIn u)) (closesIn t)) where
+module _ {size number : ℕ} {strange : Bool} (before : List ℕ) (n : ℕ) (bytes t u : List ℕ) (size-is : size ≡ sizeNumber n (length bytes)) (small : size ≡ 0)
+    (read : Reads n bytes fresh fresh t u strange) (number-of : number ≡ rulesNumber strange (operators n) (turned (closesIn u)) (closesIn t)) where
   sheet-number : number ≡ sheetNumber n bytes
   sheet-number = number-of ∙ number-is n bytes t u (few-operators n (length bytes) size-is small) read ∙ by-rules n bytes (sym size-is ∙ small)
 
-  pub load-rules : (number ≡ 0 → ⊥) → Loads old n bytes (record { number = number; sheet = old })
-  load-rules h = refused n bytes old sheet-number h
+  pub load-rules : (number ≡ 0 → ⊥) → Loads before n bytes number before
+  load-rules h = refused n bytes before sheet-number h
 
-  pub load-accepted : number ≡ 0 → Loads old n bytes (record { number = number; sheet = record { n = n; closes = t } })
-  unfolding closes sheetOf
+  pub load-accepted : number ≡ 0 → Loads before n bytes 0 (set t countWord n)
+  unfolding sheetOf
   load-accepted z =
-      let l : n ≤ 32 = few-operators n (length bytes) size-is small in
-      let plain : strange ≡ false = none-strange n bytes t u l read (sym number-of ∙ z) in
-      let k = accepts strange n (turned (closesIn u)) (closesIn t) (sym number-of ∙ z) in
+      let plain : strange ≡ false = none-strange n bytes t u (few-operators n (length bytes) size-is small) read (sym number-of ∙ z) in
       record {
-        number = sheet-number;
-        kept = λ h. absurd (h (sym sheet-number ∙ z));
-        whole = λ e. ap (λ (w : List ℕ). made n w) (read .excludes-right plain);
-        operators = λ e. refl;
-        relation = λ e. relation-is n bytes t u l read plain;
-        opposite = λ e a b ha hb.
-            sym (turned-is n bytes t u l read plain b a (lt-of-lt-of-le hb l) (lt-of-lt-of-le ha l))
-            ∙ opposite n (turned (closesIn u)) (closesIn t) k a b ha hb;
+        number = sym z ∙ sheet-number;
+        stands = rw (eq-eqb (sheetNumber n bytes) accepted (sym sheet-number ∙ z)) (ap (λ (w : List ℕ). set w countWord n) (read .excludes-right plain));
       }
 
-pub ruleset load-ways = (few-operators, load-size, load-rules, load-accepted, needs)
+pub ruleset load-ways = (few-operators, few-byte, load-size, load-rules, load-accepted, needs)

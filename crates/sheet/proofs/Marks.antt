@@ -8,16 +8,18 @@ use native.Mathlib.Omega.{arith}
 use borrow.Author.Tests.{eq-eqb, ne-eqb}
 use lib.Bits.{bitOr}
 use lib.Dec.{eqb}
-use lib.ListN.{getD, set, length, length-set, replicate, getD-replicate}
+use lib.ListN.{getD, set, length, length-set, getD-replicate}
 use lib.Seq.{getD-set-same, getD-set-other}
 use Rattle.expression.specs.Lists.{any}
+use Rattle.expression.specs.Limits.{mostOperators}
 use Rattle.disambiguation.specs.Rules.{Rule, priority, left, right, L, R, givesL, givesR}
+use Rattle.sheet.specs.Layout.{sheetWords, fresh}
 use Rattle.sheet.specs.Relation.{bitOf, closesIn}
 use Rattle.sheet.specs.Marking.{marked, marksR, marksL, marksAll}
 use Rattle.sheet.proofs.Bits.{bit-or, bit-pow, bit-zero}
 use Rattle.sheet.proofs.WordTests.{closes-bit}
 
-length-marked : (t : List ℕ) (a b : ℕ) (on : Bool) → length (marked t a b on) ≡ length t
+pub length-marked : (t : List ℕ) (a b : ℕ) (on : Bool) → length (marked t a b on) ≡ length t
 unfolding marked
 length-marked t a b true = length-set t a (bitOr (getD t a 0) (2 ^ b))
 length-marked t a b false = refl
@@ -37,8 +39,8 @@ bit-marked t a b x y h =
           ∙ sym (or-false (bitOf (getD t x 0) y)) ∙ ap (λ (p : Bool). bitOf (getD t x 0) y || (p && eqb b y)) (sym (ne-eqb a x ne))
     ]
 
--- One mark in a table of 32 words.
-closes-marked : (t : List ℕ) (a b : ℕ) (on : Bool) (x y : ℕ) → length t ≡ 32 → x < 32 → y < 32
+-- One mark in a table as long as a sheet.
+closes-marked : (t : List ℕ) (a b : ℕ) (on : Bool) (x y : ℕ) → length t ≡ sheetWords → x < mostOperators → y < mostOperators
     → closesIn (marked t a b on) x y ≡ (closesIn t x y || (on && (eqb a x && eqb b y)))
 unfolding marked
 closes-marked t a b true x y long hx hy =
@@ -46,13 +48,13 @@ closes-marked t a b true x y long hx hy =
     ∙ ap (λ (p : Bool). p || (eqb a x && eqb b y)) (sym (closes-bit t x y hx hy))
 closes-marked t a b false x y long hx hy = sym (or-false (closesIn t x y))
 
-closes-marksR : (r : Rule) (t : List ℕ) (x y : ℕ) → length t ≡ 32 → x < 32 → y < 32 → closesIn (marksR r t) x y ≡ (closesIn t x y || givesR x y r)
+closes-marksR : (r : Rule) (t : List ℕ) (x y : ℕ) → length t ≡ sheetWords → x < mostOperators → y < mostOperators → closesIn (marksR r t) x y ≡ (closesIn t x y || givesR x y r)
 unfolding marksR
 closes-marksR r t x y long hx hy =
     closes-marked t (r .first) (r .second) _ x y long hx hy
     ∙ ap (λ (p : Bool). closesIn t x y || p) (and-or-distrib-right (eqb (r .kind) priority) (eqb (r .kind) left) (eqb (r .first) x && eqb (r .second) y))
 
-closes-marksL : (r : Rule) (t : List ℕ) (x y : ℕ) → length t ≡ 32 → x < 32 → y < 32 → closesIn (marksL r t) x y ≡ (closesIn t x y || givesL y x r)
+closes-marksL : (r : Rule) (t : List ℕ) (x y : ℕ) → length t ≡ sheetWords → x < mostOperators → y < mostOperators → closesIn (marksL r t) x y ≡ (closesIn t x y || givesL y x r)
 unfolding marksL
 closes-marksL r t x y long hx hy =
     closes-marked t (r .second) (r .first) _ x y long hx hy
@@ -62,8 +64,8 @@ closes-marksL r t x y long hx hy =
 
 -- All rules, where a mark of one adds the pairs that the rule gives.
 module _ (marks : Rule → List ℕ → List ℕ) (gives : ℕ → ℕ → Rule → Bool) (kept : (r : Rule) (t : List ℕ) → length (marks r t) ≡ length t)
-    (adds : (r : Rule) (t : List ℕ) (x y : ℕ) → length t ≡ 32 → x < 32 → y < 32 → closesIn (marks r t) x y ≡ (closesIn t x y || gives x y r)) where
-  closes-marksAll : (rs : List Rule) (t : List ℕ) (x y : ℕ) → length t ≡ 32 → x < 32 → y < 32
+    (adds : (r : Rule) (t : List ℕ) (x y : ℕ) → length t ≡ sheetWords → x < mostOperators → y < mostOperators → closesIn (marks r t) x y ≡ (closesIn t x y || gives x y r)) where
+  closes-marksAll : (rs : List Rule) (t : List ℕ) (x y : ℕ) → length t ≡ sheetWords → x < mostOperators → y < mostOperators
       → closesIn (marksAll marks rs t) x y ≡ (closesIn t x y || any (gives x y) rs)
   unfolding marksAll
   closes-marksAll [] t x y long hx hy = sym (or-false (closesIn t x y))
@@ -71,23 +73,19 @@ module _ (marks : Rule → List ℕ → List ℕ) (gives : ℕ → ℕ → Rule 
       closes-marksAll rs (marks r t) x y (kept r t ∙ long) hx hy ∙ ap (λ (p : Bool). p || any (gives x y) rs) (adds r t x y long hx hy)
       ∙ or-assoc (closesIn t x y) (gives x y r) (any (gives x y) rs)
 
--- the table with no mark
-abbrev pub blank : List ℕ
-blank = replicate 32 0
-
-pub closes-blank : (x y : ℕ) → x < 32 → y < 32 → closesIn blank x y ≡ false
+pub closes-blank : (x y : ℕ) → x < mostOperators → y < mostOperators → closesIn fresh x y ≡ false
 closes-blank x y hx hy =
-    closes-bit blank x y hx hy ∙ ap (λ (w : ℕ). bitOf w y) (getD-replicate {A = ℕ} 32 x 0 0 hx) ∙ bit-zero y
+    closes-bit fresh x y hx hy ∙ ap (λ (w : ℕ). bitOf w y) (getD-replicate {A = ℕ} sheetWords x 0 0 (omega arith)) ∙ bit-zero y
 
--- From a blank table, the patterns R and L that the rules exclude, L turned round.
-pub closes-is-R : (rs : List Rule) (x y : ℕ) → x < 32 → y < 32 → closesIn (marksAll marksR rs blank) x y ≡ R rs x y
+-- From a table with no mark, the patterns R and L that the rules exclude, L turned round.
+pub closes-is-R : (rs : List Rule) (x y : ℕ) → x < mostOperators → y < mostOperators → closesIn (marksAll marksR rs fresh) x y ≡ R rs x y
 unfolding R marksR
 closes-is-R rs x y hx hy =
-    closes-marksAll marksR givesR (λ r t. length-marked t _ _ _) closes-marksR rs blank x y refl hx hy
+    closes-marksAll marksR givesR (λ r t. length-marked t _ _ _) closes-marksR rs fresh x y refl hx hy
     ∙ ap (λ (p : Bool). p || any (givesR x y) rs) (closes-blank x y hx hy)
 
-pub closes-is-L : (rs : List Rule) (x y : ℕ) → x < 32 → y < 32 → closesIn (marksAll marksL rs blank) x y ≡ L rs y x
+pub closes-is-L : (rs : List Rule) (x y : ℕ) → x < mostOperators → y < mostOperators → closesIn (marksAll marksL rs fresh) x y ≡ L rs y x
 unfolding L marksL
 closes-is-L rs x y hx hy =
-    closes-marksAll marksL (λ a b. givesL b a) (λ r t. length-marked t _ _ _) closes-marksL rs blank x y refl hx hy
+    closes-marksAll marksL (λ a b. givesL b a) (λ r t. length-marked t _ _ _) closes-marksL rs fresh x y refl hx hy
     ∙ ap (λ (p : Bool). p || any (givesL y x) rs) (closes-blank x y hx hy)

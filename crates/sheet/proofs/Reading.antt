@@ -13,6 +13,7 @@ use lib.Dec.{eqb}
 use lib.ListN.{length, getD, drop, set, length-drop}
 use lib.Seq.{drop-cons, set-getD}
 use Rattle.expression.specs.Lists.{any, one}
+use Rattle.expression.specs.Limits.{mostOperators}
 use Rattle.disambiguation.specs.Rules.{Rule, rule, priority, left, right}
 use Rattle.disambiguation.specs.SheetChecks.{rulesOf, strangeRule}
 use Rattle.sheet.specs.Marking.{marked, marksR, marksL, marksAll, Takes, Reads}
@@ -57,7 +58,7 @@ bit-off on e = rw e
 pub ruleset bit-ways = (bit-on, bit-off, needs)
 
 -- a bit that is off changes nothing
-pub mark-either : {r : ℕ} (t : List ℕ) (a b : ℕ) (on : Bool) → r ≡ one on → b < 32 → set t a (bitOr (getD t a 0) ((r * 2 ^ b) % 2 ^ 32)) ≡ marked t a b on
+pub mark-either : {r : ℕ} (t : List ℕ) (a b : ℕ) (on : Bool) → r ≡ one on → b < mostOperators → set t a (bitOr (getD t a 0) ((r * 2 ^ b) % 2 ^ 32)) ≡ marked t a b on
 unfolding marked
 mark-either {r} t a b on q h = ap (λ k. set t a (bitOr (getD t a 0) ((k * 2 ^ b) % 2 ^ 32))) q ∙ go on
   where
@@ -68,11 +69,11 @@ mark-either {r} t a b on q h = ap (λ k. set t a (bitOr (getD t a 0) ((k * 2 ^ b
 pub ruleset mark-ways = (mark-either, needs)
 
 -- ---- take_rule
-module _ {r : Bool} (n k a b : ℕ) (few : n ≤ 32) (s : r ≡ strangeRule n (rule k a b)) (not-strange : r ≡ false) where
-  pub first-below : a < 32
+module _ {r : Bool} (n k a b : ℕ) (few : n ≤ mostOperators) (s : r ≡ strangeRule n (rule k a b)) (not-strange : r ≡ false) where
+  pub first-below : a < mostOperators
   first-below = lt-of-lt-of-le (first-operator n (rule k a b) (sym s ∙ not-strange)) few
 
-  pub second-below : b < 32
+  pub second-below : b < mostOperators
   second-below = lt-of-lt-of-le (second-operator n (rule k a b) (sym s ∙ not-strange)) few
 
 pub take-strange : {r : Bool} (n k a b : ℕ) (t u : List ℕ) → r ≡ strangeRule n (rule k a b) → r ≡ true → Takes n (rule k a b) t u t u true

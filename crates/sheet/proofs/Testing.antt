@@ -1,5 +1,5 @@
 -- What each way through the tests of a sheet's relations gives, from what is known on it. Assumes nothing.
-use mathlib.Core.Path.{_≡_, sym, ap, _∙_}
+use mathlib.Core.Path.{_≡_, refl, sym, ap, _∙_}
 use mathlib.Core.Bool.{Bool, true, false}
 use mathlib.Core.List.{List}
 use Prim.Native.Nat.{ℕ, _+_, _-_, _*_, _/_, _%_, _^_, _<_, _≤_}
@@ -13,8 +13,11 @@ use lib.Bits.{bitAnd, bitOr}
 use lib.Dec.{eqb}
 use lib.ListN.{getD}
 use lib.Pow.{pow-pos, pow-mono}
+use Rattle.expression.specs.Limits.{mostOperators}
+use Rattle.expression.specs.Token.{operators}
 use Rattle.disambiguation.specs.Below.{allBelow}
 use Rattle.disambiguation.specs.Verdict.{safe, total, within, level}
+use Rattle.sheet.specs.Layout.{countWord, operatorsOf}
 use Rattle.sheet.specs.Relation.{bitOf, closesIn, turned}
 use Rattle.sheet.specs.Tests.{noneInBoth, eachInOne, safeFor, totalFor, levelPair, levelFor}
 use Rattle.sheet.specs.Loading.{rulesNumber}
@@ -23,7 +26,7 @@ use Rattle.sheet.proofs.Bits.{one-shifted, bit-test}
 use Rattle.sheet.proofs.WordTests.{both-masked, one-masked, within-masked, closes-bit, safe-by-words, total-by-words, within-by-words}
 
 -- ---- mask
-module _ (n : ℕ) (few : n ≤ 32) where
+module _ (n : ℕ) (few : n ≤ mostOperators) where
   shifted : (1 * 2 ^ n) % 2 ^ 64 ≡ 2 ^ n
   shifted = one-shifted n 64 (omega arith)
 
@@ -45,26 +48,33 @@ has-test = bit-test
 pub apart-test : (n x y m : ℕ) → m ≡ 2 ^ n - 1 → eqb (bitAnd (bitAnd x y) m) 0 ≡ noneInBoth n (bitOf x) (bitOf y)
 apart-test n x y m e = rw e (both-masked n x y)
 
-pub cover-test : (n x y m : ℕ) → n ≤ 32 → Fits w32 x → Fits w32 y → m ≡ 2 ^ n - 1
+pub cover-test : (n x y m : ℕ) → n ≤ mostOperators → Fits w32 x → Fits w32 y → m ≡ 2 ^ n - 1
     → eqb (bitAnd ((2 ^ 32 - 1) - bitOr x y) m) 0 ≡ eachInOne n (bitOf x) (bitOf y)
 cover-test n x y m few fx fy e = rw e (one-masked 32 n x y few (fx .fits) (fy .fits))
 
-pub inside-test : (n x y m : ℕ) → n ≤ 32 → Fits w32 y → m ≡ 2 ^ n - 1
+pub inside-test : (n x y m : ℕ) → n ≤ mostOperators → Fits w32 y → m ≡ 2 ^ n - 1
     → eqb (bitAnd (bitAnd x ((2 ^ 32 - 1) - y)) m) 0 ≡ within n (bitOf x) (bitOf y)
 inside-test n x y m few fy e = rw e (within-masked 32 n x y few (fy .fits))
 
 pub ruleset word-ways = (has-test, apart-test, cover-test, inside-test, needs)
 
+-- ---- operator_count
+pub count-in-word : (sheet : List ℕ) → getD sheet countWord 0 % 256 ≡ operatorsOf sheet .count
+unfolding operatorsOf
+count-in-word sheet = refl
+
+pub ruleset operator-count-ways = (count-in-word, needs)
+
 -- ---- closes_before
-pub first-none : (t : List ℕ) (a b : ℕ) → 32 ≤ a → false ≡ closesIn t a b
+pub first-none : (t : List ℕ) (a b : ℕ) → mostOperators ≤ a → false ≡ closesIn t a b
 unfolding closesIn
-first-none t a b h = simp (le-ltb a 32 h)
+first-none t a b h = simp (le-ltb a mostOperators h)
 
-pub second-none : (t : List ℕ) (a b : ℕ) → a < 32 → 32 ≤ b → false ≡ closesIn t a b
+pub second-none : (t : List ℕ) (a b : ℕ) → a < mostOperators → mostOperators ≤ b → false ≡ closesIn t a b
 unfolding closesIn
-second-none t a b h k = simp (lt-ltb a 32 h, le-ltb b 32 k)
+second-none t a b h k = simp (lt-ltb a mostOperators h, le-ltb b mostOperators k)
 
-pub both-some : {r : Bool} (t : List ℕ) (a b : ℕ) → a < 32 → b < 32 → r ≡ bitOf (getD t a 0) b → r ≡ closesIn t a b
+pub both-some : {r : Bool} (t : List ℕ) (a b : ℕ) → a < mostOperators → b < mostOperators → r ≡ bitOf (getD t a 0) b → r ≡ closesIn t a b
 both-some t a b h k e = e ∙ sym (closes-bit t a b h k)
 
 pub ruleset closes-before-ways = (first-none, second-none, both-some, needs)
@@ -77,31 +87,31 @@ module _ (n : ℕ) (t u : List ℕ) where
   abbrev totalOf : ℕ → Bool
   totalOf = totalFor n (turned (closesIn u)) (closesIn t)
 
-  pub safe-more : {r : Bool} (a : ℕ) → n ≤ 32 → a < n → r ≡ noneInBoth n (bitOf (getD t a 0)) (bitOf (getD u a 0)) → r ≡ true
+  pub safe-more : {r : Bool} (a : ℕ) → n ≤ mostOperators → a < n → r ≡ noneInBoth n (bitOf (getD t a 0)) (bitOf (getD u a 0)) → r ≡ true
       → allBelow a (safeFor n (turned (closesIn u)) (closesIn t)) ≡ true → allBelow (a + 1) (safeFor n (turned (closesIn u)) (closesIn t)) ≡ true
   safe-more a few h e z p = all-more safeOf a p (sym (safe-by-words n t u few a h) ∙ sym e ∙ z)
 
-  pub safe-fails : {r : Bool} (a : ℕ) → n ≤ 32 → a < n → r ≡ noneInBoth n (bitOf (getD t a 0)) (bitOf (getD u a 0)) → r ≡ false
-      → false ≡ safe n (turned (closesIn u)) (closesIn t)
+  pub safe-fails : {r : Bool} (a : ℕ) → n ≤ mostOperators → a < n → r ≡ noneInBoth n (bitOf (getD t a 0)) (bitOf (getD u a 0)) → r ≡ false
+      → false ≡ safe (operators n) (turned (closesIn u)) (closesIn t)
   unfolding safe safeFor noneInBoth
   safe-fails a few h e z = sym (all-fails safeOf n a h (sym (safe-by-words n t u few a h) ∙ sym e ∙ z))
 
   pub safe-done : (a : ℕ) → allBelow a (safeFor n (turned (closesIn u)) (closesIn t)) ≡ true → a ≤ n → n ≤ a
-      → true ≡ safe n (turned (closesIn u)) (closesIn t)
+      → true ≡ safe (operators n) (turned (closesIn u)) (closesIn t)
   unfolding safe safeFor noneInBoth
   safe-done a p l k = sym (all-done safeOf n a p l k)
 
-  pub total-more : {r : Bool} (a : ℕ) → n ≤ 32 → a < n → r ≡ eachInOne n (bitOf (getD t a 0)) (bitOf (getD u a 0)) → r ≡ true
+  pub total-more : {r : Bool} (a : ℕ) → n ≤ mostOperators → a < n → r ≡ eachInOne n (bitOf (getD t a 0)) (bitOf (getD u a 0)) → r ≡ true
       → allBelow a (totalFor n (turned (closesIn u)) (closesIn t)) ≡ true → allBelow (a + 1) (totalFor n (turned (closesIn u)) (closesIn t)) ≡ true
   total-more a few h e z p = all-more totalOf a p (sym (total-by-words n t u few a h) ∙ sym e ∙ z)
 
-  pub total-fails : {r : Bool} (a : ℕ) → n ≤ 32 → a < n → r ≡ eachInOne n (bitOf (getD t a 0)) (bitOf (getD u a 0)) → r ≡ false
-      → false ≡ total n (turned (closesIn u)) (closesIn t)
+  pub total-fails : {r : Bool} (a : ℕ) → n ≤ mostOperators → a < n → r ≡ eachInOne n (bitOf (getD t a 0)) (bitOf (getD u a 0)) → r ≡ false
+      → false ≡ total (operators n) (turned (closesIn u)) (closesIn t)
   unfolding total totalFor eachInOne
   total-fails a few h e z = sym (all-fails totalOf n a h (sym (total-by-words n t u few a h) ∙ sym e ∙ z))
 
   pub total-done : (a : ℕ) → allBelow a (totalFor n (turned (closesIn u)) (closesIn t)) ≡ true → a ≤ n → n ≤ a
-      → true ≡ total n (turned (closesIn u)) (closesIn t)
+      → true ≡ total (operators n) (turned (closesIn u)) (closesIn t)
   unfolding total totalFor eachInOne
   total-done a p l k = sym (all-done totalOf n a p l k)
 
@@ -110,7 +120,7 @@ pub ruleset safe-ways = (all-none, safe-more, safe-fails, safe-done, not-true, n
 pub ruleset total-ways = (all-none, total-more, total-fails, total-done, not-true, not-false, needs)
 
 -- ---- pair_level
-module _ (n : ℕ) (t : List ℕ) (a b : ℕ) {p r : Bool} (few : n ≤ 32) (ha : a < n) (hb : b < n) (is : p ≡ bitOf (getD t a 0) b) where
+module _ (n : ℕ) (t : List ℕ) (a b : ℕ) {p r : Bool} (few : n ≤ mostOperators) (ha : a < n) (hb : b < n) (is : p ≡ bitOf (getD t a 0) b) where
   pub pair-closes : p ≡ true → r ≡ within n (bitOf (getD t b 0)) (bitOf (getD t a 0)) → r ≡ levelPair n (closesIn t) a b
   unfolding levelPair
   pair-closes z e = rw (closes-bit t a b (lt-of-lt-of-le ha few) (lt-of-lt-of-le hb few) ∙ sym is ∙ z) (e ∙ within-by-words n t b a few hb ha)
@@ -135,7 +145,7 @@ module _ (n : ℕ) (t : List ℕ) {r : Bool} where
       → allBelow a (levelFor n (closesIn t)) ≡ true → allBelow (a + 1) (levelFor n (closesIn t)) ≡ true
   level-more a e z p = all-more (levelFor n (closesIn t)) a p (sym e ∙ z)
 
-  pub level-fails : (a : ℕ) → a < n → r ≡ levelFor n (closesIn t) a → r ≡ false → false ≡ level n (closesIn t)
+  pub level-fails : (a : ℕ) → a < n → r ≡ levelFor n (closesIn t) a → r ≡ false → false ≡ level (operators n) (closesIn t)
   unfolding level levelFor levelPair
   level-fails a h e z = sym (all-fails (levelFor n (closesIn t)) n a h (sym e ∙ z))
 
@@ -143,7 +153,7 @@ pub row-done : (n : ℕ) (t : List ℕ) (a b : ℕ) → allBelow b (levelPair n 
 unfolding levelFor
 row-done n t a b p l k = sym (all-done (levelPair n (closesIn t) a) n b p l k)
 
-pub level-done : (n : ℕ) (t : List ℕ) (a : ℕ) → allBelow a (levelFor n (closesIn t)) ≡ true → a ≤ n → n ≤ a → true ≡ level n (closesIn t)
+pub level-done : (n : ℕ) (t : List ℕ) (a : ℕ) → allBelow a (levelFor n (closesIn t)) ≡ true → a ≤ n → n ≤ a → true ≡ level (operators n) (closesIn t)
 unfolding level levelFor levelPair
 level-done n t a p l k = sym (all-done (levelFor n (closesIn t)) n a p l k)
 
@@ -153,25 +163,25 @@ pub ruleset level-ways = (all-none, level-more, level-fails, level-done, not-tru
 
 -- ---- rules_number
 module _ (n : ℕ) (L R : ℕ → ℕ → Bool) {s : Bool} where
-  pub number-strange : s ≡ true → 3 ≡ rulesNumber s n L R
+  pub number-strange : s ≡ true → 3 ≡ rulesNumber s (operators n) L R
   unfolding rulesNumber
   number-strange z = rw z
 
-module _ (n : ℕ) (L R : ℕ → ℕ → Bool) {s p : Bool} (z : s ≡ false) (safe-is : p ≡ safe n L R) where
-  pub number-dead : p ≡ false → 4 ≡ rulesNumber s n L R
+module _ (n : ℕ) (L R : ℕ → ℕ → Bool) {s p : Bool} (z : s ≡ false) (safe-is : p ≡ safe (operators n) L R) where
+  pub number-dead : p ≡ false → 4 ≡ rulesNumber s (operators n) L R
   unfolding rulesNumber
   number-dead y = rw (z, sym safe-is ∙ y)
 
-module _ (n : ℕ) (L R : ℕ → ℕ → Bool) {s p q : Bool} (z : s ≡ false) (safe-is : p ≡ safe n L R) (y : p ≡ true) (total-is : q ≡ total n L R) where
-  pub number-open : q ≡ false → 5 ≡ rulesNumber s n L R
+module _ (n : ℕ) (L R : ℕ → ℕ → Bool) {s p q : Bool} (z : s ≡ false) (safe-is : p ≡ safe (operators n) L R) (y : p ≡ true) (total-is : q ≡ total (operators n) L R) where
+  pub number-open : q ≡ false → 5 ≡ rulesNumber s (operators n) L R
   unfolding rulesNumber
   number-open x = rw (z, sym safe-is ∙ y, sym total-is ∙ x)
 
-  pub number-uneven : {l : Bool} → q ≡ true → l ≡ level n R → l ≡ false → 5 ≡ rulesNumber s n L R
+  pub number-uneven : {l : Bool} → q ≡ true → l ≡ level (operators n) R → l ≡ false → 5 ≡ rulesNumber s (operators n) L R
   unfolding rulesNumber
   number-uneven x level-is v = rw (z, sym safe-is ∙ y, sym total-is ∙ x, sym level-is ∙ v)
 
-  pub number-none : {l : Bool} → q ≡ true → l ≡ level n R → l ≡ true → 0 ≡ rulesNumber s n L R
+  pub number-none : {l : Bool} → q ≡ true → l ≡ level (operators n) R → l ≡ true → 0 ≡ rulesNumber s (operators n) L R
   unfolding rulesNumber
   number-none x level-is v = rw (z, sym safe-is ∙ y, sym total-is ∙ x, sym level-is ∙ v)
 

@@ -8,6 +8,7 @@ use borrow.Author.Tests.{lt-ltb}
 use lib.Bits.{bitAnd, bitOr, or-lt}
 use lib.Dec.{eqb}
 use lib.ListN.{getD}
+use Rattle.expression.specs.Limits.{mostOperators}
 use Rattle.disambiguation.specs.Verdict.{within}
 use Rattle.sheet.specs.Relation.{bitOf, closesIn, turned}
 use Rattle.sheet.specs.Tests.{noneInBoth, eachInOne, safeFor, totalFor}
@@ -46,12 +47,12 @@ module _ (w n x y : ℕ) (fits : n ≤ w) where
       (λ c l. ap not (bit-and x ((2 ^ w - 1) - y) c ∙ ap (λ (p : Bool). bitOf x c && p) (bit-not w y c hy (lt-of-lt-of-le l fits))) ∙ not-but (bitOf x c) (bitOf y c))
 
 -- the relation at two operators is a bit
-pub closes-bit : (t : List ℕ) (a b : ℕ) → a < 32 → b < 32 → closesIn t a b ≡ bitOf (getD t a 0) b
+pub closes-bit : (t : List ℕ) (a b : ℕ) → a < mostOperators → b < mostOperators → closesIn t a b ≡ bitOf (getD t a 0) b
 unfolding closesIn
-closes-bit t a b h k = rw (lt-ltb a 32 h, lt-ltb b 32 k)
+closes-bit t a b h k = rw (lt-ltb a mostOperators h, lt-ltb b mostOperators k)
 
 -- The tests of a relation, of the words of one operator or two.
-module _ (n : ℕ) (t u : List ℕ) (few : n ≤ 32) (a : ℕ) (h : a < n) where
+module _ (n : ℕ) (t u : List ℕ) (few : n ≤ mostOperators) (a : ℕ) (h : a < n) where
   bits : (t : List ℕ) (b : ℕ) → b < n → bitOf (getD t a 0) b ≡ closesIn t a b
   bits t b l = sym (closes-bit t a b (lt-of-lt-of-le h few) (lt-of-lt-of-le l few))
 
@@ -63,7 +64,7 @@ module _ (n : ℕ) (t u : List ℕ) (few : n ≤ 32) (a : ℕ) (h : a < n) where
   unfolding totalFor eachInOne
   total-by-words = all-same _ _ n (λ b l. ap₂ (λ (p q : Bool). p || q) (bits t b l) (bits u b l))
 
-pub within-by-words : (n : ℕ) (t : List ℕ) (a b : ℕ) → n ≤ 32 → a < n → b < n
+pub within-by-words : (n : ℕ) (t : List ℕ) (a b : ℕ) → n ≤ mostOperators → a < n → b < n
     → within n (bitOf (getD t a 0)) (bitOf (getD t b 0)) ≡ within n (closesIn t a) (closesIn t b)
 unfolding within
 within-by-words n t a b few ha hb =

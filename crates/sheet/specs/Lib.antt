@@ -1,3 +1,4 @@
+pub mod Layout
 pub mod Relation
 pub mod Marking
 pub mod Tests

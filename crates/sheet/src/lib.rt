@@ -1,43 +1,28 @@
-// Operator sheets: rules in bytes, the relation that they give, and document 01's numbers 1 to 5.
+// Operator sheets: rules in bytes, the relation that they give, and document 01's numbers 1 to 5. A sheet is a lent list of words,
+// whose layout is known here alone; all zero is the fresh one.
 ghost use mathlib.Core.Path.{_≡_};
-ghost use Prim.Native.Nat.{_<_};
-ghost use Rattle.sheet.specs.Relation.{closesIn, fresh};
+ghost use Rattle.sheet.specs.Layout.{operatorsOf};
+ghost use Rattle.sheet.specs.Relation.{closesIn};
 ghost use Rattle.sheet.specs.Loading.{Loads, sizeNumber};
+use expression::limits;
+use expression::refusal;
+use layout::SHEET_WORDS;
 
-pub mod limits;
-pub mod refusal;
+pub mod layout;
 mod rules;
-pub mod token;
 mod verdict;
 mod words;
 
-// A sheet in force: n operators, and which of them closes before which. Bit b of word a: a closes before b.
-#[repr(C)]
-pub struct Sheet {
-    pub n: u8,
-    pub closes: [u32; 32],
-}
-
-// The number of a load, and the sheet in force after it.
-#[repr(C)]
-pub struct Loaded {
-    pub number: u8,
-    pub sheet: Sheet,
-}
-
-// No operators and no rules.
-pub fn fresh_sheet() -> Sheet
-    ensures { λ r. ⌜ r ≡ fresh ⌝ }
+// The count of the sheet's operators, document 01's n.
+pub fn operator_count(sheet: &[u32; SHEET_WORDS]) -> u8
+    ensures { λ r. ⌜ r ≡ operatorsOf (now (sheet .entry)) .count ⌝ }
 {
-    Sheet {
-        n: 0,
-        closes: [0u32; 32],
-    }
+    (sheet[layout::COUNT_WORD] % 256) as u8
 }
 
-// Operator a closes before b; false where either is no operator. The relation is lent, for the recursions above.
-pub fn closes_before(relation: &[u32; 32], a: u8, b: u8) -> bool
-    ensures { λ r. ⌜ r ≡ closesIn (now (relation .entry)) a b ⌝ }
+// Operator a closes before b; false where either is no operator.
+pub fn closes_before(sheet: &[u32; SHEET_WORDS], a: u8, b: u8) -> bool
+    ensures { λ r. ⌜ r ≡ closesIn (now (sheet .entry)) a b ⌝ }
 {
     if limits::MOST_OPERATORS <= a {
         return false;
@@ -45,14 +30,14 @@ pub fn closes_before(relation: &[u32; 32], a: u8, b: u8) -> bool
     if limits::MOST_OPERATORS <= b {
         return false;
     }
-    words::has(relation[a as usize], b as usize)
+    words::has(sheet[a as usize], b as usize)
 }
 
 // Numbers 1 and 2, or 0: the checks that need no look at the rules.
-fn size_number(n: u8, length: usize) -> u8
+fn size_number(n: u32, length: usize) -> u8
     ensures { λ r. ⌜ r ≡ sizeNumber n length ⌝ }
 {
-    if limits::MOST_OPERATORS < n {
+    if (limits::MOST_OPERATORS as u32) < n {
         return refusal::OVERSIZE;
     }
     if limits::MOST_RULE_BYTES < length {
@@ -64,32 +49,22 @@ fn size_number(n: u8, length: usize) -> u8
     refusal::ACCEPTED
 }
 
-// The sheet of n operators and the rules: its number, and the new sheet where it is accepted, else the old one.
-pub fn load(old: Sheet, n: u8, rules: &[u8]) -> Loaded
-    ensures { λ r. ⌜ Loads old n (now (rules .entry)) r ⌝ }
+// The sheet of n operators and the rules: its number. The lent sheet is written only where it is accepted.
+pub fn load(sheet: &mut [u32; SHEET_WORDS], n: u32, rules: &[u8]) -> u8
+    ensures { λ r. ⌜ Loads (now (sheet .entry)) n (now (rules .entry)) r (now (sheet .exit)) ⌝ }
 {
     let size = size_number(n, rules.len());
     if size != refusal::ACCEPTED {
-        return Loaded {
-            number: size,
-            sheet: old,
-        };
+        return size;
     }
-    let mut closes = [0u32; 32];
-    let mut yields = [0u32; 32];
-    let strange = rules::read(n, rules, &mut closes, &mut yields);
-    let number = verdict::rules_number(strange, n as usize, &closes, &yields);
+    let mut made = [0u32; SHEET_WORDS];
+    let mut yields = [0u32; SHEET_WORDS];
+    let strange = rules::read(n as u8, rules, &mut made, &mut yields);
+    let number = verdict::rules_number(strange, n as usize, &made, &yields);
     if number != refusal::ACCEPTED {
-        return Loaded {
-            number: number,
-            sheet: old,
-        };
+        return number;
     }
-    Loaded {
-        number: number,
-        sheet: Sheet {
-            n: n,
-            closes: closes,
-        },
-    }
+    made[layout::COUNT_WORD] = n;
+    *sheet = made;
+    refusal::ACCEPTED
 }

@@ -1,13 +1,15 @@
-// Rules in bytes, marked in two tables: bit b of word a of `closes` for R(a,b), of `yields` for L(b,a).
+// Rules in bytes, marked in two tables: bit b of word a of `closes` for R(a,b), of `yields` for L(b,a). Both are as long as a sheet.
 ghost use mathlib.Core.Path.{_≡_};
 ghost use mathlib.Core.Bool.{_||_};
 ghost use Prim.Native.Nat.{_≤_, _<_};
 ghost use lib.Dec.{eqb};
 ghost use Rattle.expression.specs.Lists.{one};
+ghost use Rattle.expression.specs.Limits.{mostOperators};
 ghost use Rattle.disambiguation.specs.Rules.{rule, priority};
 ghost use Rattle.disambiguation.specs.SheetChecks.{strangeRule};
 ghost use Rattle.sheet.specs.Marking.{marked, Takes, Reads};
-use crate::limits;
+use crate::layout::SHEET_WORDS;
+use expression::limits;
 
 // The kinds of rules: a over b, a left b, a right b.
 const PRIORITY: u8 = 1;
@@ -56,8 +58,8 @@ fn bit(on: bool) -> u32
 }
 
 // Puts the pair in, if on. No branch tells: rules come in any order of kinds.
-fn mark(table: &mut [u32; 32], a: u8, b: u8, on: bool)
-    requires { ⌜ (a < 32) × (b < 32) ⌝ }
+fn mark(table: &mut [u32; SHEET_WORDS], a: u8, b: u8, on: bool)
+    requires { ⌜ (a < mostOperators) × (b < mostOperators) ⌝ }
     ensures { λ _. ⌜ now (table .exit) ≡ marked (now (table .entry)) a b on ⌝ }
 {
     let at = a as usize;
@@ -70,10 +72,10 @@ fn take_rule(
     kind: u8,
     first: u8,
     second: u8,
-    closes: &mut [u32; 32],
-    yields: &mut [u32; 32],
+    closes: &mut [u32; SHEET_WORDS],
+    yields: &mut [u32; SHEET_WORDS],
 ) -> bool
-    requires { ⌜ n ≤ 32 ⌝ }
+    requires { ⌜ n ≤ mostOperators ⌝ }
     ensures { λ r. ⌜ Takes n (rule kind first second) (now (closes .entry)) (now (yields .entry)) (now (closes .exit)) (now (yields .exit)) r ⌝ }
 {
     if is_strange(n, kind, first, second) {
@@ -85,8 +87,8 @@ fn take_rule(
 }
 
 // Marks the rules, up to the first strange one; says whether there is one.
-pub fn read(n: u8, rules: &[u8], closes: &mut [u32; 32], yields: &mut [u32; 32]) -> bool
-    requires { ⌜ n ≤ 32 ⌝ }
+pub fn read(n: u8, rules: &[u8], closes: &mut [u32; SHEET_WORDS], yields: &mut [u32; SHEET_WORDS]) -> bool
+    requires { ⌜ n ≤ mostOperators ⌝ }
     ensures { λ r. ⌜ Reads n (now (rules .entry)) (now (closes .entry)) (now (yields .entry)) (now (closes .exit)) (now (yields .exit)) r ⌝ }
 {
     let mut i = 0;

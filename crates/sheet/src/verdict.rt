@@ -1,17 +1,20 @@
 // The tests of a sheet's relations: safe, total, level. Each is n or n * n operations on words.
 ghost use mathlib.Core.Path.{_≡_};
 ghost use Prim.Native.Nat.{_≤_, _<_};
+ghost use Rattle.expression.specs.Limits.{mostOperators};
+ghost use Rattle.expression.specs.Token.{operators};
 ghost use Rattle.disambiguation.specs.Verdict.{safe, total, level};
 ghost use Rattle.sheet.specs.Relation.{closesIn, turned};
 ghost use Rattle.sheet.specs.Loading.{rulesNumber};
 ghost use Rattle.sheet.specs.Tests.{levelPair, levelFor};
-use crate::refusal;
+use crate::layout::SHEET_WORDS;
 use crate::words;
+use expression::refusal;
 
 // No pair is excluded both ways.
-fn is_safe(n: usize, closes: &[u32; 32], yields: &[u32; 32]) -> bool
-    requires { ⌜ n ≤ 32 ⌝ }
-    ensures { λ r. ⌜ r ≡ safe n (turned (closesIn (now (yields .entry)))) (closesIn (now (closes .entry))) ⌝ }
+fn is_safe(n: usize, closes: &[u32; SHEET_WORDS], yields: &[u32; SHEET_WORDS]) -> bool
+    requires { ⌜ n ≤ mostOperators ⌝ }
+    ensures { λ r. ⌜ r ≡ safe (operators n) (turned (closesIn (now (yields .entry)))) (closesIn (now (closes .entry))) ⌝ }
 {
     let mut a = 0;
     while a < n {
@@ -24,9 +27,9 @@ fn is_safe(n: usize, closes: &[u32; 32], yields: &[u32; 32]) -> bool
 }
 
 // Every pair is excluded one way at least.
-fn is_total(n: usize, closes: &[u32; 32], yields: &[u32; 32]) -> bool
-    requires { ⌜ n ≤ 32 ⌝ }
-    ensures { λ r. ⌜ r ≡ total n (turned (closesIn (now (yields .entry)))) (closesIn (now (closes .entry))) ⌝ }
+fn is_total(n: usize, closes: &[u32; SHEET_WORDS], yields: &[u32; SHEET_WORDS]) -> bool
+    requires { ⌜ n ≤ mostOperators ⌝ }
+    ensures { λ r. ⌜ r ≡ total (operators n) (turned (closesIn (now (yields .entry)))) (closesIn (now (closes .entry))) ⌝ }
 {
     let mut a = 0;
     while a < n {
@@ -39,8 +42,8 @@ fn is_total(n: usize, closes: &[u32; 32], yields: &[u32; 32]) -> bool
 }
 
 // What one of a and b closes before, the other does too: b's if a closes before b, else a's.
-fn pair_level(n: usize, relation: &[u32; 32], a: usize, b: usize) -> bool
-    requires { ⌜ (n ≤ 32) × (a < n) × (b < n) ⌝ }
+fn pair_level(n: usize, relation: &[u32; SHEET_WORDS], a: usize, b: usize) -> bool
+    requires { ⌜ (n ≤ mostOperators) × (a < n) × (b < n) ⌝ }
     ensures { λ r. ⌜ r ≡ levelPair n (closesIn (now (relation .entry))) a b ⌝ }
 {
     if words::has(relation[a], b) {
@@ -50,8 +53,8 @@ fn pair_level(n: usize, relation: &[u32; 32], a: usize, b: usize) -> bool
 }
 
 // The same for a and each b.
-fn row_level(n: usize, relation: &[u32; 32], a: usize) -> bool
-    requires { ⌜ (n ≤ 32) × (a < n) ⌝ }
+fn row_level(n: usize, relation: &[u32; SHEET_WORDS], a: usize) -> bool
+    requires { ⌜ (n ≤ mostOperators) × (a < n) ⌝ }
     ensures { λ r. ⌜ r ≡ levelFor n (closesIn (now (relation .entry))) a ⌝ }
 {
     let mut b = 0;
@@ -65,9 +68,9 @@ fn row_level(n: usize, relation: &[u32; 32], a: usize) -> bool
 }
 
 // The same for each a.
-fn is_level(n: usize, relation: &[u32; 32]) -> bool
-    requires { ⌜ n ≤ 32 ⌝ }
-    ensures { λ r. ⌜ r ≡ level n (closesIn (now (relation .entry))) ⌝ }
+fn is_level(n: usize, relation: &[u32; SHEET_WORDS]) -> bool
+    requires { ⌜ n ≤ mostOperators ⌝ }
+    ensures { λ r. ⌜ r ≡ level (operators n) (closesIn (now (relation .entry))) ⌝ }
 {
     let mut a = 0;
     while a < n {
@@ -80,9 +83,9 @@ fn is_level(n: usize, relation: &[u32; 32]) -> bool
 }
 
 // Numbers 3, 4 and 5, or 0.
-pub fn rules_number(strange: bool, n: usize, closes: &[u32; 32], yields: &[u32; 32]) -> u8
-    requires { ⌜ n ≤ 32 ⌝ }
-    ensures { λ r. ⌜ r ≡ rulesNumber strange n (turned (closesIn (now (yields .entry)))) (closesIn (now (closes .entry))) ⌝ }
+pub fn rules_number(strange: bool, n: usize, closes: &[u32; SHEET_WORDS], yields: &[u32; SHEET_WORDS]) -> u8
+    requires { ⌜ n ≤ mostOperators ⌝ }
+    ensures { λ r. ⌜ r ≡ rulesNumber strange (operators n) (turned (closesIn (now (yields .entry)))) (closesIn (now (closes .entry))) ⌝ }
 {
     if strange {
         return refusal::STRANGER;

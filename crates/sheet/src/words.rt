@@ -1,13 +1,14 @@
 // A word as a set of operators: bit c is set where operator c is in the set. Two sets are compared below n alone, by a mask.
 ghost use mathlib.Core.Path.{_≡_};
 ghost use Prim.Native.Nat.{_≤_, _<_, _^_, _-_};
+ghost use Rattle.expression.specs.Limits.{mostOperators};
 ghost use Rattle.disambiguation.specs.Verdict.{within};
 ghost use Rattle.sheet.specs.Relation.{bitOf};
 ghost use Rattle.sheet.specs.Tests.{noneInBoth, eachInOne};
 
 // The set of all below n.
 fn mask(n: usize) -> u32
-    requires { ⌜ n ≤ 32 ⌝ }
+    requires { ⌜ n ≤ mostOperators ⌝ }
     ensures { λ r. ⌜ r ≡ 2 ^ n - 1 ⌝ }
 {
     ((1u64 << n) - 1) as u32
@@ -15,7 +16,7 @@ fn mask(n: usize) -> u32
 
 // Operator c is in the set.
 pub fn has(x: u32, c: usize) -> bool
-    requires { ⌜ c < 32 ⌝ }
+    requires { ⌜ c < mostOperators ⌝ }
     ensures { λ r. ⌜ r ≡ bitOf x c ⌝ }
 {
     (x >> c) & 1 == 1
@@ -23,7 +24,7 @@ pub fn has(x: u32, c: usize) -> bool
 
 // None is in both sets.
 pub fn apart(n: usize, x: u32, y: u32) -> bool
-    requires { ⌜ n ≤ 32 ⌝ }
+    requires { ⌜ n ≤ mostOperators ⌝ }
     ensures { λ r. ⌜ r ≡ noneInBoth n (bitOf x) (bitOf y) ⌝ }
 {
     x & y & mask(n) == 0
@@ -31,7 +32,7 @@ pub fn apart(n: usize, x: u32, y: u32) -> bool
 
 // Each is in one of the sets at least.
 pub fn cover(n: usize, x: u32, y: u32) -> bool
-    requires { ⌜ n ≤ 32 ⌝ }
+    requires { ⌜ n ≤ mostOperators ⌝ }
     ensures { λ r. ⌜ r ≡ eachInOne n (bitOf x) (bitOf y) ⌝ }
 {
     !(x | y) & mask(n) == 0
@@ -39,7 +40,7 @@ pub fn cover(n: usize, x: u32, y: u32) -> bool
 
 // Each of the first set is in the second.
 pub fn inside(n: usize, x: u32, y: u32) -> bool
-    requires { ⌜ n ≤ 32 ⌝ }
+    requires { ⌜ n ≤ mostOperators ⌝ }
     ensures { λ r. ⌜ r ≡ within n (bitOf x) (bitOf y) ⌝ }
 {
     x & !y & mask(n) == 0

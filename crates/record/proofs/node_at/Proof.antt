@@ -9,6 +9,7 @@ node-at-spec =
     (tie.spec
     (λ c. search node-at-ways)
     (λ c. search node-at-ways)
+    (λ c κs. search node-at-ways)
     (λ c. search node-at-ways)
     (λ c. search node-at-ways)
     (λ c. search node-at-ways)

@@ -9,7 +9,9 @@ load-spec =
     (tie.spec
     (λ c κs. search load-ways)
     (λ c. search load-ways)
+    (λ c. search load-ways)
     (λ c κs. search load-ways)
     (λ c κs. search load-ways)
+    (λ c. search load-ways)
     (λ c. search load-ways)
     (λ c. search load-ways))

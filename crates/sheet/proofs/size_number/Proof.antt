@@ -10,4 +10,5 @@ size-number-spec =
     (λ c. search size-ways)
     (λ c. search size-ways)
     (λ c. search size-ways)
+    (λ c. search size-ways)
     (λ c. search size-ways))

@@ -1,27 +1,12 @@
--- `record::checks::has_stranger` meets its contract; in its loop, what is found so far and what stands from the place on make up the answer. Assumes nothing.
-use Prim.Native.Nat.{_-_}
-use lib.ListN.{length}
-use Rattle.expression.proofs.Looking.{Looked}
-use Rattle.record.proofs.Checking.{strange, stranger-ways}
+-- `record::checks::has_stranger` meets its contract. Assumes nothing.
+use Rattle.record.proofs.Checking.{stranger-ways}
 use Rattle.record.proofs.checks.has_stranger.Statement.{statement}
 use Rattle.record.proofs.checks.has_stranger.Tie as tie
-
-abbrev Inv-loop : tie.InvT-loop
-Inv-loop n bytes found₀ at₀ found at = Looked (strange n) bytes found at
-
-abbrev μ-loop : tie.MeasureT-loop
-μ-loop n bytes found₀ at₀ found at = length bytes - at
 
 pub has-stranger-spec : {M : Type 1} → statement M
 has-stranger-spec =
     tie.close
     (tie.spec
-    Inv-loop
-    μ-loop
-    (λ c. search stranger-ways)
-    (λ c. search stranger-ways)
     (λ c κs. search stranger-ways)
-    (λ c. search stranger-ways)
-    (λ c. search stranger-ways)
-    (λ c. search stranger-ways)
+    (λ c κs. search stranger-ways)
     (λ c. search stranger-ways))

@@ -5,16 +5,17 @@ use mathlib.Core.Path.{_≡_, refl}
 use lib.ListN.{length, drop}
 use borrow.Author.Needs.{needs}
 use Rattle.expression.specs.Token.{class}
+use Rattle.sheet.specs.Layout.{operatorsOf}
 use Rattle.record.specs.Checks.{lists}
 use Rattle.record.proofs.Checking.{more-fits, fewer-fits, due-on, too-early, goes-on, at-end}
 use Rattle.record.proofs.checks.is_tree.Statement.{statement}
 use Rattle.record.proofs.checks.is_tree.Tie as tie
 
 abbrev Inv-loop : tie.InvT-loop
-Inv-loop n bytes due₀ at₀ due at = (at ≤ length bytes) × (due ≤ at + 1) × (lists (class n) due (drop at bytes) ≡ lists (class n) 1 bytes)
+Inv-loop sheet bytes due₀ at₀ due at = (at ≤ length bytes) × (due ≤ at + 1) × (lists (class (operatorsOf sheet)) due (drop at bytes) ≡ lists (class (operatorsOf sheet)) 1 bytes)
 
 abbrev μ-loop : tie.MeasureT-loop
-μ-loop n bytes due₀ at₀ due at = length bytes - at
+μ-loop sheet bytes due₀ at₀ due at = length bytes - at
 
 pub is-tree-spec : {M : Type 1} → statement M
 is-tree-spec =

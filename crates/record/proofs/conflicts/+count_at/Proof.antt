@@ -15,7 +15,7 @@ use Rattle.record.proofs.conflicts.+count_at.{statement}
 use Rattle.record.proofs.conflicts.+count_at.Tie.{close}
 
 abbrev μ-count-at : Measures 2 count-at-kinds.ps ℕ
-μ-count-at κs a = a .1 .1 .1 .0 - a .1 .1 .1 .1 .0
+μ-count-at κs a = a .1 .1 .0 - a .1 .1 .1 .0
 
 abbrev count-at-at : ℕ → In 2 count-at-kinds.ps
 count-at-at t = and 2 count-at-kinds.ps (is 2 count-at-kinds.ps μ-count-at t) count-at.Pre

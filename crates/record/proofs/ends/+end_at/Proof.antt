@@ -11,14 +11,14 @@ use Rattle.record.proofs.node_at.Reads as node-at-reads
 use Rattle.record.proofs.ends.+end_at.{statement}
 use Rattle.record.proofs.ends.+end_at.Tie.{close}
 
-abbrev μ-end-at : Measures 1 end-at-kinds.ps ℕ
+abbrev μ-end-at : Measures 2 end-at-kinds.ps ℕ
 μ-end-at κs a = length (a .1 .0 .now) - a .1 .1 .0
 
-abbrev end-at-at : ℕ → In 1 end-at-kinds.ps
-end-at-at t = and 1 end-at-kinds.ps (is 1 end-at-kinds.ps μ-end-at t) end-at.Pre
+abbrev end-at-at : ℕ → In 2 end-at-kinds.ps
+end-at-at t = and 2 end-at-kinds.ps (is 2 end-at-kinds.ps μ-end-at t) end-at.Pre
 
-abbrev end-at-below : ℕ → In 1 end-at-kinds.ps
-end-at-below t = and 1 end-at-kinds.ps (falls 1 end-at-kinds.ps _<_ μ-end-at t) end-at.Pre
+abbrev end-at-below : ℕ → In 2 end-at-kinds.ps
+end-at-below t = and 2 end-at-kinds.ps (falls 2 end-at-kinds.ps _<_ μ-end-at t) end-at.Pre
 
 pub +end-at-spec : {M : Type 1} → statement M
 +end-at-spec =

@@ -13,14 +13,14 @@ use Rattle.record.proofs.held.node_in.Reads as node-in
 use Rattle.record.proofs.rows.+write_row.{statement}
 use Rattle.record.proofs.rows.+write_row.Tie.{close}
 
-abbrev μ-write-row : Measures 2 write-row-kinds.ps ℕ
+abbrev μ-write-row : Measures 3 write-row-kinds.ps ℕ
 μ-write-row κs a = a .1 .1 .0 - a .1 .1 .1 .0
 
-abbrev write-row-at : ℕ → In 2 write-row-kinds.ps
-write-row-at t = and 2 write-row-kinds.ps (is 2 write-row-kinds.ps μ-write-row t) write-row.Pre
+abbrev write-row-at : ℕ → In 3 write-row-kinds.ps
+write-row-at t = and 3 write-row-kinds.ps (is 3 write-row-kinds.ps μ-write-row t) write-row.Pre
 
-abbrev write-row-below : ℕ → In 2 write-row-kinds.ps
-write-row-below t = and 2 write-row-kinds.ps (falls 2 write-row-kinds.ps _<_ μ-write-row t) write-row.Pre
+abbrev write-row-below : ℕ → In 3 write-row-kinds.ps
+write-row-below t = and 3 write-row-kinds.ps (falls 3 write-row-kinds.ps _<_ μ-write-row t) write-row.Pre
 
 pub +write-row-spec : {M : Type 1} → statement M
 +write-row-spec =
