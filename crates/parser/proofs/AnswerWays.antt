@@ -6,17 +6,19 @@ use Prim.Native.Nat.{ℕ, _+_, _-_, _<_, _≤_}
 use native.Mathlib.Omega.{arith}
 use native.Mathlib.Numerals.{add-one}
 use mir.Val.{Fits}
-use mir.Syntax.{w8}
+use mir.Syntax.{w16}
 use lib.Dec.{eqb}
 use lib.ListN.{length, getD, take, drop, length-drop}
 use lib.Seq.{take-suc, take-all, length-take-le}
 use borrow.Author.Tests.{ne-eqb}
 use borrow.Author.Needs.{needs}
 use Rattle.expression.specs.Lists.{one, count}
+use Rattle.expression.specs.Limits.{mostTokens}
 use Rattle.expression.specs.Token.{closing}
 use Rattle.expression.specs.Checks.{recordBytes, shortCheck, rowChecks, rowNumber, buildNumber}
 use Rattle.expression.proofs.Lengths.{count-append}
 use Rattle.expression.proofs.Numbers.{first-refused, first-short, first-roomy, row-numbered, row-accepted}
+use Rattle.sheet.specs.Layout.{operatorsOf}
 use Rattle.sheet.specs.Relation.{closesIn}
 use Rattle.parser.specs.Build.{built}
 use Rattle.parser.specs.Fronts.{share, Lays}
@@ -24,11 +26,11 @@ use Rattle.parser.specs.Answers.{AnswersBuild}
 use Rattle.parser.proofs.BuildLaws.{quiet, built-length-accepted}
 
 -- ---- share_of
-pub share-none : (c : ℕ) → c ≡ 33 → 0 ≡ share c
+pub share-none : (c : ℕ) → c ≡ closing → 0 ≡ share c
 unfolding share
 share-none c e = rw e
 
-pub share-byte : (c : ℕ) → (c ≡ 33 → ⊥) → 1 ≡ share c
+pub share-byte : (c : ℕ) → (c ≡ closing → ⊥) → 1 ≡ share c
 unfolding share
 share-byte c n = rw (ne-eqb c closing n)
 
@@ -64,7 +66,7 @@ module _ (row : List ℕ) where
         inside = omega arith;
       }
 
-  pub counted-fits : {count i c : ℕ} → length row ≤ 255 → Counted count i → i < length row → c ≡ share (getD row i 0) → Fits w8 (count + c)
+  pub counted-fits : {count i c : ℕ} → length row ≤ mostTokens → Counted count i → i < length row → c ≡ share (getD row i 0) → Fits w16 (count + c)
   counted-fits {i = i} l k h e = omega (arith, k .small, e, share-small (getD row i 0))
 
   pub counted-all : {count i : ℕ} → Counted count i → length row ≤ i → count ≡ recordBytes row
@@ -73,44 +75,44 @@ module _ (row : List ℕ) where
 pub ruleset bytes-ways = (counted-none, counted-more, counted-fits, counted-all, needs)
 
 -- ---- build_row
-module _ (n : ℕ) (words row out : List ℕ) where
-  pub build-refused : {number : ℕ} → number ≡ rowNumber n row → (number ≡ 0 → ⊥) → AnswersBuild n (closesIn words) row out out (record { number = number; length = 0 })
+module _ (sheet row out : List ℕ) where
+  pub build-refused : {number : ℕ} → number ≡ rowNumber (operatorsOf sheet) row → (number ≡ 0 → ⊥) → AnswersBuild sheet row out out (record { number = number; length = 0 })
   unfolding rowNumber buildNumber
   build-refused {number} e h =
       record {
-        numbered = e ∙ sym (first-refused (rowChecks n row) (shortCheck (recordBytes row) (length out) ∷ []) (λ f. h (e ∙ f)));
+        numbered = e ∙ sym (first-refused (rowChecks (operatorsOf sheet) row) (shortCheck (recordBytes row) (length out) ∷ []) (λ f. h (e ∙ f)));
         measured = rw (ne-eqb number 0 h);
         output = rw (ne-eqb number 0 h);
       }
 
-  module _ {number m : ℕ} (e : number ≡ rowNumber n row) (f : number ≡ 0) (b : m ≡ recordBytes row) where
-    pub build-short : length out < m → AnswersBuild n (closesIn words) row out out (record { number = 10; length = 0 })
+  module _ {number m : ℕ} (e : number ≡ rowNumber (operatorsOf sheet) row) (f : number ≡ 0) (b : m ≡ recordBytes row) where
+    pub build-short : length out < m → AnswersBuild sheet row out out (record { number = 10; length = 0 })
     unfolding rowNumber buildNumber
     build-short h =
         record {
-          numbered = sym (first-short (rowChecks n row) (recordBytes row) (length out) (sym e ∙ f) (row-numbered n row) (omega arith));
+          numbered = sym (first-short (rowChecks (operatorsOf sheet) row) (recordBytes row) (length out) (sym e ∙ f) (row-numbered (operatorsOf sheet) row) (omega arith));
           measured = refl;
           output = refl;
         }
 
     -- the whole part is the record, and what lies past it is as before
-    pub build-done : {part : List ℕ} {at : ℕ} → m ≤ length out → Lays (closesIn words) row (take (m - 0) out) part at
-        → AnswersBuild n (closesIn words) row out (part ++ drop (m - 0) out) (record { number = 0; length = m })
+    pub build-done : {part : List ℕ} {at : ℕ} → m ≤ length out → Lays (closesIn sheet) row (take (m - 0) out) part at
+        → AnswersBuild sheet row out (part ++ drop (m - 0) out) (record { number = 0; length = m })
     unfolding rowNumber buildNumber
     build-done {part} {at} h l =
-        let long : length (built (closesIn words) row) ≡ m = built-length-accepted (closesIn words) (quiet words) n row (sym e ∙ f) ∙ sym b in
+        let long : length (built (closesIn sheet) row) ≡ m = built-length-accepted (closesIn sheet) (quiet sheet) (operatorsOf sheet) row (sym e ∙ f) ∙ sym b in
         let size : length part ≡ m = l .same-length ∙ length-take-le (m - 0) out (omega arith) ∙ omega arith in
         let start : at ≡ 0 = omega (arith, length-drop at part, ap length (l .held), long, size, l .inside) in
-        let ends : m - 0 ≡ length (built (closesIn words) row) = omega (arith, long) in
-        let same : part ≡ built (closesIn words) row = ap (λ x. drop x part) (sym start) ∙ l .held in
+        let ends : m - 0 ≡ length (built (closesIn sheet) row) = omega (arith, long) in
+        let same : part ≡ built (closesIn sheet) row = ap (λ x. drop x part) (sym start) ∙ l .held in
         record {
-          numbered = sym (first-roomy (rowChecks n row) (recordBytes row) (length out) (sym e ∙ f) (row-numbered n row) (omega arith));
+          numbered = sym (first-roomy (rowChecks (operatorsOf sheet) row) (recordBytes row) (length out) (sym e ∙ f) (row-numbered (operatorsOf sheet) row) (omega arith));
           measured = sym long;
           output = ap₂ _++_ same (ap (λ x. drop x out) ends);
         }
 
-  pub few-tokens : {number : ℕ} → number ≡ rowNumber n row → number ≡ 0 → length row ≤ 255
-  few-tokens e f = row-accepted n row .0 (sym e ∙ f) .0
+  pub few-tokens : {number : ℕ} → number ≡ rowNumber (operatorsOf sheet) row → number ≡ 0 → length row ≤ mostTokens
+  few-tokens e f = row-accepted (operatorsOf sheet) row .0 (sym e ∙ f) .0
 
 pub room-for-record : (row out : List ℕ) {m : ℕ} → m ≡ recordBytes row → m ≤ length out → recordBytes row ≤ length (take (m - 0) out)
 room-for-record row out {m} b h = omega (arith, length-take-le (m - 0) out (omega arith))

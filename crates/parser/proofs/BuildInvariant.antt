@@ -8,7 +8,7 @@ use lib.Dec.{eqb, ltb}
 use borrow.Author.Tests.{lt-ltb, le-ltb, ne-eqb, not-true}
 use Rattle.expression.specs.Lists.{All}
 use Rattle.expression.specs.Limits.{mostOperators}
-use Rattle.expression.specs.Token.{Class, Infix, Opening, Closing, Reading, Meaningless, opening, closing, class}
+use Rattle.expression.specs.Token.{Class, Infix, Opening, Closing, Reading, Meaningless, opening, closing, Operators, class}
 use Rattle.expression.specs.Tree.{Tree, reading, bracket, binary, yield, Over}
 use Rattle.expression.proofs.Classes.{by-class}
 use Rattle.expression.proofs.Cond.{by-cond}
@@ -30,7 +30,7 @@ bare-left P (bracket t) h = tt
 bare-left P (binary o l r) h = absurd h
 
 -- a token by its class, as step takes it
-module _ (n : ℕ) where
+module _ (ops : Operators) where
   abbrev pub StepsAs : ℕ → Class → Type 0
   StepsAs c Infix = ltb c mostOperators ≡ true
   StepsAs c Opening = Unit {0}
@@ -38,9 +38,9 @@ module _ (n : ℕ) where
   StepsAs c Reading = (ltb c mostOperators ≡ false) × (eqb c opening ≡ false) × (eqb c closing ≡ false)
   StepsAs c Meaningless = Unit {0}
 
-  pub steps-as : (c : ℕ) → StepsAs c (class n c)
+  pub steps-as : (c : ℕ) → StepsAs c (class ops c)
   steps-as c =
-      by-class n (StepsAs c) c (λ h _. lt-ltb c mostOperators h) (λ _. tt) (λ _. tt)
+      by-class ops (StepsAs c) c (λ h _. lt-ltb c mostOperators h) (λ _. tt) (λ _. tt)
       (λ h g. (le-ltb c mostOperators (omega arith), ne-eqb c opening (λ e. omega arith), ne-eqb c closing (λ e. omega arith))) tt
 
 module _ (closes : ℕ → ℕ → Bool) where
@@ -99,12 +99,12 @@ module _ (closes : ℕ → ℕ → Bool) where
   fold-keeps a t (waits o r e) h =
       by-cond (λ (x : Tree × Edge). None (closes a) (seenFromLeft (x .0))) (settled closes a o) (λ q. fold-keeps a (binary o t r) e (keeps a o q, tt)) (λ _. h)
 
-  module _ (n : ℕ) where
+  module _ (ops : Operators) where
     abbrev k : ℕ → Class
-    k = class n
+    k = class ops
 
     pub operator-byte : (o : ℕ) → k o ≡ Infix → ltb o mostOperators ≡ true
-    operator-byte o h = rw h at (steps-as n o)
+    operator-byte o h = rw h at (steps-as ops o)
 
     stops : (a o : ℕ) → k o ≡ Infix → settled closes a o ≡ false → yields o a ≡ false
     stops a o h q = rw (operator-byte o h) at q

@@ -8,6 +8,7 @@ use lib.Dec.{eqb}
 use lib.ListN.{length, getD, take, drop, drop-of-length-le}
 use lib.Seq.{drop-cons, take-suc, take-length, drop-length}
 use borrow.Author.Needs.{needs}
+use Rattle.expression.specs.Limits.{mostTokens}
 use Rattle.expression.specs.Token.{opening, closing}
 use Rattle.expression.specs.Checks.{recordBytes}
 use Rattle.expression.proofs.Lengths.{count-append}
@@ -28,11 +29,11 @@ module _ (closes : ℕ → ℕ → Bool) (row out : List ℕ) where
   unfolding operatorsIn
   no-operators = refl
 
-  pub building-starts : (stack : List ℕ) → length stack ≡ 255 → length row ≤ 255 → recordBytes row ≤ length out
-      → Building out stack (record { at = length out; top = 255 }) (length row)
+  pub building-starts : (stack : List ℕ) → length stack ≡ mostTokens → length row ≤ mostTokens → recordBytes row ≤ length out
+      → Building out stack (record { at = length out; top = mostTokens }) (length row)
   unfolding progressOf
   building-starts stack size few fits =
-      let past : length stack ≤ 255 = omega arith in
+      let past : length stack ≤ mostTokens = omega arith in
       let empty = drop-of-length-le stack past in
       record {
         held = ap₂ progress (drop-length out) empty ∙ ap (progressOf closes) (sym (drop-length row));
@@ -95,7 +96,7 @@ module _ (closes : ℕ → ℕ → Bool) (row out : List ℕ) where
         let r = b .roomy in
         record { stack-size = r .stack-size; at-inside = r .at-inside; top-inside = r .top-inside; room = omega (arith, r .room) }
 
-    pub building-done : {out″ : List ℕ} {g : Fronts} → i ≤ 0 → Settles closes 32 out′ stack f out″ g → Lays closes row out out″ (g .at)
+    pub building-done : {out″ : List ℕ} {g : Fronts} → i ≤ 0 → Settles closes opening out′ stack f out″ g → Lays closes row out out″ (g .at)
     unfolding built
     building-done h s =
         let e : i ≡ 0 = omega arith in
@@ -105,7 +106,7 @@ module _ (closes : ℕ → ℕ → Bool) (row out : List ℕ) where
           same-length = s .same-length ∙ b .same-length;
         }
 
-    pub building-length : {out″ : List ℕ} {g : Fronts} → Settles closes 32 out′ stack f out″ g → length out″ ≡ length out
+    pub building-length : {out″ : List ℕ} {g : Fronts} → Settles closes opening out′ stack f out″ g → length out″ ≡ length out
     building-length s = s .same-length ∙ b .same-length
 
 pub ruleset build-ways = (building-starts, token-roomy, top-positive, token-inside, building-more, building-roomy, building-done, needs)

@@ -3,7 +3,7 @@ use Prim.Native.Nat.{ℕ}
 use mathlib.Core.Path.{_≡_, refl, ap, sym, _∙_}
 use mathlib.Core.Bool.{Bool, false}
 use mathlib.Core.List.{List, [], _∷_, _++_, append-assoc, append-nil}
-use Rattle.expression.specs.Token.{Class, Infix, Reading, opening, closing, class}
+use Rattle.expression.specs.Token.{Class, Infix, Reading, opening, closing, Operators, class}
 use Rattle.expression.specs.Tree.{Tree, reading, bracket, binary, yield, recordOf, Over}
 use Rattle.disambiguation.specs.Edges.{seenFromLeft}
 use Rattle.disambiguation.specs.Conflicts.{conflicts}
@@ -26,9 +26,9 @@ unfolding progressOf
 progressOf-run closes [] = refl
 progressOf-run closes (x ∷ xs) = ap (step closes x) (progressOf-run closes xs)
 
-module _ (closes : ℕ → ℕ → Bool) (n : ℕ) (quiet : (b : ℕ) → closes opening b ≡ false) where
+module _ (closes : ℕ → ℕ → Bool) (ops : Operators) (quiet : (b : ℕ) → closes opening b ≡ false) where
   abbrev k : ℕ → Class
-  k = class n
+  k = class ops
 
   -- After a tree's row: its first operand, bare, before an edge.
   pub record Read (t₀ : Tree) (e₀ : Edge) : Type 0 where
@@ -41,11 +41,11 @@ module _ (closes : ℕ → ℕ → Bool) (n : ℕ) (quiet : (b : ℕ) → closes
 
   step-reading : (a : ℕ) → k a ≡ Reading → (s : Progress) → step closes a s ≡ operand closes a s
   unfolding step
-  step-reading a h s = let g = rw h at (steps-as n a) in rw (g .0, g .1, g .2)
+  step-reading a h s = let g = rw h at (steps-as ops a) in rw (g .0, g .1, g .2)
 
   step-operator : (o : ℕ) → k o ≡ Infix → (s : Progress) → step closes o s ≡ wait closes o (settleAll closes o s)
   unfolding step
-  step-operator o h s = rw (operator-byte closes n o h)
+  step-operator o h s = rw (operator-byte closes ops o h)
 
   step-opening : (s : Progress) → step closes opening s ≡ enclose closes (settleAll closes opening s)
   unfolding step
@@ -60,7 +60,7 @@ module _ (closes : ℕ → ℕ → Bool) (n : ℕ) (quiet : (b : ℕ) → closes
   enclosed t₀ e₀ q =
       go ((fold (settled closes opening) (q .operand-read) (q .edge)) .0) ((fold (settled closes opening) (q .operand-read) (q .edge)) .1)
       (folded closes k (settled closes opening) (q .operand-read) (q .edge) (yield t₀ ++ closing ∷ tokensOf e₀) (q .stands))
-      (fold-all closes n quiet (q .operand-read) (q .edge) (q .stands .good) ∙ q .same-base) (settle-fold closes opening (q .operand-read) (q .edge))
+      (fold-all closes ops quiet (q .operand-read) (q .edge) (q .stands .good) ∙ q .same-base) (settle-fold closes opening (q .operand-read) (q .edge))
     where
       runs : run closes (yield (bracket t₀)) (due e₀) ≡ enclose closes (settleAll closes opening (have (q .operand-read) (q .edge)))
       runs =
@@ -92,7 +92,7 @@ module _ (closes : ℕ → ℕ → Bool) (n : ℕ) (quiet : (b : ℕ) → closes
       go ((fold (settled closes o) (q .operand-read) (q .edge)) .0) ((fold (settled closes o) (q .operand-read) (q .edge)) .1)
       (folded closes k (settled closes o) (q .operand-read) (q .edge) (yield r ++ tokensOf e₀) (q .stands))
       (fold-keeps closes o (q .operand-read) (q .edge) (bare-left (λ x. closes o x ≡ false) (q .operand-read) (q .bare)))
-      (fold-under closes n o (q .operand-read) (q .edge) (q .stands .good))
+      (fold-under closes ops o (q .operand-read) (q .edge) (q .stands .good))
       (settle-fold closes o (q .operand-read) (q .edge))
       (base-fold closes k (settled closes o) (q .operand-read) (q .edge) ∙ q .same-base)
     where
@@ -145,7 +145,7 @@ module _ (closes : ℕ → ℕ → Bool) (n : ℕ) (quiet : (b : ℕ) → closes
   built-builds t₀ h =
       go ((fold (settled closes opening) (q .operand-read) (q .edge)) .0) ((fold (settled closes opening) (q .operand-read) (q .edge)) .1)
       (folded closes k (settled closes opening) (q .operand-read) (q .edge) (yield t₀ ++ []) (q .stands))
-      (fold-all closes n quiet (q .operand-read) (q .edge) (q .stands .good) ∙ q .same-base) (settle-fold closes opening (q .operand-read) (q .edge))
+      (fold-all closes ops quiet (q .operand-read) (q .edge) (q .stands .good) ∙ q .same-base) (settle-fold closes opening (q .operand-read) (q .edge))
     where
       q : Read t₀ end
       q = read t₀ h end tt

@@ -5,7 +5,7 @@ use mathlib.Core.Bool.{false}
 use mathlib.Core.Logic.{_↔_}
 use mathlib.Core.List.{List}
 use lib.ListN.{length}
-use Rattle.expression.specs.Token.{opening, class}
+use Rattle.expression.specs.Token.{opening, Operators, class}
 use Rattle.expression.specs.Tree.{Tree, yield, recordOf, Over}
 use Rattle.expression.specs.Grammar.{Row}
 use Rattle.expression.proofs.Classes.{brackets}
@@ -16,58 +16,57 @@ use Rattle.disambiguation.specs.Rules.{Rule, R}
 use Rattle.disambiguation.specs.Conflicts.{conflictCount, ConflictFreeTree}
 use Rattle.disambiguation.specs.Repair.{repair}
 use Rattle.disambiguation.proofs.Accepted.{accepted-passes, repair-is, only-one}
-use Rattle.sheet.specs.Relation.{closes}
+use Rattle.sheet.specs.Relation.{closesIn}
 use Rattle.sheet.specs.InForce.{InForce}
-use Rattle.sheet.specs.declared.Sheet.{Sheet}
-use Rattle.sheet.proofs.Laws.{closes-lent, count-by-relation}
+use Rattle.sheet.proofs.Laws.{count-by-relation}
 use Rattle.parser.specs.Build.{built}
 use Rattle.parser.proofs.BuildLaws.{quiet, built-tree}
 
-module _ (s : Sheet) (n : ℕ) (rules : List Rule) (in-force : InForce s n rules) where
-  silent : (b : ℕ) → closes s opening b ≡ false
-  silent b = ap (λ r. r opening b) (closes-lent s) ∙ quiet (s .closes) b
+module _ (s : List ℕ) (ops : Operators) (rules : List Rule) (in-force : InForce s ops rules) where
+  silent : (b : ℕ) → closesIn s opening b ≡ false
+  silent b = quiet s b
 
   -- A built row is the record of the row's conflict-free tree.
-  pub built-conflict-free : (row : List ℕ) → Row n row → (t : Tree) × ConflictFreeTree n rules row t × (built (closes s) row ≡ recordOf t)
+  pub built-conflict-free : (row : List ℕ) → Row ops row → (t : Tree) × ConflictFreeTree ops rules row t × (built (closesIn s) row ≡ recordOf t)
   built-conflict-free row r =
-      let (t, b) = built-tree (closes s) silent n row r in
-      (t, record { over = b .over; yields = b .yields-row; free = count-by-relation s n rules in-force t (b .over) ∙ b .free }, b .recorded)
+      let (t, b) = built-tree (closesIn s) silent ops row r in
+      (t, record { over = b .over; yields = b .yields-row; free = count-by-relation s ops rules in-force t (b .over) ∙ b .free }, b .recorded)
 
-  pub one-tree : (row : List ℕ) (t u : Tree) → ConflictFreeTree n rules row t → ConflictFreeTree n rules row u → t ≡ u
-  one-tree = only-one n rules (accepted-passes n rules (in-force .accepts))
+  pub one-tree : (row : List ℕ) (t u : Tree) → ConflictFreeTree ops rules row t → ConflictFreeTree ops rules row u → t ≡ u
+  one-tree = only-one ops rules (accepted-passes ops rules (in-force .accepts))
 
-  pub built-is : (row : List ℕ) (t : Tree) → ConflictFreeTree n rules row t → built (closes s) row ≡ recordOf t
+  pub built-is : (row : List ℕ) (t : Tree) → ConflictFreeTree ops rules row t → built (closesIn s) row ≡ recordOf t
   built-is row t c =
-      let r = row-exactly-if-yielded n row .1 (t, c .over, c .yields) in
+      let r = row-exactly-if-yielded ops row .1 (t, c .over, c .yields) in
       let (u, d, e) = built-conflict-free row r in
       e ∙ ap recordOf (one-tree row u t d c)
 
   -- Of the trees over the sheet's operators: what is built of a tree's row is its repair,
-  pub built-repairs : (t : Tree) → Over (class n) t → built (closes s) (yield t) ≡ recordOf (repair (R rules) t)
-  built-repairs t h = built-is (yield t) (repair (R rules) t) (repair-is n rules (accepted-passes n rules (in-force .accepts)) t h)
+  pub built-repairs : (t : Tree) → Over (class ops) t → built (closesIn s) (yield t) ≡ recordOf (repair (R rules) t)
+  built-repairs t h = built-is (yield t) (repair (R rules) t) (repair-is ops rules (accepted-passes ops rules (in-force .accepts)) t h)
 
   -- which has the record's length;
-  pub built-keeps-length : (t : Tree) → Over (class n) t → length (built (closes s) (yield t)) ≡ length (recordOf t)
+  pub built-keeps-length : (t : Tree) → Over (class ops) t → length (built (closesIn s) (yield t)) ≡ length (recordOf t)
   built-keeps-length t h =
-      let c = repair-is n rules (accepted-passes n rules (in-force .accepts)) t h in
-      ap length (built-repairs t h) ∙ same-row-same-length (class n) (brackets n) (repair (R rules) t) t (c .over) h (c .yields)
+      let c = repair-is ops rules (accepted-passes ops rules (in-force .accepts)) t h in
+      ap length (built-repairs t h) ∙ same-row-same-length (class ops) (brackets ops) (repair (R rules) t) t (c .over) h (c .yields)
 
   -- it is the record itself exactly if the tree has no conflict;
-  pub built-same-exactly-if : (t : Tree) → Over (class n) t → (built (closes s) (yield t) ≡ recordOf t) ↔ (conflictCount rules t ≡ 0)
+  pub built-same-exactly-if : (t : Tree) → Over (class ops) t → (built (closesIn s) (yield t) ≡ recordOf t) ↔ (conflictCount rules t ≡ 0)
   built-same-exactly-if t h = (
     λ e.
-        let c = repair-is n rules (accepted-passes n rules (in-force .accepts)) t h in
-        let same = record-injective (class n) (brackets n) (repair (R rules) t) t (c .over) h (sym (built-repairs t h) ∙ e) in
+        let c = repair-is ops rules (accepted-passes ops rules (in-force .accepts)) t h in
+        let same = record-injective (class ops) (brackets ops) (repair (R rules) t) t (c .over) h (sym (built-repairs t h) ∙ e) in
         ap (conflictCount rules) (sym same) ∙ c .free,
     λ e. built-is (yield t) t (record { over = h; yields = refl; free = e }),
   )
 
   -- and two trees repair to the same bytes exactly if their rows are the same.
-  pub built-equal-exactly-if : (t u : Tree) → Over (class n) t → Over (class n) u → (built (closes s) (yield t) ≡ built (closes s) (yield u)) ↔ (yield t ≡ yield u)
+  pub built-equal-exactly-if : (t u : Tree) → Over (class ops) t → Over (class ops) u → (built (closesIn s) (yield t) ≡ built (closesIn s) (yield u)) ↔ (yield t ≡ yield u)
   built-equal-exactly-if t u ht hu = (
     λ e.
-        let (v, c, p) = built-conflict-free (yield t) (row-exactly-if-yielded n (yield t) .1 (t, ht, refl)) in
-        let (w, d, q) = built-conflict-free (yield u) (row-exactly-if-yielded n (yield u) .1 (u, hu, refl)) in
-        sym (c .yields) ∙ ap yield (record-injective (class n) (brackets n) v w (c .over) (d .over) (sym p ∙ e ∙ q)) ∙ d .yields,
-    λ e. ap (built (closes s)) e,
+        let (v, c, p) = built-conflict-free (yield t) (row-exactly-if-yielded ops (yield t) .1 (t, ht, refl)) in
+        let (w, d, q) = built-conflict-free (yield u) (row-exactly-if-yielded ops (yield u) .1 (u, hu, refl)) in
+        sym (c .yields) ∙ ap yield (record-injective (class ops) (brackets ops) v w (c .over) (d .over) (sym p ∙ e ∙ q)) ∙ d .yields,
+    λ e. ap (built (closesIn s)) e,
   )

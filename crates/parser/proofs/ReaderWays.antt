@@ -13,7 +13,8 @@ use lib.ListN.{length, getD, drop, drop-of-length-le, length-drop}
 use lib.Seq.{drop-cons}
 use borrow.Author.Tests.{lt-ltb, le-ltb}
 use borrow.Author.Needs.{needs}
-use Rattle.expression.specs.Token.{Class, class}
+use Rattle.expression.specs.Limits.{mostTokens}
+use Rattle.expression.specs.Token.{Class, Operators, class}
 use Rattle.expression.specs.Token as token
 use Rattle.expression.specs.RowTest.{Progress, due, done, wrong, whereDue, whereDone, complete, advance, scan}
 use Rattle.expression.proofs.Strangers.{scan-wrong}
@@ -37,10 +38,10 @@ is-class token.Closing = refl
 is-class token.Reading = refl
 is-class token.Meaningless = refl
 
-module _ (n : ℕ) (row : List ℕ) where
+module _ (ops : Operators) (row : List ℕ) where
   -- What stands at a place: a token of its class before the rest of the row, or the end.
   abbrev pub Found : ℕ → Token → Type 0
-  Found at t = (at < length row) × Is t (class n (getD row at 0)) × (drop at row ≡ getD row at 0 ∷ drop (at + 1) row)
+  Found at t = (at < length row) × Is t (class ops (getD row at 0)) × (drop at row ≡ getD row at 0 ∷ drop (at + 1) row)
 
   abbrev pub There : ℕ → Token → Type 0
   There at Operator = Found at Operator
@@ -58,31 +59,31 @@ module _ (n : ℕ) (row : List ℕ) where
   found-there at Other f = f
   found-there at End f = absurd (f .1)
 
-  pub there : (at : ℕ) → There at (tokenAt n row at)
+  pub there : (at : ℕ) → There at (tokenAt ops row at)
   unfolding tokenAt
   there at = go (decLt at (length row))
     where
       past : length row ≤ at → drop at row ≡ []
       past h = drop-of-length-le row h
 
-      go : Dec (at < length row) → There at (cond (ltb at (length row)) (tokenOf (class n (getD row at 0))) End)
-      go (yes h) = rw (lt-ltb at (length row) h) (found-there at (tokenOf (class n (getD row at 0))) (h, is-class (class n (getD row at 0)), rw (drop-cons row at 0 h, add-one)))
+      go : Dec (at < length row) → There at (cond (ltb at (length row)) (tokenOf (class ops (getD row at 0))) End)
+      go (yes h) = rw (lt-ltb at (length row) h) (found-there at (tokenOf (class ops (getD row at 0))) (h, is-class (class ops (getD row at 0)), rw (drop-cons row at 0 h, add-one)))
       go (no h) = rw (le-ltb at (length row) (omega arith)) (past (omega arith))
 
-  there-is : (at : ℕ) {t u : Token} → t ≡ tokenAt n row at → t ≡ u → There at u
+  there-is : (at : ℕ) {t u : Token} → t ≡ tokenAt ops row at → t ≡ u → There at u
   there-is at e f = rw (sym e ∙ f) at (there at)
 
   -- the scan over the token at a place
-  scan-found : (at : ℕ) (t : Token) → Found at t → (p : Progress) → scan (class n) p (drop at row) ≡ scan (class n) (advance (class n) p (getD row at 0)) (drop (at + 1) row)
-  scan-found at t f p = ap (scan (class n) p) (f .2)
+  scan-found : (at : ℕ) (t : Token) → Found at t → (p : Progress) → scan (class ops) p (drop at row) ≡ scan (class ops) (advance (class ops) p (getD row at 0)) (drop (at + 1) row)
+  scan-found at t f p = ap (scan (class ops) p) (f .2)
 
   -- a token where none such may stand
-  goes-wrong : (at : ℕ) (t : Token) → Found at t → (p : Progress) → advance (class n) p (getD row at 0) ≡ wrong → complete (scan (class n) p (drop at row)) ≡ false
+  goes-wrong : (at : ℕ) (t : Token) → Found at t → (p : Progress) → advance (class ops) p (getD row at 0) ≡ wrong → complete (scan (class ops) p (drop at row)) ≡ false
   goes-wrong at t f p h =
-      ap complete (scan-found at t f p ∙ ap (λ q. scan (class n) q (drop (at + 1) row)) h ∙ scan-wrong (class n) (drop (at + 1) row))
+      ap complete (scan-found at t f p ∙ ap (λ q. scan (class ops) q (drop (at + 1) row)) h ∙ scan-wrong (class ops) (drop (at + 1) row))
 
   -- inside a bracket, a row goes on with an operator or a closing bracket
-  open-ends : (at : ℕ) (t : Token) → There at t → isOperator t ≡ false → isClosing t ≡ false → (d : ℕ) → complete (scan (class n) (done (suc d)) (drop at row)) ≡ false
+  open-ends : (at : ℕ) (t : Token) → There at t → isOperator t ≡ false → isClosing t ≡ false → (d : ℕ) → complete (scan (class ops) (done (suc d)) (drop at row)) ≡ false
   open-ends at Operator f o c d = absurd (true≢false o)
   open-ends at Opening f o c d = goes-wrong at Opening f (done (suc d)) (ap (λ x. whereDone x (suc d)) (f .1))
   open-ends at Closing f o c d = absurd (true≢false c)
@@ -91,7 +92,7 @@ module _ (n : ℕ) (row : List ℕ) where
   open-ends at End f o c d = rw f
 
   -- outside of brackets it ends, or goes on with an operator
-  pub row-ends : (at : ℕ) (t : Token) → There at t → isOperator t ≡ false → at < length row → complete (scan (class n) (done 0) (drop at row)) ≡ false
+  pub row-ends : (at : ℕ) (t : Token) → There at t → isOperator t ≡ false → at < length row → complete (scan (class ops) (done 0) (drop at row)) ≡ false
   row-ends at Operator f o h = absurd (true≢false o)
   row-ends at Opening f o h = goes-wrong at Opening f (done 0) (ap (λ x. whereDone x 0) (f .1))
   row-ends at Closing f o h = goes-wrong at Closing f (done 0) (ap (λ x. whereDone x 0) (f .1))
@@ -116,81 +117,81 @@ module _ (n : ℕ) (row : List ℕ) where
   operator-there at End f c = absurd (false≢true c)
 
   module _ (at : ℕ) where
-    no-operand : Refuses n row at → ReadsOperand n row at 0
+    no-operand : Refuses ops row at → ReadsOperand ops row at 0
     no-operand f = record { refuses = λ e. f; passes = λ h. absurd (h refl) }
 
-    an-operand : {next : ℕ} → Passes n row at next → ReadsOperand n row at next
+    an-operand : {next : ℕ} → Passes ops row at next → ReadsOperand ops row at next
     an-operand p = record { refuses = λ e. absurd (omega (arith, p .0, e)); passes = λ h. p }
 
-    module _ {t : Token} (e : t ≡ tokenAt n row at) where
-      pub operand-reading : t ≡ Reading → ReadsOperand n row at (at + 1)
+    module _ {t : Token} (e : t ≡ tokenAt ops row at) where
+      pub operand-reading : t ≡ Reading → ReadsOperand ops row at (at + 1)
       operand-reading f =
           let g = there-is at e f in
-          an-operand (omega arith, omega (arith, g .0), λ d. scan-found at Reading g (due d) ∙ ap (λ x. scan (class n) (whereDue x d) (drop (at + 1) row)) (g .1))
+          an-operand (omega arith, omega (arith, g .0), λ d. scan-found at Reading g (due d) ∙ ap (λ x. scan (class ops) (whereDue x d) (drop (at + 1) row)) (g .1))
 
-      pub operand-operator : t ≡ Operator → ReadsOperand n row at 0
+      pub operand-operator : t ≡ Operator → ReadsOperand ops row at 0
       operand-operator f = let g = there-is at e f in no-operand (λ d. goes-wrong at Operator g (due d) (ap (λ x. whereDue x d) (g .1)))
 
-      pub operand-closing : t ≡ Closing → ReadsOperand n row at 0
+      pub operand-closing : t ≡ Closing → ReadsOperand ops row at 0
       operand-closing f = let g = there-is at e f in no-operand (λ d. goes-wrong at Closing g (due d) (ap (λ x. whereDue x d) (g .1)))
 
-      pub operand-other : t ≡ Other → ReadsOperand n row at 0
+      pub operand-other : t ≡ Other → ReadsOperand ops row at 0
       operand-other f = let g = there-is at e f in no-operand (λ d. goes-wrong at Other g (due d) (ap (λ x. whereDue x d) (g .1)))
 
-      pub operand-end : t ≡ End → ReadsOperand n row at 0
+      pub operand-end : t ≡ End → ReadsOperand ops row at 0
       operand-end f = let g = there-is at e f in no-operand (λ d. rw g)
 
       -- into the bracket
-      enters : (g : Found at Opening) (d : ℕ) → scan (class n) (due d) (drop at row) ≡ scan (class n) (due (suc d)) (drop (at + 1) row)
-      enters g d = scan-found at Opening g (due d) ∙ ap (λ x. scan (class n) (whereDue x d) (drop (at + 1) row)) (g .1)
+      enters : (g : Found at Opening) (d : ℕ) → scan (class ops) (due d) (drop at row) ≡ scan (class ops) (due (suc d)) (drop (at + 1) row)
+      enters g d = scan-found at Opening g (due d) ∙ ap (λ x. scan (class ops) (whereDue x d) (drop (at + 1) row)) (g .1)
 
-      pub operand-inner-refused : t ≡ Opening → {next : ℕ} → ReadsExpression n row (at + 1) next → next ≡ 0 → ReadsOperand n row at 0
+      pub operand-inner-refused : t ≡ Opening → {next : ℕ} → ReadsExpression ops row (at + 1) next → next ≡ 0 → ReadsOperand ops row at 0
       operand-inner-refused f h q = let g = there-is at e f in no-operand (λ d. ap complete (enters g d) ∙ h .refuses q (suc d))
 
-      pub operand-closed : t ≡ Opening → {next : ℕ} {b : Bool} → ReadsExpression n row (at + 1) next → (next ≡ 0 → ⊥)
-          → b ≡ isClosing (tokenAt n row next) → b ≡ true → ReadsOperand n row at (next + 1)
+      pub operand-closed : t ≡ Opening → {next : ℕ} {b : Bool} → ReadsExpression ops row (at + 1) next → (next ≡ 0 → ⊥)
+          → b ≡ isClosing (tokenAt ops row next) → b ≡ true → ReadsOperand ops row at (next + 1)
       operand-closed f {next = next} h q c v =
           let g = there-is at e f in
           let p = h .passes q in
-          let k = closing-there next (tokenAt n row next) (there next) (sym c ∙ v) in
+          let k = closing-there next (tokenAt ops row next) (there next) (sym c ∙ v) in
           an-operand (
             omega (arith, p .0),
             omega (arith, k .0),
-            λ d. enters g d ∙ p .2 (suc d) ∙ scan-found next Closing k (done (suc d)) ∙ ap (λ x. scan (class n) (whereDone x (suc d)) (drop (next + 1) row)) (k .1),
+            λ d. enters g d ∙ p .2 (suc d) ∙ scan-found next Closing k (done (suc d)) ∙ ap (λ x. scan (class ops) (whereDone x (suc d)) (drop (next + 1) row)) (k .1),
           )
 
-      pub operand-unclosed : t ≡ Opening → {next : ℕ} {b : Bool} → ReadsExpression n row (at + 1) next → (next ≡ 0 → ⊥)
-          → b ≡ isClosing (tokenAt n row next) → b ≡ false → ReadsOperand n row at 0
+      pub operand-unclosed : t ≡ Opening → {next : ℕ} {b : Bool} → ReadsExpression ops row (at + 1) next → (next ≡ 0 → ⊥)
+          → b ≡ isClosing (tokenAt ops row next) → b ≡ false → ReadsOperand ops row at 0
       operand-unclosed f {next = next} h q c v =
           let g = there-is at e f in
-          no-operand (λ d. ap complete (enters g d ∙ h .passes q .2 (suc d)) ∙ open-ends next (tokenAt n row next) (there next) (h .stops q) (sym c ∙ v) d)
+          no-operand (λ d. ap complete (enters g d ∙ h .passes q .2 (suc d)) ∙ open-ends next (tokenAt ops row next) (there next) (h .stops q) (sym c ∙ v) d)
 
-      pub opening-fits : length row ≤ 255 → t ≡ Opening → Fits w64 (at + 1)
+      pub opening-fits : length row ≤ mostTokens → t ≡ Opening → Fits w64 (at + 1)
       opening-fits l f = let g = there-is at e f in omega (arith, g .0)
 
-      pub reading-fits : length row ≤ 255 → t ≡ Reading → Fits w64 (at + 1)
+      pub reading-fits : length row ≤ mostTokens → t ≡ Reading → Fits w64 (at + 1)
       reading-fits l f = let g = there-is at e f in omega (arith, g .0)
 
       pub opening-falls : {m : ℕ} → 2 * (length row - at) ≡ m → t ≡ Opening → 2 * (length row - (at + 1)) + 1 < m
       opening-falls q f = let g = there-is at e f in omega (arith, g .0)
 
     -- after an operand
-    module _ {next : ℕ} (h : ReadsOperand n row at next) where
-      pub expression-refused : next ≡ 0 → ReadsExpression n row at 0
+    module _ {next : ℕ} (h : ReadsOperand ops row at next) where
+      pub expression-refused : next ≡ 0 → ReadsExpression ops row at 0
       expression-refused q = record { refuses = λ e. h .refuses q; passes = λ f. absurd (f refl); stops = λ f. absurd (f refl) }
 
-      module _ (q : next ≡ 0 → ⊥) {b : Bool} (c : b ≡ isOperator (tokenAt n row next)) where
-        pub expression-stops : b ≡ false → ReadsExpression n row at next
+      module _ (q : next ≡ 0 → ⊥) {b : Bool} (c : b ≡ isOperator (tokenAt ops row next)) where
+        pub expression-stops : b ≡ false → ReadsExpression ops row at next
         expression-stops v = record { refuses = λ e. absurd (q e); passes = λ f. h .passes q; stops = λ f. sym c ∙ v }
 
         -- past an operator that follows
-        further : b ≡ true → (at < next) × (next < length row) × ((d : ℕ) → scan (class n) (due d) (drop at row) ≡ scan (class n) (due d) (drop (next + 1) row))
+        further : b ≡ true → (at < next) × (next < length row) × ((d : ℕ) → scan (class ops) (due d) (drop at row) ≡ scan (class ops) (due d) (drop (next + 1) row))
         further v =
             let p = h .passes q in
-            let k = operator-there next (tokenAt n row next) (there next) (sym c ∙ v) in
-            (p .0, k .0, λ d. p .2 d ∙ scan-found next Operator k (done d) ∙ ap (λ x. scan (class n) (whereDone x d) (drop (next + 1) row)) (k .1))
+            let k = operator-there next (tokenAt ops row next) (there next) (sym c ∙ v) in
+            (p .0, k .0, λ d. p .2 d ∙ scan-found next Operator k (done d) ∙ ap (λ x. scan (class ops) (whereDone x d) (drop (next + 1) row)) (k .1))
 
-        pub expression-more : {to : ℕ} → b ≡ true → ReadsExpression n row (next + 1) to → ReadsExpression n row at to
+        pub expression-more : {to : ℕ} → b ≡ true → ReadsExpression ops row (next + 1) to → ReadsExpression ops row at to
         expression-more {to} v k =
             let f = further v in
             record {
@@ -199,15 +200,15 @@ module _ (n : ℕ) (row : List ℕ) where
               stops = k .stops;
             }
 
-        pub operator-fits : length row ≤ 255 → b ≡ true → Fits w64 (next + 1)
+        pub operator-fits : length row ≤ mostTokens → b ≡ true → Fits w64 (next + 1)
         operator-fits l v = let f = further v in omega (arith, f .1)
 
         pub operator-falls : {m : ℕ} → 2 * (length row - at) + 1 ≡ m → b ≡ true → 2 * (length row - (next + 1)) + 1 < m
         operator-falls l v = let f = further v in omega (arith, f .0, f .1)
 
-    pub closing-fits : {next : ℕ} {b : Bool} → length row ≤ 255 → ReadsExpression n row (at + 1) next
-        → b ≡ isClosing (tokenAt n row next) → b ≡ true → Fits w64 (next + 1)
-    closing-fits {next} l h c v = let k = closing-there next (tokenAt n row next) (there next) (sym c ∙ v) in omega (arith, k .0)
+    pub closing-fits : {next : ℕ} {b : Bool} → length row ≤ mostTokens → ReadsExpression ops row (at + 1) next
+        → b ≡ isClosing (tokenAt ops row next) → b ≡ true → Fits w64 (next + 1)
+    closing-fits {next} l h c v = let k = closing-there next (tokenAt ops row next) (there next) (sym c ∙ v) in omega (arith, k .0)
 
 pub ruleset reader-ways = (
   operand-reading,

@@ -12,7 +12,7 @@ use borrow.Author.Tests.{lt-ltb, le-ltb, le-leb, lt-leb, ne-eqb}
 use borrow.Author.Needs.{needs}
 use native.Mathlib.Decide.{decLt, ℕ-discrete}
 use Rattle.expression.specs.Limits.{mostOperators, mostTokens}
-use Rattle.expression.specs.Token.{opening, closing, firstReading, lastReading, class}
+use Rattle.expression.specs.Token.{opening, closing, firstReading, lastReading, Operators, operators, class}
 use Rattle.expression.specs.RowTest.{done, complete, scan, isRow}
 use Rattle.expression.specs.Checks.{strangeInRow, rowNumber}
 use Rattle.expression.proofs.Looking.{Looked, looked-none, looked-more, looked-all}
@@ -21,12 +21,12 @@ use Rattle.parser.proofs.ReaderWays.{there, row-ends}
 
 -- ---- is_strange
 module _ (n c : ℕ) where
-  pub strange-test : Fits w8 c → (leb n c && ltb c 32 || ltb 33 c && ltb c 128) ≡ strangeInRow (class n c)
+  pub strange-test : Fits w8 c → (leb n c && ltb c 32 || ltb 33 c && ltb c 128) ≡ strangeInRow (class (operators n) c)
   unfolding class
   strange-test f = go (decLt c mostOperators) (decLt c n) (ℕ-discrete c opening) (ℕ-discrete c closing) (decLt c firstReading)
     where
       go : Dec (c < 32) → Dec (c < n) → Dec (c ≡ opening) → Dec (c ≡ closing) → Dec (c < 128)
-          → (leb n c && ltb c 32 || ltb 33 c && ltb c 128) ≡ strangeInRow (class n c)
+          → (leb n c && ltb c 32 || ltb 33 c && ltb c 128) ≡ strangeInRow (class (operators n) c)
       go (yes h) (yes g) o s r = simp (lt-leb n c g, le-ltb 33 c (omega arith), lt-ltb c 32 h, lt-ltb c n g)
       go (yes h) (no g) o s r = simp (le-leb n c (omega arith), lt-ltb c 32 h, le-ltb c n (omega arith))
       go (no h) g (yes e) s r = rw e (ap (λ x. x || false) (and-false (leb n 32)))
@@ -38,43 +38,49 @@ module _ (n c : ℕ) where
 
 pub ruleset strange-ways = (strange-test, needs)
 
--- ---- has_stranger
+-- ---- any_strange, has_stranger
 abbrev pub strange : ℕ → ℕ → Bool
-strange n c = strangeInRow (class n c)
+strange n c = strangeInRow (class (operators n) c)
 
-pub looked-strange : (n : ℕ) (row : List ℕ) {at : ℕ} {b : Bool} → Looked (strange n) row b at → length row ≤ at → b ≡ hasStranger n row
+pub looked-strange : (n : ℕ) (row : List ℕ) {at : ℕ} {b : Bool} → Looked (strange n) row b at → length row ≤ at → b ≡ hasStranger (operators n) row
 unfolding hasStranger
 looked-strange n row l h = looked-all (strange n) row l h
 
-pub ruleset stranger-ways = (looked-none, looked-more, looked-strange, needs)
+pub ruleset any-strange-ways = (looked-none, looked-more, looked-strange, needs)
+
+-- strangers are told by the count of operators alone
+pub by-count : (ops : Operators) (row : List ℕ) {n : ℕ} {r : Bool} → n ≡ ops .count → r ≡ hasStranger (operators n) row → r ≡ hasStranger ops row
+by-count ops row e q = q ∙ ap (λ m. hasStranger (operators m) row) e
+
+pub ruleset stranger-ways = (by-count, needs)
 
 -- ---- row_number
-module _ (n : ℕ) (row : List ℕ) where
-  pub is-oversize : 255 < length row → 1 ≡ rowNumber n row
+module _ (ops : Operators) (row : List ℕ) where
+  pub is-oversize : mostTokens < length row → 1 ≡ rowNumber ops row
   unfolding rowNumber
   is-oversize h = simp (lt-ltb mostTokens (length row) h)
 
-  module _ (short : length row ≤ 255) {b : Bool} (s : b ≡ hasStranger n row) where
-    pub is-stranger : b ≡ true → 3 ≡ rowNumber n row
+  module _ (short : length row ≤ mostTokens) {b : Bool} (s : b ≡ hasStranger ops row) where
+    pub is-stranger : b ≡ true → 3 ≡ rowNumber ops row
     unfolding rowNumber hasStranger
     is-stranger e = simp (le-ltb mostTokens (length row) short, sym s ∙ e)
 
-    by-test : b ≡ false → (t : Bool) → isRow (class n) row ≡ t → cond (not t) 6 0 ≡ rowNumber n row
+    by-test : b ≡ false → (t : Bool) → isRow (class ops) row ≡ t → cond (not t) 6 0 ≡ rowNumber ops row
     unfolding rowNumber hasStranger
     by-test e t f = simp (le-ltb mostTokens (length row) short, sym s ∙ e, f)
 
-    module _ (e : b ≡ false) {end : ℕ} (h : ReadsExpression n row 0 end) where
-      pub is-no-row : end ≡ 0 → 6 ≡ rowNumber n row
+    module _ (e : b ≡ false) {end : ℕ} (h : ReadsExpression ops row 0 end) where
+      pub is-no-row : end ≡ 0 → 6 ≡ rowNumber ops row
       unfolding isRow
       is-no-row q = by-test e false (h .refuses q 0)
 
-      pub is-longer : (end ≡ 0 → ⊥) → end < length row → 6 ≡ rowNumber n row
+      pub is-longer : (end ≡ 0 → ⊥) → end < length row → 6 ≡ rowNumber ops row
       unfolding isRow
       is-longer q l =
-          by-test e false (ap complete (h .passes q .2 0) ∙ row-ends n row end (tokenAt n row end) (there n row end) (h .stops q) l)
+          by-test e false (ap complete (h .passes q .2 0) ∙ row-ends ops row end (tokenAt ops row end) (there ops row end) (h .stops q) l)
 
-      pub is-row : (end ≡ 0 → ⊥) → length row ≤ end → 0 ≡ rowNumber n row
+      pub is-row : (end ≡ 0 → ⊥) → length row ≤ end → 0 ≡ rowNumber ops row
       unfolding isRow
-      is-row q l = by-test e true (ap complete (h .passes q .2 0 ∙ ap (scan (class n) (done 0)) (drop-of-length-le row l)))
+      is-row q l = by-test e true (ap complete (h .passes q .2 0 ∙ ap (scan (class ops) (done 0)) (drop-of-length-le row l)))
 
 pub ruleset row-ways = (is-oversize, is-stranger, is-no-row, is-longer, is-row, needs)

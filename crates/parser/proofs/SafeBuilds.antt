@@ -4,7 +4,7 @@ use mathlib.Core.Path.{_≡_, ap}
 use mathlib.Core.Bool.{Bool, true, false}
 use mathlib.Core.List.{List}
 use borrow.Author.Tests.{not-false}
-use Rattle.expression.specs.Token.{Class, opening, class}
+use Rattle.expression.specs.Token.{Class, opening, Operators, class}
 use Rattle.expression.specs.Tree.{Tree, reading, bracket, binary, Over}
 use Rattle.expression.specs.Grammar.{Row}
 use Rattle.disambiguation.specs.Edges.{seenFromRight}
@@ -28,8 +28,8 @@ module _ (L closes : ℕ → ℕ → Bool) (k : ℕ → Class) (safe : Safe L cl
   )
 
 -- A built row has conflict count 0 under every safe pair of patterns whose right ones are the relation.
-pub built-safe : (L closes : ℕ → ℕ → Bool) (silent : (b : ℕ) → closes opening b ≡ false) (n : ℕ) → Safe L closes (class n) → (row : List ℕ) → Row n row
-    → (t : Tree) × BuiltTree closes silent n row t × (conflicts L closes t ≡ 0)
-built-safe L closes silent n safe row r =
-    let (t, b) = built-tree closes silent n row r in
-    (t, b, count-of-free L closes t (free-safe L closes (class n) safe t (b .over) (free-of-count (yields closes) closes t (b .free))))
+pub built-safe : (L closes : ℕ → ℕ → Bool) (silent : (b : ℕ) → closes opening b ≡ false) (ops : Operators) → Safe L closes (class ops) → (row : List ℕ) → Row ops row
+    → (t : Tree) × BuiltTree closes silent ops row t × (conflicts L closes t ≡ 0)
+built-safe L closes silent ops safe row r =
+    let (t, b) = built-tree closes silent ops row r in
+    (t, b, count-of-free L closes t (free-safe L closes (class ops) safe t (b .over) (free-of-count (yields closes) closes t (b .free))))

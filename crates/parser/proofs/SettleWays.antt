@@ -19,10 +19,10 @@ use Rattle.parser.specs.declared.build.Fronts.{Fronts}
 
 -- ---- settles
 module _ (closes : ℕ → ℕ → Bool) (c b : ℕ) where
-  pub never-settles : 32 ≤ b → false ≡ settled closes c b
+  pub never-settles : mostOperators ≤ b → false ≡ settled closes c b
   never-settles h = simp (le-ltb b mostOperators h)
 
-  pub settles-by : {r : Bool} → b < 32 → r ≡ closes c b → not r ≡ settled closes c b
+  pub settles-by : {r : Bool} → b < mostOperators → r ≡ closes c b → not r ≡ settled closes c b
   settles-by h e = rw (e, lt-ltb b mostOperators h)
 
 pub ruleset settles-ways = (never-settles, settles-by, needs)
@@ -72,22 +72,22 @@ module _ (closes : ℕ → ℕ → Bool) (c : ℕ) (out stack : List ℕ) (f : F
 
   module _ {out′ : List ℕ} {at top : ℕ} (s : Settling out′ at top) where
     -- the operator on top waits no longer
-    next : top < 255 → drop top stack ≡ getD stack top 0 ∷ drop (top + 1) stack
+    next : top < mostTokens → drop top stack ≡ getD stack top 0 ∷ drop (top + 1) stack
     next h = rw (drop-cons stack top 0 (omega (arith, s .stack-size)), add-one)
 
     is-operator : {b : Bool} → b ≡ settled closes c (getD stack top 0) → b ≡ true → ltb (getD stack top 0) mostOperators ≡ true
     is-operator e h = (and-true (ltb (getD stack top 0) mostOperators) (not (closes c (getD stack top 0))) (sym e ∙ h)) .0
 
-    fewer : {b : Bool} → top < 255 → b ≡ settled closes c (getD stack top 0) → b ≡ true → operatorsIn (drop top stack) ≡ 1 + operatorsIn (drop (top + 1) stack)
+    fewer : {b : Bool} → top < mostTokens → b ≡ settled closes c (getD stack top 0) → b ≡ true → operatorsIn (drop top stack) ≡ 1 + operatorsIn (drop (top + 1) stack)
     fewer h e q = ap operatorsIn (next h) ∙ operators-cons (getD stack top 0) (drop (top + 1) stack) ∙ ap (λ x. one x + operatorsIn (drop (top + 1) stack)) (is-operator e q)
 
-    pub at-positive : {b : Bool} → top < 255 → b ≡ settled closes c (getD stack top 0) → not b ≡ false → 1 ≤ at
+    pub at-positive : {b : Bool} → top < mostTokens → b ≡ settled closes c (getD stack top 0) → not b ≡ false → 1 ≤ at
     at-positive {b} h e q = omega (arith, fewer h e (not-false b q), s .room)
 
-    pub before-inside : {b : Bool} → top < 255 → b ≡ settled closes c (getD stack top 0) → not b ≡ false → at - 1 < length out′
+    pub before-inside : {b : Bool} → top < mostTokens → b ≡ settled closes c (getD stack top 0) → not b ≡ false → at - 1 < length out′
     before-inside h e q = omega (arith, at-positive h e q, s .at-inside, s .same-length)
 
-    pub settling-more : {b : Bool} → top < 255 → b ≡ settled closes c (getD stack top 0) → not b ≡ false → Settling (set out′ (at - 1) (getD stack top 0)) (at - 1) (top + 1)
+    pub settling-more : {b : Bool} → top < mostTokens → b ≡ settled closes c (getD stack top 0) → not b ≡ false → Settling (set out′ (at - 1) (getD stack top 0)) (at - 1) (top + 1)
     settling-more {b} h e q =
         let p = at-positive h e q in
         let n = fewer h e (not-false b q) in
@@ -119,13 +119,13 @@ module _ (closes : ℕ → ℕ → Bool) (c : ℕ) (out stack : List ℕ) (f : F
           moved = s .moved;
         }
 
-    pub settling-stops : {b : Bool} → top < 255 → b ≡ settled closes c (getD stack top 0) → not b ≡ true → Settles closes c out stack f out′ (record { at = at; top = top })
+    pub settling-stops : {b : Bool} → top < mostTokens → b ≡ settled closes c (getD stack top 0) → not b ≡ true → Settles closes c out stack f out′ (record { at = at; top = top })
     settling-stops {b} h e q =
         finished (ap (λ w. settle closes c w (drop at out′)) (next h)
         ∙ ap (λ x. cond x (settle closes c (drop (top + 1) stack) (getD stack top 0 ∷ drop at out′)) (progress (drop at out′) (getD stack top 0 ∷ drop (top + 1) stack))) (sym e ∙ not-true b q)
         ∙ ap (progress (drop at out′)) (sym (next h)))
 
-    pub settling-ends : 255 ≤ top → Settles closes c out stack f out′ (record { at = at; top = top })
+    pub settling-ends : mostTokens ≤ top → Settles closes c out stack f out′ (record { at = at; top = top })
     settling-ends h = let past : length stack ≤ top = omega (arith, s .stack-size) in finished (rw (drop-of-length-le stack past))
 
 pub ruleset settle-ways = (settling-starts, at-positive, before-inside, settling-more, settling-stops, settling-ends, needs)

@@ -19,7 +19,7 @@ use Rattle.parser.specs.declared.build.Fronts.{Fronts}
 use Rattle.parser.proofs.SettleWays.{drop-before, operators-cons}
 
 -- ---- wait, prepend
-pub waits : (c : ℕ) (stack : List ℕ) (f : Fronts) → length stack ≡ 255 → 0 < f .top → f .top ≤ 255
+pub waits : (c : ℕ) (stack : List ℕ) (f : Fronts) → length stack ≡ mostTokens → 0 < f .top → f .top ≤ mostTokens
     → Waits c stack f (set stack (f .top - 1) c) (record { at = f .at; top = f .top - 1 })
 waits c stack f s h g =
     record {
@@ -44,7 +44,7 @@ pub ruleset wait-ways = (waits, needs)
 pub ruleset prepend-ways = (prepends, needs)
 
 -- a token other than a closing bracket has a share
-share-one : (c : ℕ) → (c ≡ 33 → ⊥) → share c ≡ 1
+share-one : (c : ℕ) → (c ≡ closing → ⊥) → share c ≡ 1
 unfolding share
 share-one c n = ap (λ x. one (not x)) (ne-eqb c closing n)
 
@@ -57,19 +57,19 @@ module _ (out stack : List ℕ) (f : Fronts) where
   pub roomy-less : {more : ℕ} → Roomy more out stack f → Roomy 0 out stack f
   roomy-less r = record { stack-size = r .stack-size; at-inside = r .at-inside; top-inside = r .top-inside; room = omega (arith, r .room) }
 
-  pub operator-roomy : {c : ℕ} → Roomy (share c) out stack f → c < 32 → Roomy 1 out stack f
+  pub operator-roomy : {c : ℕ} → Roomy (share c) out stack f → c < mostOperators → Roomy 1 out stack f
   operator-roomy {c} r h = rw (share-one c (λ e. omega arith)) at r
 
-  pub opening-roomy : {c : ℕ} → Roomy (share c) out stack f → c ≡ 32 → Roomy 1 out stack f
+  pub opening-roomy : {c : ℕ} → Roomy (share c) out stack f → c ≡ opening → Roomy 1 out stack f
   opening-roomy {c} r h = rw (share-one c (λ e. omega arith)) at r
 
-  pub operand-room : {c : ℕ} → Roomy (share c) out stack f → (c ≡ 33 → ⊥) → 0 < f .at
+  pub operand-room : {c : ℕ} → Roomy (share c) out stack f → (c ≡ closing → ⊥) → 0 < f .at
   operand-room {c} r n = omega (arith, r .room, share-one c n)
 
   pub roomy-inside : {more : ℕ} → Roomy more out stack f → f .at ≤ length out
   roomy-inside r = r .at-inside
 
-  pub roomy-top : {more : ℕ} → Roomy more out stack f → f .top ≤ 255
+  pub roomy-top : {more : ℕ} → Roomy more out stack f → f .top ≤ mostTokens
   roomy-top r = omega (arith, r .top-inside, r .stack-size)
 
 -- ---- take_operator
@@ -77,14 +77,14 @@ module _ (closes : ℕ → ℕ → Bool) (out stack : List ℕ) (f : Fronts) whe
   pub settled-top : {c : ℕ} {out′ : List ℕ} {g : Fronts} → 0 < f .top → Settles closes c out stack f out′ g → 0 < g .top
   settled-top h s = omega (arith, s .top-further)
 
-  pub settled-top-inside : {c : ℕ} {out′ : List ℕ} {g : Fronts} → length stack ≡ 255 → Settles closes c out stack f out′ g → g .top ≤ 255
+  pub settled-top-inside : {c : ℕ} {out′ : List ℕ} {g : Fronts} → length stack ≡ mostTokens → Settles closes c out stack f out′ g → g .top ≤ mostTokens
   settled-top-inside h s = omega (arith, s .top-inside)
 
-  step-operator : (c : ℕ) → c < 32 → (s : Progress) → step closes c s ≡ wait closes c (settleAll closes c s)
+  step-operator : (c : ℕ) → c < mostOperators → (s : Progress) → step closes c s ≡ wait closes c (settleAll closes c s)
   unfolding step
   step-operator c h s = rw (lt-ltb c mostOperators h)
 
-  pub operator-taken : {c : ℕ} {out′ stack′ : List ℕ} {g h : Fronts} → c < 32 → Settles closes c out stack f out′ g → Waits c stack g stack′ h
+  pub operator-taken : {c : ℕ} {out′ stack′ : List ℕ} {g h : Fronts} → c < mostOperators → Settles closes c out stack f out′ g → Waits c stack g stack′ h
       → Takes closes c out stack f out′ stack′ h
   operator-taken {c} {out′} {stack′} {g} {h} small s w =
       let operators = ap operatorsIn (w .held) ∙ operators-cons c (drop (g .top) stack) ∙ ap (λ x. one x + operatorsIn (drop (g .top) stack)) (lt-ltb c mostOperators small) in
@@ -128,7 +128,7 @@ module _ (closes : ℕ → ℕ → Bool) (out stack : List ℕ) (f : Fronts) whe
   unfolding step
   step-opening s = refl
 
-  pub opening-taken : {more : ℕ} {out₁ out′ : List ℕ} {g h r : Fronts} → Roomy more out stack f → Settles closes 32 out stack f out₁ g → Prepends 32 out₁ g out′ h → Pops h r
+  pub opening-taken : {more : ℕ} {out₁ out′ : List ℕ} {g h r : Fronts} → Roomy more out stack f → Settles closes opening out stack f out₁ g → Prepends opening out₁ g out′ h → Pops h r
       → Takes closes opening out stack f out′ stack r
   opening-taken {out₁ = out₁} {out′} {g} {h} {r} room s p q =
       let (d, inside, on) = drop-pop h r (room .stack-size) (omega (arith, s .top-inside, p .same-top)) q in
@@ -153,7 +153,7 @@ module _ (closes : ℕ → ℕ → Bool) (out stack : List ℕ) (f : Fronts) whe
   unfolding step
   step-closing s = refl
 
-  step-operand : (c : ℕ) → 32 ≤ c → (c ≡ 32 → ⊥) → (c ≡ 33 → ⊥) → (s : Progress) → step closes c s ≡ operand closes c s
+  step-operand : (c : ℕ) → mostOperators ≤ c → (c ≡ opening → ⊥) → (c ≡ closing → ⊥) → (s : Progress) → step closes c s ≡ operand closes c s
   unfolding step
   step-operand c h o n s = rw (le-ltb c mostOperators h, ne-eqb c opening o, ne-eqb c closing n)
 
@@ -170,13 +170,13 @@ module _ (closes : ℕ → ℕ → Bool) (out stack : List ℕ) (f : Fronts) whe
         spent = omega (arith, w .same-at, operators, share-closing);
       }
 
-  pub closing-taken : {stack′ : List ℕ} {g : Fronts} {c more : ℕ} → c ≡ 33 → Waits 33 stack f stack′ g → Roomy more out stack f → Takes closes c out stack f out stack′ g
+  pub closing-taken : {stack′ : List ℕ} {g : Fronts} {c more : ℕ} → c ≡ closing → Waits 33 stack f stack′ g → Roomy more out stack f → Takes closes c out stack f out stack′ g
   closing-taken e w r = rw e (waited w r)
 
-  pub opening-token : {out′ : List ℕ} {g : Fronts} {c : ℕ} → c ≡ 32 → Takes closes 32 out stack f out′ stack g → Takes closes c out stack f out′ stack g
+  pub opening-token : {out′ : List ℕ} {g : Fronts} {c : ℕ} → c ≡ opening → Takes closes opening out stack f out′ stack g → Takes closes c out stack f out′ stack g
   opening-token e t = rw e t
 
-  pub operand-taken : {out′ : List ℕ} {g : Fronts} {c more : ℕ} → 32 ≤ c → (c ≡ 32 → ⊥) → (c ≡ 33 → ⊥) → Prepends c out f out′ g → Roomy more out stack f
+  pub operand-taken : {out′ : List ℕ} {g : Fronts} {c more : ℕ} → mostOperators ≤ c → (c ≡ opening → ⊥) → (c ≡ closing → ⊥) → Prepends c out f out′ g → Roomy more out stack f
       → Takes closes c out stack f out′ stack g
   operand-taken {out′} {g} {c} h o n p r =
       let mine = share-one c n in

@@ -10,45 +10,45 @@ use lib.ListN.{length, getD}
 use borrow.Author.Tests.{lt-ltb, le-ltb, ne-eqb}
 use borrow.Author.Needs.{needs}
 use Rattle.expression.specs.Limits.{mostOperators}
-use Rattle.expression.specs.Token.{opening, closing, firstReading, lastReading, class}
+use Rattle.expression.specs.Token.{opening, closing, firstReading, lastReading, Operators, class}
 use Rattle.parser.specs.Rows.{tokenOf, tokenAt, isOperator, isClosing}
 use Rattle.parser.specs.declared.row.Token.{Token}
 use Rattle.parser.specs.declared.row.Token.the-variants.{Operator, Opening, Closing, Reading, Other, End}
 
-module _ (n c : ℕ) where
-  pub is-reading : Fits w8 c → 128 ≤ c → Reading ≡ tokenOf (class n c)
+module _ (ops : Operators) (c : ℕ) where
+  pub is-reading : Fits w8 c → firstReading ≤ c → Reading ≡ tokenOf (class ops c)
   unfolding class
   is-reading f h =
       simp (le-ltb c mostOperators (omega arith), ne-eqb c opening (λ e. omega arith), ne-eqb c closing (λ e. omega arith), le-ltb c firstReading h, le-ltb lastReading c (omega arith))
 
-  pub is-operator : c < 32 → c < n → Operator ≡ tokenOf (class n c)
+  pub is-operator : {n : ℕ} → c < mostOperators → n ≡ ops .count → c < n → Operator ≡ tokenOf (class ops c)
   unfolding class
-  is-operator h g = simp (lt-ltb c mostOperators h, lt-ltb c n g)
+  is-operator h e g = simp (lt-ltb c mostOperators h, lt-ltb c (ops .count) (omega arith))
 
-  pub is-no-operator : c < 32 → n ≤ c → Other ≡ tokenOf (class n c)
+  pub is-no-operator : {n : ℕ} → c < mostOperators → n ≡ ops .count → n ≤ c → Other ≡ tokenOf (class ops c)
   unfolding class
-  is-no-operator h g = simp (lt-ltb c mostOperators h, le-ltb c n g)
+  is-no-operator h e g = simp (lt-ltb c mostOperators h, le-ltb c (ops .count) (omega arith))
 
-  pub is-opening : c ≡ 32 → Opening ≡ tokenOf (class n c)
+  pub is-opening : c ≡ opening → Opening ≡ tokenOf (class ops c)
   unfolding class
   is-opening h = rw h
 
-  pub is-closing : c ≡ 33 → Closing ≡ tokenOf (class n c)
+  pub is-closing : c ≡ closing → Closing ≡ tokenOf (class ops c)
   unfolding class
   is-closing h = rw h
 
-  pub is-other : c < 128 → 32 ≤ c → (c ≡ 32 → ⊥) → (c ≡ 33 → ⊥) → Other ≡ tokenOf (class n c)
+  pub is-other : c < firstReading → mostOperators ≤ c → (c ≡ opening → ⊥) → (c ≡ closing → ⊥) → Other ≡ tokenOf (class ops c)
   unfolding class
   is-other h g o s = simp (le-ltb c mostOperators g, ne-eqb c opening o, ne-eqb c closing s, lt-ltb c firstReading h)
 
 pub ruleset token-of-ways = (is-reading, is-operator, is-no-operator, is-opening, is-closing, is-other, needs)
 
-module _ (n : ℕ) (row : List ℕ) (at : ℕ) where
-  pub is-end : length row ≤ at → End ≡ tokenAt n row at
+module _ (ops : Operators) (row : List ℕ) (at : ℕ) where
+  pub is-end : length row ≤ at → End ≡ tokenAt ops row at
   unfolding tokenAt
   is-end h = simp (le-ltb at (length row) h)
 
-  pub is-token : {t : Token} → at < length row → t ≡ tokenOf (class n (getD row at 0)) → t ≡ tokenAt n row at
+  pub is-token : {t : Token} → at < length row → t ≡ tokenOf (class ops (getD row at 0)) → t ≡ tokenAt ops row at
   unfolding tokenAt
   is-token h e = e ∙ simp (lt-ltb at (length row) h)
 

@@ -5,7 +5,7 @@ use mathlib.Core.Bool.{Bool, true, false, cond}
 use mathlib.Core.List.{List}
 use lib.Dec.{ltb}
 use lib.ListN.{length, getD, drop}
-use Rattle.expression.specs.Token.{Class, Infix, class}
+use Rattle.expression.specs.Token.{Class, Infix, Operators, class}
 use Rattle.expression.specs.Token as token
 use Rattle.expression.specs.Lists.{any}
 use Rattle.expression.specs.Checks.{strangeInRow}
@@ -22,8 +22,8 @@ tokenOf token.Reading = Reading
 tokenOf token.Meaningless = Other
 
 -- the token at a place
-unfoldable pub tokenAt : ℕ → List ℕ → ℕ → Token
-tokenAt n row at = cond (ltb at (length row)) (tokenOf (class n (getD row at 0))) End
+unfoldable pub tokenAt : Operators → List ℕ → ℕ → Token
+tokenAt ops row at = cond (ltb at (length row)) (tokenOf (class ops (getD row at 0))) End
 
 abbrev pub isOperator : Token → Bool
 isOperator Operator = true
@@ -42,14 +42,14 @@ isClosing Other = false
 isClosing End = false
 
 -- A reader answers the place after what it read, or 0.
-module _ (n : ℕ) (row : List ℕ) (at : ℕ) where
+module _ (ops : Operators) (row : List ℕ) (at : ℕ) where
   -- Where it answers a place, the rest of the row is passed from a place where an operand is due to one where it has been read.
   abbrev pub Passes : ℕ → Type 0
-  Passes next = (at < next) × (next ≤ length row) × ((d : ℕ) → scan (class n) (due d) (drop at row) ≡ scan (class n) (done d) (drop next row))
+  Passes next = (at < next) × (next ≤ length row) × ((d : ℕ) → scan (class ops) (due d) (drop at row) ≡ scan (class ops) (done d) (drop next row))
 
   -- Where it answers 0, no row goes on so.
   abbrev pub Refuses : Type 0
-  Refuses = (d : ℕ) → complete (scan (class n) (due d) (drop at row)) ≡ false
+  Refuses = (d : ℕ) → complete (scan (class ops) (due d) (drop at row)) ≡ false
 
   -- What a reader of operands finds.
   pub record ReadsOperand (next : ℕ) : Type 0 where
@@ -60,8 +60,8 @@ module _ (n : ℕ) (row : List ℕ) (at : ℕ) where
   pub record ReadsExpression (next : ℕ) : Type 0 where
     pub refuses : next ≡ 0 → Refuses
     pub passes : (next ≡ 0 → ⊥) → Passes next
-    pub stops : (next ≡ 0 → ⊥) → isOperator (tokenAt n row next) ≡ false
+    pub stops : (next ≡ 0 → ⊥) → isOperator (tokenAt ops row next) ≡ false
 
 -- some token is strange
-unfoldable pub hasStranger : ℕ → List ℕ → Bool
-hasStranger n tokens = any (λ c. strangeInRow (class n c)) tokens
+unfoldable pub hasStranger : Operators → List ℕ → Bool
+hasStranger ops tokens = any (λ c. strangeInRow (class ops c)) tokens

@@ -1,18 +1,20 @@
 // The checks of a row: an expression reader and an operand reader that call each other.
-use sheet::limits;
-use sheet::refusal;
-use sheet::token;
+use expression::limits;
+use expression::refusal;
+use expression::token;
+use sheet::layout::SHEET_WORDS;
 ghost use mathlib.Core.Path.{_≡_};
 ghost use mathlib.Core.Bool.{Bool};
 ghost use Prim.Native.Nat.{_≤_};
 ghost use lib.ListN.{length};
 ghost use Rattle.expression.specs.Limits.{mostTokens};
-ghost use Rattle.expression.specs.Token.{class};
+ghost use Rattle.expression.specs.Token.{operators, class};
 ghost use Rattle.expression.specs.Checks.{strangeInRow, rowNumber, recordBytes};
+ghost use Rattle.sheet.specs.Layout.{operatorsOf};
 ghost use Rattle.parser.specs.Fronts.{share};
 ghost use Rattle.parser.specs.Rows.{tokenOf, tokenAt, isOperator, isClosing, ReadsOperand, ReadsExpression, hasStranger};
 
-// What a token is where the sheet has n operators.
+// What a token is under a sheet's operators.
 pub enum Token {
     Operator,
     Opening,
@@ -23,14 +25,14 @@ pub enum Token {
 }
 
 // The token that a byte is.
-fn token_of(n: u8, c: u8) -> Token
-    ensures { λ r. ⌜ r ≡ tokenOf (class n c) ⌝ }
+fn token_of(sheet: &[u32; SHEET_WORDS], c: u8) -> Token
+    ensures { λ r. ⌜ r ≡ tokenOf (class (operatorsOf (now (sheet .entry))) c) ⌝ }
 {
     if token::FIRST_READING <= c {
         return Token::Reading;
     }
     if c < limits::MOST_OPERATORS {
-        if c < n {
+        if c < sheet::operator_count(sheet) {
             return Token::Operator;
         }
         return Token::Other;
@@ -45,20 +47,20 @@ fn token_of(n: u8, c: u8) -> Token
 }
 
 // The token at a place; End past the row's end.
-fn token_at(n: u8, row: &[u8], at: usize) -> Token
-    ensures { λ r. ⌜ r ≡ tokenAt n (now (row .entry)) at ⌝ }
+fn token_at(sheet: &[u32; SHEET_WORDS], row: &[u8], at: usize) -> Token
+    ensures { λ r. ⌜ r ≡ tokenAt (operatorsOf (now (sheet .entry))) (now (row .entry)) at ⌝ }
 {
     if row.len() <= at {
         return Token::End;
     }
-    token_of(n, row[at])
+    token_of(sheet, row[at])
 }
 
 // An operator stands at a place.
-fn operator_at(n: u8, row: &[u8], at: usize) -> bool
-    ensures { λ r. ⌜ r ≡ isOperator (tokenAt n (now (row .entry)) at) ⌝ }
+fn operator_at(sheet: &[u32; SHEET_WORDS], row: &[u8], at: usize) -> bool
+    ensures { λ r. ⌜ r ≡ isOperator (tokenAt (operatorsOf (now (sheet .entry))) (now (row .entry)) at) ⌝ }
 {
-    let t = token_at(n, row, at);
+    let t = token_at(sheet, row, at);
     match t {
         Token::Operator => true,
         Token::Opening => false,
@@ -70,10 +72,10 @@ fn operator_at(n: u8, row: &[u8], at: usize) -> bool
 }
 
 // A closing bracket stands at a place.
-fn closing_at(n: u8, row: &[u8], at: usize) -> bool
-    ensures { λ r. ⌜ r ≡ isClosing (tokenAt n (now (row .entry)) at) ⌝ }
+fn closing_at(sheet: &[u32; SHEET_WORDS], row: &[u8], at: usize) -> bool
+    ensures { λ r. ⌜ r ≡ isClosing (tokenAt (operatorsOf (now (sheet .entry))) (now (row .entry)) at) ⌝ }
 {
-    let t = token_at(n, row, at);
+    let t = token_at(sheet, row, at);
     match t {
         Token::Operator => false,
         Token::Opening => false,
@@ -89,34 +91,34 @@ const NOWHERE: usize = 0;
 
 // The place after the expression that starts at `at`: an operand, then any number of operator and operand.
 // The row goes on by its one reference, so that the call for what follows an operator is a jump.
-fn expression_end<'a, 'b>(n: u8, row: &'a &'b [u8], at: usize) -> usize
+fn expression_end<'a, 'b, 'c>(sheet: &'a [u32; SHEET_WORDS], row: &'b &'c [u8], at: usize) -> usize
     requires { ⌜ length (now (now row)) ≤ mostTokens ⌝ }
-    ensures { λ r. ⌜ ReadsExpression n (now (now (row .entry))) at r ⌝ }
+    ensures { λ r. ⌜ ReadsExpression (operatorsOf (now (sheet .entry))) (now (now (row .entry))) at r ⌝ }
 {
-    let next = operand_end(n, row, at);
+    let next = operand_end(sheet, row, at);
     if next == NOWHERE {
         return NOWHERE;
     }
-    if operator_at(n, *row, next) {
-        return expression_end(n, row, next + 1);
+    if operator_at(sheet, *row, next) {
+        return expression_end(sheet, row, next + 1);
     }
     next
 }
 
 // The place after the operand that starts at `at`: a reading, or an expression in brackets.
-fn operand_end<'a, 'b>(n: u8, row: &'a &'b [u8], at: usize) -> usize
+fn operand_end<'a, 'b, 'c>(sheet: &'a [u32; SHEET_WORDS], row: &'b &'c [u8], at: usize) -> usize
     requires { ⌜ length (now (now row)) ≤ mostTokens ⌝ }
-    ensures { λ r. ⌜ ReadsOperand n (now (now (row .entry))) at r ⌝ }
+    ensures { λ r. ⌜ ReadsOperand (operatorsOf (now (sheet .entry))) (now (now (row .entry))) at r ⌝ }
 {
-    let t = token_at(n, *row, at);
+    let t = token_at(sheet, *row, at);
     match t {
         Token::Reading => at + 1,
         Token::Opening => {
-            let next = expression_end(n, row, at + 1);
+            let next = expression_end(sheet, row, at + 1);
             if next == NOWHERE {
                 return NOWHERE;
             }
-            if closing_at(n, *row, next) {
+            if closing_at(sheet, *row, next) {
                 return next + 1;
             }
             NOWHERE
@@ -130,7 +132,7 @@ fn operand_end<'a, 'b>(n: u8, row: &'a &'b [u8], at: usize) -> usize
 
 // A byte without meaning, or an operator not below n; no branch tells.
 fn is_strange(n: u8, c: u8) -> bool
-    ensures { λ r. ⌜ r ≡ strangeInRow (class n c) ⌝ }
+    ensures { λ r. ⌜ r ≡ strangeInRow (class (operators n) c) ⌝ }
 {
     let no_operator = (n <= c) & (c < limits::MOST_OPERATORS);
     let no_meaning = (token::CLOSING < c) & (c < token::FIRST_READING);
@@ -138,8 +140,8 @@ fn is_strange(n: u8, c: u8) -> bool
 }
 
 // Some token is strange. The loop has no branch, so that tokens can be tested side by side.
-fn has_stranger(n: u8, row: &[u8]) -> bool
-    ensures { λ r. ⌜ r ≡ hasStranger n (now (row .entry)) ⌝ }
+fn any_strange(n: u8, row: &[u8]) -> bool
+    ensures { λ r. ⌜ r ≡ hasStranger (operators n) (now (row .entry)) ⌝ }
 {
     let mut strange = false;
     let mut at = 0;
@@ -150,17 +152,24 @@ fn has_stranger(n: u8, row: &[u8]) -> bool
     strange
 }
 
+// The same under a sheet's operators: their count tells.
+fn has_stranger(sheet: &[u32; SHEET_WORDS], row: &[u8]) -> bool
+    ensures { λ r. ⌜ r ≡ hasStranger (operatorsOf (now (sheet .entry))) (now (row .entry)) ⌝ }
+{
+    any_strange(sheet::operator_count(sheet), row)
+}
+
 // The number of a row: 1, 3, 6 or 0.
-pub fn number(n: u8, row: &[u8]) -> u8
-    ensures { λ r. ⌜ r ≡ rowNumber n (now (row .entry)) ⌝ }
+pub fn number(sheet: &[u32; SHEET_WORDS], row: &[u8]) -> u8
+    ensures { λ r. ⌜ r ≡ rowNumber (operatorsOf (now (sheet .entry))) (now (row .entry)) ⌝ }
 {
     if limits::MOST_TOKENS < row.len() {
         return refusal::OVERSIZE;
     }
-    if has_stranger(n, row) {
+    if has_stranger(sheet, row) {
         return refusal::STRANGER;
     }
-    let end = expression_end(n, &row, 0);
+    let end = expression_end(sheet, &row, 0);
     if end == NOWHERE {
         return refusal::NO_ROW;
     }
@@ -171,7 +180,7 @@ pub fn number(n: u8, row: &[u8]) -> u8
 }
 
 // A token's share of its row's record: a byte, but none for a closing bracket.
-fn share_of(c: u8) -> u8
+fn share_of(c: u8) -> u16
     ensures { λ r. ⌜ r ≡ share c ⌝ }
 {
     if c == token::CLOSING {
@@ -180,12 +189,12 @@ fn share_of(c: u8) -> u8
     1
 }
 
-// The bytes of the row's record. They are counted in a byte, so that tokens can be counted side by side.
+// The bytes of the row's record. The loop has no branch, so that tokens can be counted side by side.
 pub fn record_bytes(row: &[u8]) -> usize
     requires { ⌜ length (now row) ≤ mostTokens ⌝ }
     ensures { λ r. ⌜ r ≡ recordBytes (now (row .entry)) ⌝ }
 {
-    let mut count: u8 = 0;
+    let mut count: u16 = 0;
     let mut i: usize = 0;
     while i < row.len() {
         count += share_of(row[i]);

@@ -2,7 +2,7 @@
 use crate::limits;
 ghost use mathlib.Core.Path.{_≡_};
 ghost use Prim.Native.Nat.{_<_};
-ghost use Rattle.places.specs.Store.{slotAt};
+ghost use Rattle.places.specs.Store.{slotBytes, slotAt};
 
 // Where the slot of a place begins.
 pub fn slot_at(place: u8) -> usize
@@ -13,7 +13,7 @@ pub fn slot_at(place: u8) -> usize
 
 // A length byte as a number of bytes.
 pub fn wide(length: u8) -> usize
-    ensures { λ r. ⌜ (r ≡ length) × (r < 256) ⌝ }
+    ensures { λ r. ⌜ (r ≡ length) × (r < slotBytes) ⌝ }
 {
     length as usize
 }

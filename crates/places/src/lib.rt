@@ -2,13 +2,15 @@
 ghost use mathlib.Core.Path.{_≡_};
 ghost use mathlib.Core.List.{[]};
 ghost use Rattle.places.specs.Store.{held, imageOf, stored, drawn};
+use expression::limits::MOST_RECORD_BYTES;
+use limits::STORE_BYTES;
 
 mod layout;
 pub mod limits;
 mod write;
 
 // The record at a place, as that part of the store; empty where the place is empty or over 15.
-pub fn held_record(store: &[u8; 4096], place: u8) -> &[u8]
+pub fn held_record(store: &[u8; STORE_BYTES], place: u8) -> &[u8]
     ensures { λ r. ⌜ now r ≡ held (now (store .entry)) place ⌝ }
 {
     let whole = &store[..];
@@ -22,20 +24,20 @@ pub fn held_record(store: &[u8; 4096], place: u8) -> &[u8]
 }
 
 // The place holds the record of these bytes. A place over 15, or a record over 255 bytes, changes nothing.
-pub fn put(store: &mut [u8; 4096], place: u8, bytes: &[u8])
+pub fn put(store: &mut [u8; STORE_BYTES], place: u8, bytes: &[u8])
     ensures { λ _. ⌜ now (store .exit) ≡ stored (now (store .entry)) place (now (bytes .entry)) ⌝ }
 {
     if limits::PLACE_COUNT <= place {
         return;
     }
-    if limits::MOST_RECORD_BYTES < bytes.len() {
+    if MOST_RECORD_BYTES < bytes.len() {
         return;
     }
     write::image(store, layout::slot_at(place), bytes);
 }
 
 // The place is empty.
-pub fn clear(store: &mut [u8; 4096], place: u8)
+pub fn clear(store: &mut [u8; STORE_BYTES], place: u8)
     ensures { λ _. ⌜ now (store .exit) ≡ stored (now (store .entry)) place [] ⌝ }
 {
     if limits::PLACE_COUNT <= place {
@@ -45,7 +47,7 @@ pub fn clear(store: &mut [u8; 4096], place: u8)
 }
 
 // The image of a place goes to the front of the output, where there is room for it.
-pub fn draw(store: &[u8; 4096], place: u8, out: &mut [u8])
+pub fn draw(store: &[u8; STORE_BYTES], place: u8, out: &mut [u8])
     ensures { λ _. ⌜ now (out .exit) ≡ drawn (imageOf (held (now (store .entry)) place)) (now (out .entry)) ⌝ }
 {
     if out.len() < limits::SLOT_BYTES {

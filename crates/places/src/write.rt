@@ -5,7 +5,7 @@ ghost use lib.ListN.{length, replicate};
 ghost use lib.Seq.{sets};
 ghost use Rattle.expression.specs.Limits.{mostRecordBytes};
 ghost use Rattle.places.specs.Store.{slotBytes, imageOf};
-use crate::limits;
+use expression::limits::MOST_RECORD_BYTES;
 
 // The bytes stand from `at` on.
 fn copy(to: &mut [u8], at: usize, bytes: &[u8])
@@ -39,5 +39,5 @@ pub fn image(to: &mut [u8], at: usize, bytes: &[u8])
     let length = bytes.len();
     to[at] = length as u8;
     copy(to, at + 1, bytes);
-    zeros(to, at + 1 + length, limits::MOST_RECORD_BYTES - length);
+    zeros(to, at + 1 + length, MOST_RECORD_BYTES - length);
 }

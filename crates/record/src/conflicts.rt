@@ -14,7 +14,13 @@ use expression::limits::MOST_RECORD_BYTES;
 use sheet::layout::SHEET_WORDS;
 
 // 1 where operator o shows a conflict with its left operand, which stands at the place; else 0.
-fn on_left(sheet: &[u32; SHEET_WORDS], held: &[u8; MOST_RECORD_BYTES], size: usize, at: usize, o: u8) -> usize
+fn on_left(
+    sheet: &[u32; SHEET_WORDS],
+    held: &[u8; MOST_RECORD_BYTES],
+    size: usize,
+    at: usize,
+    o: u8,
+) -> usize
     requires { ⌜ size ≤ mostRecordBytes ⌝ }
     ensures { λ r. ⌜ r ≡ onLeft (now (sheet .entry)) o (nodeAt (operatorsOf (now (sheet .entry))) (front size (now (held .entry))) at) ⌝ }
     ensures { λ r. ⌜ r ≤ 1 ⌝ }
@@ -30,7 +36,13 @@ fn on_left(sheet: &[u32; SHEET_WORDS], held: &[u8; MOST_RECORD_BYTES], size: usi
 }
 
 // 1 where operator o shows a conflict with its right operand, which stands at the place; else 0.
-fn on_right(sheet: &[u32; SHEET_WORDS], held: &[u8; MOST_RECORD_BYTES], size: usize, at: usize, o: u8) -> usize
+fn on_right(
+    sheet: &[u32; SHEET_WORDS],
+    held: &[u8; MOST_RECORD_BYTES],
+    size: usize,
+    at: usize,
+    o: u8,
+) -> usize
     requires { ⌜ size ≤ mostRecordBytes ⌝ }
     ensures { λ r. ⌜ r ≡ onRight (now (sheet .entry)) o (nodeAt (operatorsOf (now (sheet .entry))) (front size (now (held .entry))) at) ⌝ }
     ensures { λ r. ⌜ r ≤ 1 ⌝ }

@@ -87,7 +87,12 @@ fn take_rule(
 }
 
 // Marks the rules, up to the first strange one; says whether there is one.
-pub fn read(n: u8, rules: &[u8], closes: &mut [u32; SHEET_WORDS], yields: &mut [u32; SHEET_WORDS]) -> bool
+pub fn read(
+    n: u8,
+    rules: &[u8],
+    closes: &mut [u32; SHEET_WORDS],
+    yields: &mut [u32; SHEET_WORDS],
+) -> bool
     requires { ⌜ n ≤ mostOperators ⌝ }
     ensures { λ r. ⌜ Reads n (now (rules .entry)) (now (closes .entry)) (now (yields .entry)) (now (closes .exit)) (now (yields .exit)) r ⌝ }
 {

@@ -83,7 +83,12 @@ fn is_level(n: usize, relation: &[u32; SHEET_WORDS]) -> bool
 }
 
 // Numbers 3, 4 and 5, or 0.
-pub fn rules_number(strange: bool, n: usize, closes: &[u32; SHEET_WORDS], yields: &[u32; SHEET_WORDS]) -> u8
+pub fn rules_number(
+    strange: bool,
+    n: usize,
+    closes: &[u32; SHEET_WORDS],
+    yields: &[u32; SHEET_WORDS],
+) -> u8
     requires { ⌜ n ≤ mostOperators ⌝ }
     ensures { λ r. ⌜ r ≡ rulesNumber strange (operators n) (turned (closesIn (now (yields .entry)))) (closesIn (now (closes .entry))) ⌝ }
 {

@@ -6,10 +6,10 @@ use Rattle.parser.proofs.build.build_into.Statement.{statement}
 use Rattle.parser.proofs.build.build_into.Tie as tie
 
 abbrev Inv-loop : tie.InvT-loop
-Inv-loop relation row out₀ stack₀ fronts₀ i₀ out stack fronts i = Building (closesIn relation) row out₀ out stack fronts i
+Inv-loop sheet row out₀ stack₀ fronts₀ i₀ out stack fronts i = Building (closesIn sheet) row out₀ out stack fronts i
 
 abbrev μ-loop : tie.MeasureT-loop
-μ-loop relation row out₀ stack₀ fronts₀ i₀ out stack fronts i = i
+μ-loop sheet row out₀ stack₀ fronts₀ i₀ out stack fronts i = i
 
 pub build-into-spec : {M : Type 1} → statement M
 build-into-spec =

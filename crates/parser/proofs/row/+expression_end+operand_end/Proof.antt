@@ -16,35 +16,35 @@ use Rattle.parser.proofs.row.token_at.Reads as token-at-reads
 use Rattle.parser.proofs.row.+expression_end+operand_end.{statement}
 use Rattle.parser.proofs.row.+expression_end+operand_end.Tie.{close}
 
-abbrev μ-expression-end : Measures 2 expression-end-kinds.ps ℕ
+abbrev μ-expression-end : Measures 3 expression-end-kinds.ps ℕ
 μ-expression-end κs a = 2 * (length (a .1 .0 .now .now) - a .1 .1 .0) + 1
 
-abbrev μ-operand-end : Measures 2 operand-end-kinds.ps ℕ
+abbrev μ-operand-end : Measures 3 operand-end-kinds.ps ℕ
 μ-operand-end κs a = 2 * (length (a .1 .0 .now .now) - a .1 .1 .0)
 
-abbrev expression-end-at : ℕ → In 2 expression-end-kinds.ps
+abbrev expression-end-at : ℕ → In 3 expression-end-kinds.ps
 expression-end-at t =
     and
-    2
+    3
     expression-end-kinds.ps
-    (is 2 expression-end-kinds.ps μ-expression-end t)
+    (is 3 expression-end-kinds.ps μ-expression-end t)
     expression-end.Pre
 
-abbrev expression-end-below : ℕ → In 2 expression-end-kinds.ps
+abbrev expression-end-below : ℕ → In 3 expression-end-kinds.ps
 expression-end-below t =
     and
-    2
+    3
     expression-end-kinds.ps
-    (falls 2 expression-end-kinds.ps _<_ μ-expression-end t)
+    (falls 3 expression-end-kinds.ps _<_ μ-expression-end t)
     expression-end.Pre
 
-abbrev operand-end-at : ℕ → In 2 operand-end-kinds.ps
+abbrev operand-end-at : ℕ → In 3 operand-end-kinds.ps
 operand-end-at t =
-    and 2 operand-end-kinds.ps (is 2 operand-end-kinds.ps μ-operand-end t) operand-end.Pre
+    and 3 operand-end-kinds.ps (is 3 operand-end-kinds.ps μ-operand-end t) operand-end.Pre
 
-abbrev operand-end-below : ℕ → In 2 operand-end-kinds.ps
+abbrev operand-end-below : ℕ → In 3 operand-end-kinds.ps
 operand-end-below t =
-    and 2 operand-end-kinds.ps (falls 2 operand-end-kinds.ps _<_ μ-operand-end t) operand-end.Pre
+    and 3 operand-end-kinds.ps (falls 3 operand-end-kinds.ps _<_ μ-operand-end t) operand-end.Pre
 
 pub +expression-end+operand-end-spec : {M : Type 1} → statement M
 +expression-end+operand-end-spec =

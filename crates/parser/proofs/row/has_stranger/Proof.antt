@@ -1,27 +1,12 @@
--- `parser::row::has_stranger` meets its contract; in its loop, what is found so far and what stands from the place on make up the answer. Assumes nothing.
-use Prim.Native.Nat.{_-_}
-use lib.ListN.{length}
-use Rattle.expression.proofs.Looking.{Looked}
-use Rattle.parser.proofs.RowWays.{strange, stranger-ways}
+-- `parser::row::has_stranger` meets its contract. Assumes nothing.
+use Rattle.parser.proofs.RowWays.{stranger-ways}
 use Rattle.parser.proofs.row.has_stranger.Statement.{statement}
 use Rattle.parser.proofs.row.has_stranger.Tie as tie
-
-abbrev Inv-loop : tie.InvT-loop
-Inv-loop n row found₀ at₀ found at = Looked (strange n) row found at
-
-abbrev μ-loop : tie.MeasureT-loop
-μ-loop n row found₀ at₀ found at = length row - at
 
 pub has-stranger-spec : {M : Type 1} → statement M
 has-stranger-spec =
     tie.close
     (tie.spec
-    Inv-loop
-    μ-loop
-    (λ c. search stranger-ways)
-    (λ c. search stranger-ways)
     (λ c κs. search stranger-ways)
-    (λ c. search stranger-ways)
-    (λ c. search stranger-ways)
-    (λ c. search stranger-ways)
+    (λ c κs. search stranger-ways)
     (λ c. search stranger-ways))
