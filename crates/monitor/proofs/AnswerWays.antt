@@ -1,4 +1,4 @@
--- What each way through the calls with a lent output gives, from what is known on it. Assumes nothing.
+-- What each way through the questions gives, from what is known on it. Assumes nothing.
 use mathlib.Core.Path.{_≡_, refl, sym, ap, ap₂, _∙_}
 use mathlib.Core.Bool.{true, false}
 use mathlib.Core.List.{List, [], _∷_, _++_}
@@ -13,19 +13,19 @@ use Rattle.expression.specs.Lent.{outputAfter, lengthAfter}
 use Rattle.expression.specs.Token.{class}
 use Rattle.expression.specs.Decode.{treeOf}
 use Rattle.expression.specs.Operand.{rowOf}
-use Rattle.expression.specs.Checks.{buildNumber, repairNumber, yieldNumber}
-use Rattle.sheet.specs.Relation.{closesIn, closes}
-use Rattle.sheet.specs.declared.Sheet.{Sheet}
-use Rattle.record.specs.Answers.{Yields}
+use Rattle.expression.specs.Checks.{yieldNumber}
+use Rattle.sheet.specs.Layout.{operatorsOf}
+use Rattle.record.specs.Answers.{Yields, judgement}
 use Rattle.record.specs.declared.Answer.{Answer}
-use Rattle.parser.specs.Build.{built}
-use Rattle.parser.specs.Answers as parser
+use Rattle.record.specs.declared.Judgement.{Judgement}
+use Rattle.parser.specs.Answers.{AnswersBuild, AnswersRepair}
 use Rattle.places.specs.Store.{placeCount, slotBytes, held, imageOf, drawn}
 use Rattle.places.proofs.Images.{length-image}
 use Rattle.places.proofs.Laws.{held-length}
-use Rattle.monitor.specs.Panel.{isEmpty, rebuilt}
-use Rattle.monitor.specs.Steps.{fetchRecordNumber, fetchRowNumber, imageNumber}
-use Rattle.monitor.specs.Contracts.{panel, Answers, AnswersBuild, AnswersRepair, AnswersYield, AnswersRecord, AnswersRow, AnswersImage}
+use Rattle.monitor.specs.Call.{Question, lentBefore, fetchRecord, fetchRow, image, build, repair, yield}
+use Rattle.monitor.specs.Panel.{Panel, panel, isEmpty}
+use Rattle.monitor.specs.Steps.{fetchRecordNumber, fetchRowNumber, imageNumber, told}
+use Rattle.monitor.specs.Contracts.{Answers, AnswersUnder, AnswersFrom, Judges}
 
 -- ---- a place is empty, or not
 pub empty-true : (bytes : List ℕ) → length bytes ≡ 0 → isEmpty bytes ≡ true
@@ -37,128 +37,125 @@ empty-false [] h = absurd (h refl)
 empty-false (x ∷ xs) h = refl
 
 -- ---- an answer by its number
-pub answers-refused : (number due : ℕ) (answer before : List ℕ) → number ≡ due → (number ≡ 0 → ⊥) → Answers due answer before before (record { number = number; length = 0 })
-answers-refused number due answer before e h =
-    let z : eqb due 0 ≡ false = ne-eqb due 0 (λ f. h (e ∙ f)) in
-    record { numbered = e; measured = rw z; output = rw z }
+module _ (p : Panel) (q : Question) where
+  refused : (number : ℕ) → number ≡ told p q .number → (number ≡ 0 → ⊥) → Answers p q (record { number = number; length = 0 }) (lentBefore q)
+  refused number e h =
+      let z : eqb (told p q .number) 0 ≡ false = ne-eqb (told p q .number) 0 (λ f. h (e ∙ f)) in
+      record { numbered = e; measured = rw z; output = rw z }
 
-pub answers-done : (due : ℕ) {size : ℕ} (answer before : List ℕ) {after : List ℕ} → due ≡ 0 → size ≡ length answer → after ≡ answer ++ drop (length answer) before
-    → Answers due answer before after (record { number = 0; length = size })
-answers-done due answer before e l o = record { numbered = sym e; measured = rw e l; output = rw e o }
+  done : {size : ℕ} {later : List ℕ} → told p q .number ≡ 0 → size ≡ length (told p q .answer) → later ≡ told p q .answer ++ drop (length (told p q .answer)) (lentBefore q)
+      → Answers p q (record { number = 0; length = size }) later
+  done e l o = record { numbered = sym e; measured = rw e l; output = rw e o }
 
--- a callee's answer, under the call's own number and answer
-pub answers-as : (due other : ℕ) (answer other-answer before : List ℕ) {after : List ℕ} {r : Answer} → other ≡ due → other-answer ≡ answer
-    → r .number ≡ other → r .length ≡ lengthAfter (r .number) other-answer → after ≡ outputAfter (r .number) other-answer before
-    → Answers due answer before after r
-answers-as due other answer other-answer before e a n l o =
-    record { numbered = n ∙ e; measured = l ∙ ap₂ lengthAfter (n ∙ e) a; output = o ∙ ap₂ (λ x y. outputAfter x y before) (n ∙ e) a }
+  -- a callee's answer, under the question's own number and answer
+  as-told : {r : Answer} {later : List ℕ} (number : ℕ) (answer : List ℕ) → number ≡ told p q .number → answer ≡ told p q .answer
+      → r .number ≡ number → r .length ≡ lengthAfter (r .number) answer → later ≡ outputAfter (r .number) answer (lentBefore q) → Answers p q r later
+  as-told number answer e a n l o =
+      record { numbered = n ∙ e; measured = l ∙ ap₂ lengthAfter (n ∙ e) a; output = o ∙ ap₂ (λ x y. outputAfter x y (lentBefore q)) (n ∙ e) a }
 
--- ---- build, repair, yield
-module _ (s : Sheet) {bytes before after : List ℕ} {r : Answer} where
-  pub build-answered : parser.AnswersBuild (s .n) (closesIn (s .closes)) bytes before after r → AnswersBuild s bytes before after r
-  unfolding closes
-  build-answered a =
-      let answer = built (closes s) bytes in
-      answers-as (buildNumber (s .n) bytes (length before)) (buildNumber (s .n) bytes (length before)) answer answer before refl refl (a .numbered) (a .measured) (a .output)
+-- ---- build, repair, yield: what the lower crates promise is the run's answer
+module _ (sheet : List ℕ) {bytes before later : List ℕ} {r : Answer} where
+  pub build-answered : AnswersBuild sheet bytes before later r → AnswersUnder sheet (build bytes before) r later
+  build-answered a = record { answers = λ places. as-told (panel sheet places) (build bytes before) _ _ refl refl (a .numbered) (a .measured) (a .output) }
 
-  pub repair-answered : parser.AnswersRepair (s .n) (closesIn (s .closes)) bytes before after r → AnswersRepair s bytes before after r
-  unfolding closes
-  repair-answered a =
-      let answer = rebuilt (s .n) (closes s) bytes in
-      answers-as (repairNumber (s .n) bytes (length before)) (repairNumber (s .n) bytes (length before)) answer answer before refl refl (a .numbered) (a .measured) (a .output)
+  pub repair-answered : AnswersRepair sheet bytes before later r → AnswersUnder sheet (repair bytes before) r later
+  repair-answered a = record { answers = λ places. as-told (panel sheet places) (repair bytes before) _ _ refl refl (a .numbered) (a .measured) (a .output) }
 
-  pub yield-answered : Yields (s .n) bytes before after r → AnswersYield s bytes before after r
-  yield-answered a =
-      let answer = rowOf (treeOf (class (s .n)) bytes) in
-      answers-as (yieldNumber (s .n) bytes (length before)) (yieldNumber (s .n) bytes (length before)) answer answer before refl refl (a .numbered) (a .measured) (a .output)
+  pub yield-answered : Yields (operatorsOf sheet) bytes before later r → AnswersUnder sheet (yield bytes before) r later
+  yield-answered a = record { answers = λ places. as-told (panel sheet places) (yield bytes before) _ _ refl refl (a .numbered) (a .measured) (a .output) }
 
 pub ruleset under-sheet-ways = (build-answered, repair-answered, yield-answered, needs)
 
+-- ---- judge
+pub judged : (sheet bytes : List ℕ) {r : Judgement} → r ≡ judgement sheet bytes → Judges sheet bytes r
+unfolding judgement
+judged sheet bytes e = record { numbered = λ places. ap (λ (j : Judgement). j .number) e; counted = λ places. ap (λ (j : Judgement). j .count) e }
+
+pub ruleset judge-ways = (judged, needs)
+
 -- ---- fetch_record
 module _ (places : List ℕ) (k : ℕ) (out : List ℕ) where
-  abbrev recordDue : Sheet → ℕ
-  recordDue s = fetchRecordNumber (panel s places) k (length out)
+  record-refused : (number : ℕ) → ((sheet : List ℕ) → number ≡ fetchRecordNumber (panel sheet places) k (length out)) → (number ≡ 0 → ⊥)
+      → AnswersFrom places (fetchRecord k out) (record { number = number; length = 0 }) out
+  record-refused number e h = record { answers = λ sheet. refused (panel sheet places) (fetchRecord k out) number (e sheet) h }
 
-  record-refused : (number : ℕ) → ((s : Sheet) → number ≡ recordDue s) → (number ≡ 0 → ⊥) → AnswersRecord places k out out (record { number = number; length = 0 })
-  record-refused number e h = record { answers = λ s. answers-refused number (recordDue s) (held places k) out (e s) h }
-
-  pub record-over : 16 ≤ k → AnswersRecord places k out out (record { number = 8; length = 0 })
+  pub record-over : placeCount ≤ k → AnswersFrom places (fetchRecord k out) (record { number = 8; length = 0 }) out
   unfolding fetchRecordNumber
-  record-over h = record-refused 8 (λ s. simp (le-ltb k placeCount h)) (λ e. omega arith)
+  record-over h = record-refused 8 (λ sheet. simp (le-ltb k placeCount h)) (λ e. omega arith)
 
-  module _ (h : k < 16) {bytes : List ℕ} (e : bytes ≡ held places k) where
-    pub record-none : length bytes ≡ 0 → AnswersRecord places k out out (record { number = 9; length = 0 })
+  module _ (h : k < placeCount) {bytes : List ℕ} (e : bytes ≡ held places k) where
+    pub record-none : length bytes ≡ 0 → AnswersFrom places (fetchRecord k out) (record { number = 9; length = 0 }) out
     unfolding fetchRecordNumber
-    record-none z = record-refused 9 (λ s. simp (lt-ltb k placeCount h, empty-true (held places k) (ap length (sym e) ∙ z))) (λ e. omega arith)
+    record-none z = record-refused 9 (λ sheet. simp (lt-ltb k placeCount h, empty-true (held places k) (ap length (sym e) ∙ z))) (λ e. omega arith)
 
     module _ (n : length bytes ≡ 0 → ⊥) where
       some-held : isEmpty (held places k) ≡ false
       some-held = empty-false (held places k) (λ z. n (ap length e ∙ z))
 
-      pub record-short : length out < length bytes → AnswersRecord places k out out (record { number = 10; length = 0 })
+      pub record-short : length out < length bytes → AnswersFrom places (fetchRecord k out) (record { number = 10; length = 0 }) out
       unfolding fetchRecordNumber
       record-short l =
-          record-refused 10 (λ s. simp (lt-ltb k placeCount h, some-held, lt-ltb (length out) (length (held places k)) (omega (arith, ap length e)))) (λ e. omega arith)
+          record-refused 10 (λ sheet. simp (lt-ltb k placeCount h, some-held, lt-ltb (length out) (length (held places k)) (omega (arith, ap length e)))) (λ e. omega arith)
 
-      pub record-done : {after : List ℕ} → length bytes ≤ length out → after ≡ take (length bytes) bytes ++ drop (length bytes) out
-          → AnswersRecord places k out after (record { number = 0; length = length bytes })
+      pub record-done : {later : List ℕ} → length bytes ≤ length out → later ≡ take (length bytes) bytes ++ drop (length bytes) out
+          → AnswersFrom places (fetchRecord k out) (record { number = 0; length = length bytes }) later
       unfolding fetchRecordNumber
-      record-done {after} l a =
-          let due : (s : Sheet) → recordDue s ≡ 0 = λ s. simp (lt-ltb k placeCount h, some-held, le-ltb (length out) (length (held places k)) (omega (arith, ap length e))) in
-          let front : after ≡ held places k ++ drop (length (held places k)) out = a ∙ ap₂ _++_ (take-all (length bytes) bytes (omega arith) ∙ e) (ap (λ x. drop (length x) out) e) in
-          record { answers = λ s. answers-done (recordDue s) (held places k) out (due s) (ap length e) front }
+      record-done {later} l a =
+          let front : later ≡ held places k ++ drop (length (held places k)) out = a ∙ ap₂ _++_ (take-all (length bytes) bytes (omega arith) ∙ e) (ap (λ x. drop (length x) out) e) in
+          record {
+            answers = λ sheet.
+                done (panel sheet places) (fetchRecord k out) (simp (lt-ltb k placeCount h, some-held, le-ltb (length out) (length (held places k)) (omega (arith, ap length e))))
+                (ap length e) front;
+          }
 
 pub ruleset fetch-record-ways = (record-over, record-none, record-short, record-done, needs)
 
 -- ---- fetch_row
-module _ (s : Sheet) (places : List ℕ) (k : ℕ) (out : List ℕ) where
-  abbrev rowDue : ℕ
-  rowDue = fetchRowNumber (panel s places) k (length out)
-
-  abbrev rowHeld : List ℕ
-  rowHeld = rowOf (treeOf (class (s .n)) (held places k))
-
-  pub row-over : 16 ≤ k → AnswersRow s places k out out (record { number = 8; length = 0 })
+module _ (sheet places : List ℕ) (k : ℕ) (out : List ℕ) where
+  pub row-over : placeCount ≤ k → Answers (panel sheet places) (fetchRow k out) (record { number = 8; length = 0 }) out
   unfolding fetchRowNumber
-  row-over h = answers-refused 8 rowDue rowHeld out (simp (le-ltb k placeCount h)) (λ e. omega arith)
+  row-over h = refused (panel sheet places) (fetchRow k out) 8 (simp (le-ltb k placeCount h)) (λ e. omega arith)
 
-  module _ (h : k < 16) {bytes : List ℕ} (e : bytes ≡ held places k) where
-    pub row-none : length bytes ≡ 0 → AnswersRow s places k out out (record { number = 9; length = 0 })
+  module _ (h : k < placeCount) {bytes : List ℕ} (e : bytes ≡ held places k) where
+    pub row-none : length bytes ≡ 0 → Answers (panel sheet places) (fetchRow k out) (record { number = 9; length = 0 }) out
     unfolding fetchRowNumber
-    row-none z = answers-refused 9 rowDue rowHeld out (simp (lt-ltb k placeCount h, empty-true (held places k) (ap length (sym e) ∙ z))) (λ e. omega arith)
+    row-none z =
+        refused (panel sheet places) (fetchRow k out) 9 (simp (lt-ltb k placeCount h, empty-true (held places k) (ap length (sym e) ∙ z))) (λ e. omega arith)
 
-    pub row-yielded : {after : List ℕ} {r : Answer} → (length bytes ≡ 0 → ⊥) → Yields (s .n) bytes out after r → AnswersRow s places k out after r
+    pub row-yielded : {later : List ℕ} {r : Answer} → (length bytes ≡ 0 → ⊥) → Yields (operatorsOf sheet) bytes out later r → Answers (panel sheet places) (fetchRow k out) r later
     unfolding fetchRowNumber yieldNumber
     row-yielded n y =
-        let due : yieldNumber (s .n) (held places k) (length out) ≡ rowDue = simp (lt-ltb k placeCount h, empty-false (held places k) (λ z. n (ap length e ∙ z))) in
-        answers-as rowDue (yieldNumber (s .n) bytes (length out)) rowHeld (rowOf (treeOf (class (s .n)) bytes)) out
-        (ap (λ b. yieldNumber (s .n) b (length out)) e ∙ due)
-        (ap (λ b. rowOf (treeOf (class (s .n)) b)) e) (y .numbered) (y .measured) (y .output)
+        let due : yieldNumber (operatorsOf sheet) (held places k) (length out) ≡ fetchRowNumber (panel sheet places) k (length out) =
+        simp (lt-ltb k placeCount h, empty-false (held places k) (λ z. n (ap length e ∙ z))) in
+        as-told (panel sheet places) (fetchRow k out) (yieldNumber (operatorsOf sheet) bytes (length out)) (rowOf (treeOf (class (operatorsOf sheet)) bytes))
+        (ap (λ b. yieldNumber (operatorsOf sheet) b (length out)) e ∙ due)
+        (ap (λ b. rowOf (treeOf (class (operatorsOf sheet)) b)) e) (y .numbered) (y .measured) (y .output)
 
 pub ruleset fetch-row-ways = (row-over, row-none, row-yielded, needs)
 
 -- ---- image
 module _ (places : List ℕ) (k : ℕ) (out : List ℕ) where
-  abbrev imageDue : Sheet → ℕ
-  imageDue s = imageNumber (panel s places) k (length out)
+  image-refused : (number : ℕ) → ((sheet : List ℕ) → number ≡ imageNumber (panel sheet places) k (length out)) → (number ≡ 0 → ⊥)
+      → AnswersFrom places (image k out) (record { number = number; length = 0 }) out
+  image-refused number e h = record { answers = λ sheet. refused (panel sheet places) (image k out) number (e sheet) h }
 
-  image-refused : (number : ℕ) → ((s : Sheet) → number ≡ imageDue s) → (number ≡ 0 → ⊥) → AnswersImage places k out out (record { number = number; length = 0 })
-  image-refused number e h = record { answers = λ s. answers-refused number (imageDue s) (imageOf (held places k)) out (e s) h }
-
-  pub image-over : 16 ≤ k → AnswersImage places k out out (record { number = 8; length = 0 })
+  pub image-over : placeCount ≤ k → AnswersFrom places (image k out) (record { number = 8; length = 0 }) out
   unfolding imageNumber
-  image-over h = image-refused 8 (λ s. simp (le-ltb k placeCount h)) (λ e. omega arith)
+  image-over h = image-refused 8 (λ sheet. simp (le-ltb k placeCount h)) (λ e. omega arith)
 
-  pub image-short : k < 16 → length out < 256 → AnswersImage places k out out (record { number = 10; length = 0 })
+  pub image-short : k < placeCount → length out < slotBytes → AnswersFrom places (image k out) (record { number = 10; length = 0 }) out
   unfolding imageNumber
-  image-short h l = image-refused 10 (λ s. simp (lt-ltb k placeCount h, lt-ltb (length out) slotBytes l)) (λ e. omega arith)
+  image-short h l = image-refused 10 (λ sheet. simp (lt-ltb k placeCount h, lt-ltb (length out) slotBytes l)) (λ e. omega arith)
 
-  pub image-done : {after : List ℕ} → k < 16 → 256 ≤ length out → after ≡ drawn (imageOf (held places k)) out
-      → AnswersImage places k out after (record { number = 0; length = 256 })
+  pub image-done : {later : List ℕ} → k < placeCount → slotBytes ≤ length out → later ≡ drawn (imageOf (held places k)) out
+      → AnswersFrom places (image k out) (record { number = 0; length = slotBytes }) later
   unfolding imageNumber drawn
-  image-done {after} h l a =
-      let due : (s : Sheet) → imageDue s ≡ 0 = λ s. simp (lt-ltb k placeCount h, le-ltb (length out) slotBytes l) in
-      let front : after ≡ imageOf (held places k) ++ drop (length (imageOf (held places k))) out = a ∙ rw (le-ltb (length out) slotBytes l) in
-      record { answers = λ s. answers-done (imageDue s) (imageOf (held places k)) out (due s) (sym (length-image (held places k) (held-length places k))) front }
+  image-done {later} h l a =
+      let front : later ≡ imageOf (held places k) ++ drop (length (imageOf (held places k))) out = a ∙ rw (le-ltb (length out) slotBytes l) in
+      record {
+        answers = λ sheet.
+            done (panel sheet places) (image k out) (simp (lt-ltb k placeCount h, le-ltb (length out) slotBytes l))
+            (sym (length-image (held places k) (held-length places k))) front;
+      }
 
 pub ruleset image-ways = (image-over, image-short, image-done, needs)

@@ -5,7 +5,7 @@ use mathlib.Core.List.{List}
 use borrow.Author.Tests.{ne-eqb}
 use Rattle.expression.specs.Refusal.{accepted}
 use Rattle.disambiguation.specs.SheetChecks.{ruleBytes}
-use Rattle.monitor.specs.Call.{Call, load, loadList, putRow, putRecord, drop, fetchRecord, fetchRow, image, build, repair, judge, yield, operand}
+use Rattle.monitor.specs.Call.{Call, load, loadList, putRow, putRecord, drop, ask}
 use Rattle.monitor.specs.Panel.{Panel, ifAccepted}
 use Rattle.monitor.specs.Steps.{loadNumber, putRowNumber, putRecordNumber, dropNumber, sheetAfter, placesAfterLoad, placesAfterRow, placesAfterRecord, placesAfterDrop, after, outcome}
 use Rattle.monitor.specs.Promises.{Demand1}
@@ -25,14 +25,7 @@ module _ (p : Panel) where
   panel-unchanged (putRow k row) h = rw (ne-eqb (putRowNumber p k row) accepted h)
   panel-unchanged (putRecord k bytes) h = rw (ne-eqb (putRecordNumber p k bytes) accepted h)
   panel-unchanged (drop k) h = rw (ne-eqb (dropNumber p k) accepted h)
-  panel-unchanged (fetchRecord k out) h = refl
-  panel-unchanged (fetchRow k out) h = refl
-  panel-unchanged (image k out) h = refl
-  panel-unchanged (build row out) h = refl
-  panel-unchanged (repair bytes out) h = refl
-  panel-unchanged (judge bytes) h = refl
-  panel-unchanged (yield bytes out) h = refl
-  panel-unchanged (operand right bytes) h = refl
+  panel-unchanged (ask q) h = refl
 
   pub demand-1 : (c : Call) → Demand1 p c
   demand-1 c = record { unchanged = λ h. (panel-unchanged c h, rw (ne-eqb (outcome p c .number) accepted h)) }

@@ -9,9 +9,10 @@ use mathlib.Core.List.{List, [], _∷_, _++_, append-nil}
 use lib.ListN.{length, drop-of-length-le}
 use lib.ListN as lists
 use Rattle.expression.specs.Refusal.{accepted}
-use Rattle.expression.specs.Token.{class}
+use Rattle.expression.specs.Token.{Operators, operators, class}
 use Rattle.expression.specs.Tree.{Tree, recordOf, Over}
 use Rattle.expression.specs.Tree as tree
+use Rattle.expression.specs.Decode.{treeOf}
 use Rattle.expression.specs.Operand.{rowOf}
 use Rattle.expression.specs.Checks.{recordChecks, recordNumber, repairNumber}
 use Rattle.expression.proofs.Classes.{brackets}
@@ -23,23 +24,24 @@ use Rattle.disambiguation.specs.Verdict.{safe, total, level, verdict}
 use Rattle.disambiguation.specs.SheetChecks.{rulesOf, ruleBytes, InOrder, ListInOrder, sheetNumber}
 use Rattle.disambiguation.proofs.RuleBytes.{rules-back, list-order}
 use Rattle.disambiguation.proofs.SheetNumbers.{sheetNumber-verdict, sheet-dead-exactly-if, sheet-double-exactly-if, sheet-accepted-exactly-if}
-use Rattle.sheet.specs.Relation.{closes}
+use Rattle.sheet.specs.Relation.{closesIn}
 use Rattle.parser.specs.Build.{built}
 use Rattle.parser.proofs.InForceBuilds.{built-equal-exactly-if, built-keeps-length}
 use Rattle.places.specs.Store.{held}
-use Rattle.monitor.specs.Call.{Call, load, loadList, repair}
+use Rattle.monitor.specs.Call.{Call, load, loadList, ask, repair}
 use Rattle.monitor.specs.Panel.{inUseCheck, sheetChecks, rebuilt}
-use Rattle.monitor.specs.Steps.{operators, loadNumber}
+use Rattle.monitor.specs.Steps.{loadNumber}
+use Rattle.monitor.specs.Steps as steps
 use Rattle.monitor.specs.Run.{panelAfter, answer, bookAfter, RepairsTo}
 use Rattle.monitor.specs.Promises.{Within, ForItsRules, Demand3}
 use Rattle.monitor.proofs.Replies.{answers}
 use Rattle.monitor.proofs.Keeping.{sheet-numbered}
 use Rattle.monitor.proofs.Histories.{stands}
-use Rattle.monitor.proofs.Placed.{n, rules, sheet-in-force, exactly-one, within-accepted}
+use Rattle.monitor.proofs.Placed.{ops, rules, sheet-in-force, exactly-one, within-accepted}
 use Rattle.monitor.proofs.Filling.{holds-last-put, filled-exactly-if-put}
 
 -- a verdict is 4, 5 or 0
-verdict-values : (m : ℕ) (given : List Rule) → ForItsRules (verdict m given) ⊎ (verdict m given ≡ accepted)
+verdict-values : (m : Operators) (given : List Rule) → ForItsRules (verdict m given) ⊎ (verdict m given ≡ accepted)
 unfolding verdict
 verdict-values m given = go (safe m (L given) (R given)) (total m (L given) (R given) && level m (R given))
   where
@@ -53,12 +55,12 @@ module _ (cs : List Call) where
   module _ (m : ℕ) (bytes : List ℕ) (order : InOrder m bytes) where
     load-number : (sheetNumber m bytes ≡ accepted → ⊥) → answer cs (load m bytes) .number ≡ sheetNumber m bytes
     unfolding loadNumber sheetNumber
-    load-number h = first-refused (sheetChecks m bytes) (inUseCheck m (held (panelAfter cs .places)) ∷ []) h
+    load-number h = first-refused (sheetChecks m bytes) (inUseCheck (operators m) (held (panelAfter cs .places)) ∷ []) h
 
     -- with 0 for the sheet, the load's number is 0 or 11
     load-accepted : sheetNumber m bytes ≡ accepted → ForItsRules (answer cs (load m bytes) .number) → ⊥
     unfolding loadNumber sheetNumber
-    load-accepted e f = go ((inUseCheck m (held (panelAfter cs .places))) .0) (first-append (sheetChecks m bytes) (inUseCheck m (held (panelAfter cs .places)) ∷ []) (passed-first (sheetChecks m bytes) (sheet-numbered m bytes) e)) f
+    load-accepted e f = go ((inUseCheck (operators m) (held (panelAfter cs .places))) .0) (first-append (sheetChecks m bytes) (inUseCheck (operators m) (held (panelAfter cs .places)) ∷ []) (passed-first (sheetChecks m bytes) (sheet-numbered m bytes) e)) f
       where
         go : (x : Bool) → answer cs (load m bytes) .number ≡ cond x 11 0 → ForItsRules (answer cs (load m bytes) .number) → ⊥
         go true q (inl g) = omega arith
@@ -66,10 +68,10 @@ module _ (cs : List Call) where
         go false q (inl g) = omega arith
         go false q (inr g) = omega arith
 
-    refused-exactly-if : ForItsRules (answer cs (load m bytes) .number) ↔ (SomeRowHasNone m (rulesOf bytes) ⊎ SomeRowHasTwo m (rulesOf bytes))
+    refused-exactly-if : ForItsRules (answer cs (load m bytes) .number) ↔ (SomeRowHasNone (operators m) (rulesOf bytes) ⊎ SomeRowHasTwo (operators m) (rulesOf bytes))
     refused-exactly-if = (λ f. to f (ℕ-discrete (sheetNumber m bytes) 0), from)
       where
-        to : ForItsRules (answer cs (load m bytes) .number) → Dec (sheetNumber m bytes ≡ 0) → SomeRowHasNone m (rulesOf bytes) ⊎ SomeRowHasTwo m (rulesOf bytes)
+        to : ForItsRules (answer cs (load m bytes) .number) → Dec (sheetNumber m bytes ≡ 0) → SomeRowHasNone (operators m) (rulesOf bytes) ⊎ SomeRowHasTwo (operators m) (rulesOf bytes)
         to f (yes e) = absurd (load-accepted e f)
         to (inl f) (no h) = inl (sheet-dead-exactly-if m bytes order .0 (sym (load-number h) ∙ f))
         to (inr f) (no h) = inr (sheet-double-exactly-if m bytes order .0 (sym (load-number h) ∙ f) .1)
@@ -79,64 +81,64 @@ module _ (cs : List Call) where
         as-load (inr e) = inr (load-number (λ z. omega arith) ∙ e)
 
         not-accepted : (sheetNumber m bytes ≡ accepted → ⊥) → ForItsRules (sheetNumber m bytes)
-        not-accepted h = go (verdict-values m (rulesOf bytes))
+        not-accepted h = go (verdict-values (operators m) (rulesOf bytes))
           where
-            go : ForItsRules (verdict m (rulesOf bytes)) ⊎ (verdict m (rulesOf bytes) ≡ accepted) → ForItsRules (sheetNumber m bytes)
+            go : ForItsRules (verdict (operators m) (rulesOf bytes)) ⊎ (verdict (operators m) (rulesOf bytes) ≡ accepted) → ForItsRules (sheetNumber m bytes)
             go (inl f) = rw (sheetNumber-verdict m bytes order) f
             go (inr e) = absurd (h (sheetNumber-verdict m bytes order ∙ e))
 
-        from : SomeRowHasNone m (rulesOf bytes) ⊎ SomeRowHasTwo m (rulesOf bytes) → ForItsRules (answer cs (load m bytes) .number)
+        from : SomeRowHasNone (operators m) (rulesOf bytes) ⊎ SomeRowHasTwo (operators m) (rulesOf bytes) → ForItsRules (answer cs (load m bytes) .number)
         from (inl f) = as-load (inl (sheet-dead-exactly-if m bytes order .1 f))
         from (inr (row, r, (t, u, ht, hu, different))) =
             as-load (not-accepted (λ e. let (v, hv, only) = sheet-accepted-exactly-if m bytes order .0 e row r in different (only t ht ∙ sym (only u hu))))
 
   -- the same with a list of rules
   refused-list-exactly-if : (m : ℕ) (given : List Rule) → ListInOrder m given
-      → ForItsRules (answer cs (loadList m given) .number) ↔ (SomeRowHasNone m given ⊎ SomeRowHasTwo m given)
+      → ForItsRules (answer cs (loadList m given) .number) ↔ (SomeRowHasNone (operators m) given ⊎ SomeRowHasTwo (operators m) given)
   refused-list-exactly-if m given order =
-      subst (λ (r : List Rule). ForItsRules (answer cs (load m (ruleBytes given)) .number) ↔ (SomeRowHasNone m r ⊎ SomeRowHasTwo m r)) (rules-back given)
+      subst (λ (r : List Rule). ForItsRules (answer cs (load m (ruleBytes given)) .number) ↔ (SomeRowHasNone (operators m) r ⊎ SomeRowHasTwo (operators m) r)) (rules-back given)
       (refused-exactly-if m (ruleBytes given) (list-order m given .0 order))
 
   -- ---- repair
-  module _ (t : Tree) (over : Over (class (n cs)) t) (fits : recordNumber (n cs) (recordOf t) ≡ accepted) where
-    same-operators : operators (panelAfter cs) ≡ n cs
+  module _ (t : Tree) (over : Over (class (ops cs)) t) (fits : recordNumber (ops cs) (recordOf t) ≡ accepted) where
+    same-operators : steps.ops (panelAfter cs) ≡ ops cs
     same-operators = sheet-in-force cs .operators
 
-    repaired : rebuilt (operators (panelAfter cs)) (closes (panelAfter cs .sheet)) (recordOf t) ≡ built (closes (panelAfter cs .sheet)) (tree.yield t)
+    repaired : rebuilt (panelAfter cs .sheet) (recordOf t) ≡ built (closesIn (panelAfter cs .sheet)) (tree.yield t)
     repaired =
-        ap (λ m. rebuilt m (closes (panelAfter cs .sheet)) (recordOf t)) same-operators
-        ∙ ap (λ x. built (closes (panelAfter cs .sheet)) (rowOf x)) (treeOf-record (class (n cs)) (brackets (n cs)) t over)
+        ap (λ o. built (closesIn (panelAfter cs .sheet)) (rowOf (treeOf (class o) (recordOf t)))) same-operators
+        ∙ ap (λ x. built (closesIn (panelAfter cs .sheet)) (rowOf x)) (treeOf-record (class (ops cs)) (brackets (ops cs)) t over)
 
-    keeps-length : length (built (closes (panelAfter cs .sheet)) (tree.yield t)) ≡ length (recordOf t)
-    keeps-length = built-keeps-length (panelAfter cs .sheet) (n cs) (rules cs) (sheet-in-force cs) t over
+    keeps-length : length (built (closesIn (panelAfter cs .sheet)) (tree.yield t)) ≡ length (recordOf t)
+    keeps-length = built-keeps-length (panelAfter cs .sheet) (ops cs) (rules cs) (sheet-in-force cs) t over
 
-    repairs-to : RepairsTo cs t (built (closes (panelAfter cs .sheet)) (tree.yield t))
+    repairs-to : RepairsTo cs t (built (closesIn (panelAfter cs .sheet)) (tree.yield t))
     unfolding repairNumber recordNumber
     repairs-to out room =
-        let z : answer cs (repair (recordOf t) out) .number ≡ accepted =
+        let z : answer cs (ask (repair (recordOf t) out)) .number ≡ accepted =
         ap (λ m. repairNumber m (recordOf t) (length out)) same-operators
-        ∙ first-roomy (recordChecks (n cs) (recordOf t)) (length (recordOf t)) (length out) fits (record-numbered (n cs) (recordOf t)) (omega arith) in
-        let past : length out ≤ length (built (closes (panelAfter cs .sheet)) (tree.yield t)) = omega (arith, keeps-length) in (
+        ∙ first-roomy (recordChecks (ops cs) (recordOf t)) (length (recordOf t)) (length out) fits (record-numbered (ops cs) (recordOf t)) (omega arith) in
+        let past : length out ≤ length (built (closesIn (panelAfter cs .sheet)) (tree.yield t)) = omega (arith, keeps-length) in (
           z,
-          rw z (ap (λ x. x ++ lists.drop (length x) out) repaired) ∙ ap (λ x. built (closes (panelAfter cs .sheet)) (tree.yield t) ++ x) (drop-of-length-le out past)
-              ∙ append-nil (built (closes (panelAfter cs .sheet)) (tree.yield t)),
+          rw z (ap (λ x. x ++ lists.drop (length x) out) repaired) ∙ ap (λ x. built (closesIn (panelAfter cs .sheet)) (tree.yield t) ++ x) (drop-of-length-le out past)
+              ∙ append-nil (built (closesIn (panelAfter cs .sheet)) (tree.yield t)),
         )
 
-    repairs-only-to : (bytes : List ℕ) → RepairsTo cs t bytes → bytes ≡ built (closes (panelAfter cs .sheet)) (tree.yield t)
+    repairs-only-to : (bytes : List ℕ) → RepairsTo cs t bytes → bytes ≡ built (closesIn (panelAfter cs .sheet)) (tree.yield t)
     repairs-only-to bytes f = sym (f (recordOf t) refl .1) ∙ repairs-to (recordOf t) refl .1
 
-  same-bytes-exactly-if : (t u : Tree) → Over (class (n cs)) t → Over (class (n cs)) u → Within t → Within u
+  same-bytes-exactly-if : (t u : Tree) → Over (class (ops cs)) t → Over (class (ops cs)) u → Within t → Within u
       → ((bytes : List ℕ) × RepairsTo cs t bytes × RepairsTo cs u bytes) ↔ (tree.yield t ≡ tree.yield u)
   same-bytes-exactly-if t u ot ou wt wu = (
     λ f.
         let (bytes, p, q) = f in
         equal .0 (sym (repairs-only-to t ot (within-accepted cs t ot wt) bytes p) ∙ repairs-only-to u ou (within-accepted cs u ou wu) bytes q),
     λ e.
-        (built (closes (panelAfter cs .sheet)) (tree.yield t), repairs-to t ot (within-accepted cs t ot wt), rw (equal .1 e) (repairs-to u ou (within-accepted cs u ou wu))),
+        (built (closesIn (panelAfter cs .sheet)) (tree.yield t), repairs-to t ot (within-accepted cs t ot wt), rw (equal .1 e) (repairs-to u ou (within-accepted cs u ou wu))),
   )
     where
-      equal : (built (closes (panelAfter cs .sheet)) (tree.yield t) ≡ built (closes (panelAfter cs .sheet)) (tree.yield u)) ↔ (tree.yield t ≡ tree.yield u)
-      equal = built-equal-exactly-if (panelAfter cs .sheet) (n cs) (rules cs) (sheet-in-force cs) t u ot ou
+      equal : (built (closesIn (panelAfter cs .sheet)) (tree.yield t) ≡ built (closesIn (panelAfter cs .sheet)) (tree.yield u)) ↔ (tree.yield t ≡ tree.yield u)
+      equal = built-equal-exactly-if (panelAfter cs .sheet) (ops cs) (rules cs) (sheet-in-force cs) t u ot ou
 
 pub demand-3 : (cs : List Call) → Demand3 cs
 demand-3 cs =

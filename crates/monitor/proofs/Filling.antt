@@ -18,9 +18,9 @@ use Rattle.expression.specs.Operand.{rowOf}
 use Rattle.expression.specs.Checks.{shortCheck, recordBytes, rowChecks, recordChecks}
 use Rattle.disambiguation.specs.Conflicts.{ConflictFreeTree}
 use Rattle.places.specs.Store.{placeCount}
-use Rattle.monitor.specs.Call.{Call, load, loadList, putRow, putRecord, drop, fetchRecord, fetchRow, image, build, repair, judge, yield, operand}
+use Rattle.monitor.specs.Call.{Call, load, loadList, putRow, putRecord, drop, ask, fetchRecord}
 use Rattle.monitor.specs.Panel.{placeCheck, isEmpty, emptyCheck}
-use Rattle.monitor.specs.Steps.{operators, putRowNumber, putRecordNumber}
+use Rattle.monitor.specs.Steps.{ops, putRowNumber, putRecordNumber}
 use Rattle.monitor.specs.Book.{rowIn, slotRow}
 use Rattle.monitor.specs.Run.{panelAfter, bookAfter, isAccepted, inForce, lastPut, HoldsTree, Filled}
 use Rattle.monitor.proofs.Stands.{same-number}
@@ -34,11 +34,11 @@ over k checks h = rw (le-ltb k placeCount h)
 
 row-refused : (k : ℕ) (row : List ℕ) (cs : List Call) → placeCount ≤ k → isAccepted cs (putRow k row) ≡ false
 unfolding putRowNumber
-row-refused k row cs h = over k (rowChecks (operators (panelAfter cs)) row) h
+row-refused k row cs h = over k (rowChecks (ops (panelAfter cs)) row) h
 
 record-refused : (k : ℕ) (bytes : List ℕ) (cs : List Call) → placeCount ≤ k → isAccepted cs (putRecord k bytes) ≡ false
 unfolding putRecordNumber
-record-refused k bytes cs h = over k (recordChecks (operators (panelAfter cs)) bytes) h
+record-refused k bytes cs h = over k (recordChecks (ops (panelAfter cs)) bytes) h
 
 -- an entry at another place, or one that is refused, leaves the slot blank
 blank-still : (k j : ℕ) (x : Bool) (slot old : Option (List ℕ)) → (k ≡ j → x ≡ false) → old ≡ none → cond (x && eqb k j) slot old ≡ none
@@ -66,16 +66,9 @@ beyond k h [] = refl
 beyond k h (load n rules ∷ cs) = beyond k h cs
 beyond k h (loadList n rules ∷ cs) = beyond k h cs
 beyond k h (putRow j row ∷ cs) = blank-still k j (isAccepted cs (putRow j row)) (some row) (lastPut k cs) (λ e. row-refused j row cs (omega arith)) (beyond k h cs)
-beyond k h (putRecord j bytes ∷ cs) = blank-still k j (isAccepted cs (putRecord j bytes)) (some (rowOf (treeOf (class (inForce cs .n)) bytes))) (lastPut k cs) (λ e. record-refused j bytes cs (omega arith)) (beyond k h cs)
+beyond k h (putRecord j bytes ∷ cs) = blank-still k j (isAccepted cs (putRecord j bytes)) (some (rowOf (treeOf (class (inForce cs .operators)) bytes))) (lastPut k cs) (λ e. record-refused j bytes cs (omega arith)) (beyond k h cs)
 beyond k h (drop j ∷ cs) = either-none (isAccepted cs (drop j) && eqb k j) (lastPut k cs) (beyond k h cs)
-beyond k h (fetchRecord j out ∷ cs) = beyond k h cs
-beyond k h (fetchRow j out ∷ cs) = beyond k h cs
-beyond k h (image j out ∷ cs) = beyond k h cs
-beyond k h (build row out ∷ cs) = beyond k h cs
-beyond k h (repair bytes out ∷ cs) = beyond k h cs
-beyond k h (judge bytes ∷ cs) = beyond k h cs
-beyond k h (yield bytes out ∷ cs) = beyond k h cs
-beyond k h (operand right bytes ∷ cs) = beyond k h cs
+beyond k h (ask q ∷ cs) = beyond k h cs
 
 pub put-below : (k : ℕ) (cs : List Call) (row : List ℕ) → lastPut k cs ≡ some row → k < placeCount
 put-below k cs row q = go (decLt k placeCount)
@@ -86,7 +79,7 @@ put-below k cs row q = go (decLt k placeCount)
 
 module _ (cs : List Call) (k : ℕ) where
   -- It then holds the conflict-free tree of that row under the sheet in force.
-  pub holds-last-put : (row : List ℕ) → lastPut k cs ≡ some row → (t : Tree) × ConflictFreeTree (inForce cs .n) (inForce cs .rules) row t × HoldsTree cs k t
+  pub holds-last-put : (row : List ℕ) → lastPut k cs ≡ some row → (t : Tree) × ConflictFreeTree (inForce cs .operators) (inForce cs .rules) row t × HoldsTree cs k t
   holds-last-put row q =
       let h = put-below k cs row q in
       let (t, g) = slot-holds cs k h row q in
@@ -101,7 +94,7 @@ module _ (cs : List Call) (k : ℕ) where
     λ f.
         let (t, h) = f in
         let z = h .fetches-record (recordOf t) (omega arith) .0 in
-        let (l, e) = place-passed k (emptyCheck (slotRow (bookAfter cs) k) ∷ shortCheck (recordBytes (slotRow (bookAfter cs) k)) (length (recordOf t)) ∷ []) (sym (same-number (panelAfter cs) (bookAfter cs) (stands cs) (fetchRecord k (recordOf t))) ∙ z) in
+        let (l, e) = place-passed k (emptyCheck (slotRow (bookAfter cs) k) ∷ shortCheck (recordBytes (slotRow (bookAfter cs) k)) (length (recordOf t)) ∷ []) (sym (same-number (panelAfter cs) (bookAfter cs) (stands cs) (ask (fetchRecord k (recordOf t)))) ∙ z) in
         let (row, q) = not-blank (bookAfter cs .slots k) (empty-passed (slotRow (bookAfter cs) k) (shortCheck (recordBytes (slotRow (bookAfter cs) k)) (length (recordOf t)) ∷ []) e) in
         (row, sym (book-slot k cs) ∙ q),
     λ f. let (row, q) = f in let (t, c, h) = holds-last-put row q in (t, h),

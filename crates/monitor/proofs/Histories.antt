@@ -6,11 +6,11 @@ use mathlib.Core.Option.{Option, none, some}
 use mathlib.Core.List.{List, [], _∷_}
 use lib.Dec.{eqb}
 use Rattle.expression.specs.Refusal.{accepted}
-use Rattle.expression.specs.Token.{class}
+use Rattle.expression.specs.Token.{operators, class}
 use Rattle.expression.specs.Decode.{treeOf}
 use Rattle.expression.specs.Operand.{rowOf}
 use Rattle.disambiguation.specs.SheetChecks.{rulesOf}
-use Rattle.monitor.specs.Call.{Call, load, loadList, putRow, putRecord, drop, fetchRecord, fetchRow, image, build, repair, judge, yield, operand}
+use Rattle.monitor.specs.Call.{Call, load, loadList, putRow, putRecord, drop, ask}
 use Rattle.monitor.specs.Book.{Book, entered, next}
 use Rattle.monitor.specs.Run.{panelAfter, bookAfter, isAccepted, Rules, rulesIn, inForce, lastPut}
 use Rattle.monitor.proofs.Stands.{Stands, fresh-stands, same-number}
@@ -40,29 +40,22 @@ unchanged f c cs e = ap f (after-call c cs) ∙ go (isAccepted cs c)
     go false = refl
 
 abbrev rulesOn : Book → Rules
-rulesOn b = rulesIn (b .n) (b .rules)
+rulesOn b = rulesIn (b .operators) (b .rules)
 
 -- The book's sheet is that of the last accepted load, or the fresh panel's.
-pub book-in-force : (cs : List Call) → rulesIn (bookAfter cs .n) (bookAfter cs .rules) ≡ inForce cs
+pub book-in-force : (cs : List Call) → rulesIn (bookAfter cs .operators) (bookAfter cs .rules) ≡ inForce cs
 unfolding bookAfter inForce
 book-in-force [] = refl
 book-in-force (load n rules ∷ cs) =
     ap rulesOn (after-call (load n rules) cs) ∙ either rulesOn (isAccepted cs (load n rules)) (entered (bookAfter cs) (load n rules)) (bookAfter cs)
-    ∙ ap (cond (isAccepted cs (load n rules)) (rulesIn n (rulesOf rules))) (book-in-force cs)
+    ∙ ap (cond (isAccepted cs (load n rules)) (rulesIn (operators n) (rulesOf rules))) (book-in-force cs)
 book-in-force (loadList n rules ∷ cs) =
     ap rulesOn (after-call (loadList n rules) cs) ∙ either rulesOn (isAccepted cs (loadList n rules)) (entered (bookAfter cs) (loadList n rules)) (bookAfter cs)
-    ∙ ap (cond (isAccepted cs (loadList n rules)) (rulesIn n rules)) (book-in-force cs)
+    ∙ ap (cond (isAccepted cs (loadList n rules)) (rulesIn (operators n) rules)) (book-in-force cs)
 book-in-force (putRow k row ∷ cs) = unchanged rulesOn (putRow k row) cs refl ∙ book-in-force cs
 book-in-force (putRecord k bytes ∷ cs) = unchanged rulesOn (putRecord k bytes) cs refl ∙ book-in-force cs
 book-in-force (drop k ∷ cs) = unchanged rulesOn (drop k) cs refl ∙ book-in-force cs
-book-in-force (fetchRecord k out ∷ cs) = unchanged rulesOn (fetchRecord k out) cs refl ∙ book-in-force cs
-book-in-force (fetchRow k out ∷ cs) = unchanged rulesOn (fetchRow k out) cs refl ∙ book-in-force cs
-book-in-force (image k out ∷ cs) = unchanged rulesOn (image k out) cs refl ∙ book-in-force cs
-book-in-force (build row out ∷ cs) = unchanged rulesOn (build row out) cs refl ∙ book-in-force cs
-book-in-force (repair bytes out ∷ cs) = unchanged rulesOn (repair bytes out) cs refl ∙ book-in-force cs
-book-in-force (judge bytes ∷ cs) = unchanged rulesOn (judge bytes) cs refl ∙ book-in-force cs
-book-in-force (yield bytes out ∷ cs) = unchanged rulesOn (yield bytes out) cs refl ∙ book-in-force cs
-book-in-force (operand right bytes ∷ cs) = unchanged rulesOn (operand right bytes) cs refl ∙ book-in-force cs
+book-in-force (ask q ∷ cs) = unchanged rulesOn (ask q) cs refl ∙ book-in-force cs
 
 -- a slot after an entry at a place
 slot-entered : (x y : Bool) (slot old : Option (List ℕ)) → cond x (cond y slot old) old ≡ cond (x && y) slot old
@@ -84,15 +77,8 @@ book-slot k (loadList n rules ∷ cs) = unchanged (λ b. b .slots k) (loadList n
 book-slot k (putRow j row ∷ cs) =
     slot-after k j (putRow j row) cs (some row) refl ∙ ap (cond (isAccepted cs (putRow j row) && eqb k j) (some row)) (book-slot k cs)
 book-slot k (putRecord j bytes ∷ cs) =
-    slot-after k j (putRecord j bytes) cs (some (rowOf (treeOf (class (bookAfter cs .n)) bytes))) refl
-    ∙ ap (λ n. cond (isAccepted cs (putRecord j bytes) && eqb k j) (some (rowOf (treeOf (class n) bytes))) (bookAfter cs .slots k)) (ap (λ (r : Rules). r .n) (book-in-force cs))
-    ∙ ap (cond (isAccepted cs (putRecord j bytes) && eqb k j) (some (rowOf (treeOf (class (inForce cs .n)) bytes)))) (book-slot k cs)
+    slot-after k j (putRecord j bytes) cs (some (rowOf (treeOf (class (bookAfter cs .operators)) bytes))) refl
+    ∙ ap (λ o. cond (isAccepted cs (putRecord j bytes) && eqb k j) (some (rowOf (treeOf (class o) bytes))) (bookAfter cs .slots k)) (ap (λ (r : Rules). r .operators) (book-in-force cs))
+    ∙ ap (cond (isAccepted cs (putRecord j bytes) && eqb k j) (some (rowOf (treeOf (class (inForce cs .operators)) bytes)))) (book-slot k cs)
 book-slot k (drop j ∷ cs) = slot-after k j (drop j) cs none refl ∙ ap (cond (isAccepted cs (drop j) && eqb k j) none) (book-slot k cs)
-book-slot k (fetchRecord j out ∷ cs) = unchanged (λ b. b .slots k) (fetchRecord j out) cs refl ∙ book-slot k cs
-book-slot k (fetchRow j out ∷ cs) = unchanged (λ b. b .slots k) (fetchRow j out) cs refl ∙ book-slot k cs
-book-slot k (image j out ∷ cs) = unchanged (λ b. b .slots k) (image j out) cs refl ∙ book-slot k cs
-book-slot k (build row out ∷ cs) = unchanged (λ b. b .slots k) (build row out) cs refl ∙ book-slot k cs
-book-slot k (repair bytes out ∷ cs) = unchanged (λ b. b .slots k) (repair bytes out) cs refl ∙ book-slot k cs
-book-slot k (judge bytes ∷ cs) = unchanged (λ b. b .slots k) (judge bytes) cs refl ∙ book-slot k cs
-book-slot k (yield bytes out ∷ cs) = unchanged (λ b. b .slots k) (yield bytes out) cs refl ∙ book-slot k cs
-book-slot k (operand right bytes ∷ cs) = unchanged (λ b. b .slots k) (operand right bytes) cs refl ∙ book-slot k cs
+book-slot k (ask q ∷ cs) = unchanged (λ b. b .slots k) (ask q) cs refl ∙ book-slot k cs

@@ -9,7 +9,7 @@ use lib.ListN.{length}
 use lib.ListN as lists
 use borrow.Author.Tests.{lt-ltb, le-ltb}
 use Rattle.expression.specs.Refusal.{first, accepted}
-use Rattle.expression.specs.Token.{class}
+use Rattle.expression.specs.Token.{Operators, class}
 use Rattle.expression.specs.Tree.{Tree, recordOf, Over}
 use Rattle.expression.specs.Tree as tree
 use Rattle.expression.specs.Operand.{rowOf}
@@ -22,7 +22,7 @@ use Rattle.sheet.specs.InForce.{InForce}
 use Rattle.sheet.proofs.Laws.{every-row-has-one}
 use Rattle.places.specs.Store.{placeCount, slotBytes, held, imageOf}
 use Rattle.places.proofs.Images.{length-image}
-use Rattle.monitor.specs.Call.{Call, drop, fetchRecord, fetchRow, image, yield}
+use Rattle.monitor.specs.Call.{Call, ask, fetchRecord, fetchRow, image}
 use Rattle.monitor.specs.Panel.{placeCheck, isEmpty, emptyCheck}
 use Rattle.monitor.specs.Book.{rowIn, slotRow, bookNumber}
 use Rattle.monitor.specs.Run.{panelAfter, answer, bookAfter, Rules, inForce, lastPut, AnsweredBy, HoldsTree}
@@ -32,33 +32,33 @@ use Rattle.monitor.proofs.Stands.{same-number}
 use Rattle.monitor.proofs.Histories.{stands, book-in-force, book-slot}
 
 module _ (cs : List Call) where
-  abbrev pub n : ℕ
-  n = inForce cs .n
+  abbrev pub ops : Operators
+  ops = inForce cs .operators
 
   abbrev pub rules : List Rule
   rules = inForce cs .rules
 
-  pub same-n : bookAfter cs .n ≡ n
-  same-n = ap (λ (r : Rules). r .n) (book-in-force cs)
+  pub same-ops : bookAfter cs .operators ≡ ops
+  same-ops = ap (λ (r : Rules). r .operators) (book-in-force cs)
 
   pub same-rules : bookAfter cs .rules ≡ rules
   same-rules = ap (λ (r : Rules). r .rules) (book-in-force cs)
 
   -- The panel's sheet is that of the last accepted load.
-  pub sheet-in-force : InForce (panelAfter cs .sheet) n rules
-  sheet-in-force = rw (← same-n, ← same-rules) (stands cs .in-force)
+  pub sheet-in-force : InForce (panelAfter cs .sheet) ops rules
+  sheet-in-force = rw (← same-ops, ← same-rules) (stands cs .in-force)
 
-  pub exactly-one : EveryRowHasExactlyOne n rules
-  exactly-one = every-row-has-one (panelAfter cs .sheet) n rules sheet-in-force
+  pub exactly-one : EveryRowHasExactlyOne ops rules
+  exactly-one = every-row-has-one (panelAfter cs .sheet) ops rules sheet-in-force
 
   -- a tree within the lengths has a record that is accepted
-  pub within-accepted : (t : Tree) → Over (class n) t → Within t → recordNumber n (recordOf t) ≡ accepted
-  within-accepted t over w = record-accepted n (recordOf t) .1 (t, record { over = over; recorded = refl; bytes-fit = w .0; tokens-fit = w .1 })
+  pub within-accepted : (t : Tree) → Over (class ops) t → Within t → recordNumber ops (recordOf t) ≡ accepted
+  within-accepted t over w = record-accepted ops (recordOf t) .1 (t, record { over = over; recorded = refl; bytes-fit = w .0; tokens-fit = w .1 })
 
   -- ---- a place with an accepted put
-  pub slot-holds : (k : ℕ) → k < placeCount → (row : List ℕ) → lastPut k cs ≡ some row → (t : Tree) × HeldTree n rules row (held (panelAfter cs .places) k) t
+  pub slot-holds : (k : ℕ) → k < placeCount → (row : List ℕ) → lastPut k cs ≡ some row → (t : Tree) × HeldTree ops rules row (held (panelAfter cs .places) k) t
   slot-holds k h row q =
-      rw (← same-n, ← same-rules) (subst (λ slot. Holds (bookAfter cs .n) (bookAfter cs .rules) slot (held (panelAfter cs .places) k)) (book-slot k cs ∙ q) (stands cs .holds k h))
+      rw (← same-ops, ← same-rules) (subst (λ slot. Holds (bookAfter cs .operators) (bookAfter cs .rules) slot (held (panelAfter cs .places) k)) (book-slot k cs ∙ q) (stands cs .holds k h))
 
   -- a list whose place is below 16 and whose slot is not blank
   fetch-number : (k : ℕ) (row : List ℕ) (wanted room : ℕ) → k < placeCount → isEmpty row ≡ false → wanted ≤ room
@@ -68,34 +68,34 @@ module _ (cs : List Call) where
   image-number : (k room : ℕ) → k < placeCount → slotBytes ≤ room → first (placeCheck k ∷ shortCheck slotBytes room ∷ []) ≡ accepted
   image-number k room h l = rw (lt-ltb k placeCount h, le-ltb room slotBytes l)
 
-  module _ (k : ℕ) (h : k < placeCount) (row : List ℕ) (q : lastPut k cs ≡ some row) (t : Tree) (g : HeldTree n rules row (held (panelAfter cs .places) k) t) where
+  module _ (k : ℕ) (h : k < placeCount) (row : List ℕ) (q : lastPut k cs ≡ some row) (t : Tree) (g : HeldTree ops rules row (held (panelAfter cs .places) k) t) where
     row-is : slotRow (bookAfter cs) k ≡ row
     row-is = ap rowIn (book-slot k cs ∙ q)
 
     number-as : (c : Call) → bookNumber (bookAfter cs) c ≡ accepted → answer cs c .number ≡ accepted
     number-as c e = same-number (panelAfter cs) (bookAfter cs) (stands cs) c ∙ e
 
-    holds-record : (out : List ℕ) → length (recordOf t) ≤ length out → AnsweredBy cs (fetchRecord k out) out (recordOf t)
+    holds-record : (out : List ℕ) → length (recordOf t) ≤ length out → AnsweredBy cs (ask (fetchRecord k out)) out (recordOf t)
     holds-record out l =
-        let z = number-as (fetchRecord k out)
+        let z = number-as (ask (fetchRecord k out))
         (fetch-number k (slotRow (bookAfter cs) k) (recordBytes (slotRow (bookAfter cs) k)) (length out) h (ap isEmpty row-is ∙ row-not-empty g)
         (omega (arith, ap recordBytes row-is, bytes-long g, ap length (g .recorded)))) in
         (z, rw z (ap (λ x. x ++ lists.drop (length x) out) (g .recorded)))
 
-    holds-row : (out : List ℕ) → length (tree.yield t) ≤ length out → AnsweredBy cs (fetchRow k out) out (tree.yield t)
+    holds-row : (out : List ℕ) → length (tree.yield t) ≤ length out → AnsweredBy cs (ask (fetchRow k out)) out (tree.yield t)
     holds-row out l =
-        let z = number-as (fetchRow k out)
+        let z = number-as (ask (fetchRow k out))
         (fetch-number k (slotRow (bookAfter cs) k) (length (slotRow (bookAfter cs) k)) (length out) h (ap isEmpty row-is ∙ row-not-empty g)
         (omega (arith, ap length row-is, ap length (g .tree .yields)))) in (
           z,
           rw z (ap (λ x. x ++ lists.drop (length x) out)
-              (ap (λ m. rowOf (treeOf (class m) (held (panelAfter cs .places) k))) (sheet-in-force .operators) ∙ row-back g ∙ sym (g .tree .yields))),
+              (ap (λ o. rowOf (treeOf (class o) (held (panelAfter cs .places) k))) (sheet-in-force .operators) ∙ row-back g ∙ sym (g .tree .yields))),
         )
 
-    holds-image : (out : List ℕ) → length (imageOf (recordOf t)) ≤ length out → AnsweredBy cs (image k out) out (imageOf (recordOf t))
+    holds-image : (out : List ℕ) → length (imageOf (recordOf t)) ≤ length out → AnsweredBy cs (ask (image k out)) out (imageOf (recordOf t))
     holds-image out l =
         let size : length (imageOf (recordOf t)) ≡ slotBytes = length-image (recordOf t) (omega (arith, bytes-fit g, ap length (g .recorded))) in
-        let z = number-as (image k out) (image-number k (length out) h (omega (arith, size))) in
+        let z = number-as (ask (image k out)) (image-number k (length out) h (omega (arith, size))) in
         (z, rw z (ap (λ x. imageOf x ++ lists.drop (length (imageOf x)) out) (g .recorded)))
 
     pub holds-tree : HoldsTree cs k t

@@ -2,49 +2,49 @@
 use Prim.Native.Nat.{ℕ, zero, suc, _≤_, _<_}
 use native.Mathlib.Omega.{arith}
 use native.Mathlib.Decide.{ℕ-discrete}
-use mathlib.Core.Path.{_≡_, refl, ap, sym, _∙_}
+use mathlib.Core.Path.{_≡_, refl, ap₂, sym, _∙_}
 use mathlib.Core.Bool.{false}
 use mathlib.Core.Option.{Option, none, some}
 use mathlib.Core.List.{List, []}
 use lib.Dec.{eqb}
 use lib.ListN.{length}
 use Rattle.expression.specs.Refusal.{accepted}
+use Rattle.expression.specs.Token.{Operators}
 use Rattle.expression.specs.Decode.{treeOf}
 use Rattle.expression.specs.Checks.{recordNumber}
 use Rattle.disambiguation.specs.Rules.{Rule}
-use Rattle.sheet.specs.Relation.{closes}
+use Rattle.sheet.specs.Layout.{operatorsOf}
 use Rattle.sheet.specs.InForce.{InForce}
-use Rattle.sheet.specs.declared.Sheet.{Sheet}
 use Rattle.places.specs.Store.{placeCount, storeBytes, held, stored}
 use Rattle.places.proofs.Laws.{held-stored-same, held-stored-other, length-stored}
 use Rattle.monitor.specs.Panel.{usesBeyond, ifAccepted, rebuilt, rebuiltTo}
 use Rattle.monitor.proofs.Slots.{Holds, accepted-there, rebuilt-there, holds-fit}
 
 -- no bytes are no tree
-empty-refused : (n : ℕ) → eqb (recordNumber n []) accepted ≡ false
+empty-refused : (ops : Operators) → eqb (recordNumber ops []) accepted ≡ false
 unfolding recordNumber treeOf
-empty-refused n = refl
+empty-refused ops = refl
 
-module _ (slots : ℕ → Option (List ℕ)) (old : ℕ) (old-rules : List Rule) (places : List ℕ) (size : length places ≡ storeBytes)
+module _ (slots : ℕ → Option (List ℕ)) (old : Operators) (old-rules : List Rule) (places : List ℕ) (size : length places ≡ storeBytes)
     (holds : (k : ℕ) → k < placeCount → Holds old old-rules (slots k) (held places k))
-    (s : Sheet) (n : ℕ) (rules : List Rule) (in-force : InForce s n rules)
-    (under : (k : ℕ) → k < placeCount → usesBeyond n (held places k) ≡ false) where
+    (s : List ℕ) (ops : Operators) (rules : List Rule) (in-force : InForce s ops rules)
+    (under : (k : ℕ) → k < placeCount → usesBeyond ops (held places k) ≡ false) where
   abbrev upTo : ℕ → List ℕ
-  upTo m = rebuiltTo n (closes s) m places
+  upTo m = rebuiltTo s m places
 
   -- the places below m are rebuilt, the others as they were
   pub record Partly (m : ℕ) (now : List ℕ) : Type 0 where
     pub same-size : length now ≡ storeBytes
-    pub below : (k : ℕ) → k < m → k < placeCount → Holds n rules (slots k) (held now k)
+    pub below : (k : ℕ) → k < m → k < placeCount → Holds ops rules (slots k) (held now k)
     pub above : (k : ℕ) → m ≤ k → held now k ≡ held places k
 
   -- one place more
   module _ (m : ℕ) (inside : m < placeCount) (now : List ℕ) (p : Partly m now) where
     abbrev then : List ℕ
-    then = ifAccepted (recordNumber n (held now m)) (stored now m (rebuilt n (closes s) (held now m))) now
+    then = ifAccepted (recordNumber (operatorsOf s) (held now m)) (stored now m (rebuilt s (held now m))) now
 
     blank-more : held places m ≡ [] → slots m ≡ none → Partly (suc m) then
-    blank-more e q = rw (here, empty-refused n)
+    blank-more e q = rw (here, empty-refused (operatorsOf s))
         (record {
           same-size = p .same-size;
           below = λ k h g. go k g (ℕ-discrete k m) h;
@@ -54,28 +54,28 @@ module _ (slots : ℕ → Option (List ℕ)) (old : ℕ) (old-rules : List Rule)
         here : held now m ≡ []
         here = p .above m (omega arith) ∙ e
 
-        go : (k : ℕ) → k < placeCount → Dec (k ≡ m) → k < suc m → Holds n rules (slots k) (held now k)
+        go : (k : ℕ) → k < placeCount → Dec (k ≡ m) → k < suc m → Holds ops rules (slots k) (held now k)
         go k g (yes f) h = rw (f, q, here) refl
         go k g (no f) h = p .below k (omega arith) g
 
     filled-more : (row : List ℕ) → slots m ≡ some row → Holds old old-rules (some row) (held places m) → Partly (suc m) then
-    filled-more row q (t, h) = rw (ap (recordNumber n) here ∙ accepted-there h n (under m inside))
+    filled-more row q (t, h) = rw (ap₂ recordNumber (in-force .operators) here ∙ accepted-there h ops (under m inside))
         (record {
-          same-size = length-stored now m (rebuilt n (closes s) (held now m)) ∙ p .same-size;
+          same-size = length-stored now m (rebuilt s (held now m)) ∙ p .same-size;
           below = λ k l g. go k g (ℕ-discrete k m) l;
-          above = λ k l. held-stored-other now m (rebuilt n (closes s) (held now m)) k (λ e. omega arith) ∙ p .above k (omega arith);
+          above = λ k l. held-stored-other now m (rebuilt s (held now m)) k (λ e. omega arith) ∙ p .above k (omega arith);
         })
       where
         here : held now m ≡ held places m
         here = p .above m (omega arith)
 
-        new : Holds n rules (some row) (rebuilt n (closes s) (held now m))
-        new = rw here (rebuilt-there h n (under m inside) s rules in-force)
+        new : Holds ops rules (some row) (rebuilt s (held now m))
+        new = rw here (rebuilt-there h ops (under m inside) s rules in-force)
 
-        go : (k : ℕ) → k < placeCount → Dec (k ≡ m) → k < suc m → Holds n rules (slots k) (held (stored now m (rebuilt n (closes s) (held now m))) k)
+        go : (k : ℕ) → k < placeCount → Dec (k ≡ m) → k < suc m → Holds ops rules (slots k) (held (stored now m (rebuilt s (held now m))) k)
         go k g (yes f) l =
-            rw (f, q, held-stored-same now m (rebuilt n (closes s) (held now m)) inside (holds-fit n rules (some row) (rebuilt n (closes s) (held now m)) new) (p .same-size)) new
-        go k g (no f) l = rw (held-stored-other now m (rebuilt n (closes s) (held now m)) k (λ e. f (sym e))) (p .below k (omega arith) g)
+            rw (f, q, held-stored-same now m (rebuilt s (held now m)) inside (holds-fit ops rules (some row) (rebuilt s (held now m)) new) (p .same-size)) new
+        go k g (no f) l = rw (held-stored-other now m (rebuilt s (held now m)) k (λ e. f (sym e))) (p .below k (omega arith) g)
 
     more : Partly (suc m) then
     more = go (slots m) refl (holds m inside)
@@ -89,8 +89,8 @@ module _ (slots : ℕ → Option (List ℕ)) (old : ℕ) (old-rules : List Rule)
   partly zero h = record { same-size = size; below = λ k l g. absurd (omega arith); above = λ k l. refl }
   partly (suc m) h = more m (omega arith) (upTo m) (partly m (omega arith))
 
-  pub rebuilt-size : length (rebuiltTo n (closes s) placeCount places) ≡ storeBytes
+  pub rebuilt-size : length (rebuiltTo s placeCount places) ≡ storeBytes
   rebuilt-size = partly placeCount (omega arith) .same-size
 
-  pub rebuilt-holds : (k : ℕ) → k < placeCount → Holds n rules (slots k) (held (rebuiltTo n (closes s) placeCount places) k)
+  pub rebuilt-holds : (k : ℕ) → k < placeCount → Holds ops rules (slots k) (held (rebuiltTo s placeCount places) k)
   rebuilt-holds k h = partly placeCount (omega arith) .below k h h

@@ -10,7 +10,7 @@ use lib.ListN.{length}
 use lib.ListN as lists
 use borrow.Author.Tests.{ltb-true, ne-eqb}
 use Rattle.expression.specs.Refusal.{Check, first, accepted}
-use Rattle.expression.specs.Lent.{outputAfter}
+use Rattle.expression.specs.Lent.{outputAfter, lengthAfter}
 use Rattle.expression.specs.Token.{class}
 use Rattle.expression.specs.Tree.{Tree}
 use Rattle.expression.specs.Tree as tree
@@ -21,26 +21,37 @@ use Rattle.expression.proofs.Classes.{brackets}
 use Rattle.expression.proofs.RecordsAndTrees.{treeOf-record}
 use Rattle.expression.proofs.Numbers.{Numbered, record-accepted, row-numbered, record-numbered}
 use Rattle.disambiguation.specs.Conflicts.{conflictCount}
-use Rattle.sheet.specs.Relation.{closes}
 use Rattle.sheet.proofs.Laws.{count-by-relation}
 use Rattle.record.specs.Answers.{judgement, countIn}
 use Rattle.places.specs.Store.{placeCount, slotBytes, held, imageOf}
-use Rattle.monitor.specs.Call.{Call, lentTo, load, loadList, putRow, putRecord, drop, fetchRecord, fetchRow, image, build, repair, judge, yield, operand}
-use Rattle.monitor.specs.Panel.{Panel, placeCheck, isEmpty, emptyCheck, rebuilt}
-use Rattle.monitor.specs.Steps.{operators, outcome, reply}
-use Rattle.monitor.specs.Book.{Book, rowIn, slotRow, SlotTree, bookNumber}
-use Rattle.monitor.specs.Answers.{Lent, Valued, Records, Image, Told, Count, Part, Answers}
+use Rattle.monitor.specs.Call.{Question, Call, lentBefore, load, loadList, putRow, putRecord, drop, ask, fetchRecord, fetchRow, image, build, repair, judge, yield, operand}
+use Rattle.monitor.specs.Panel.{Panel, placeCheck, isEmpty, emptyCheck}
+use Rattle.monitor.specs.Steps.{ops, told, outcome, reply}
+use Rattle.monitor.specs.Book.{Book, rowIn, slotRow, SlotTree, askedNumber}
+use Rattle.monitor.specs.Answers.{Lent, Valued, Records, Image, Told, Count, Part, Answered, Silent, Rest, Answers}
 use Rattle.monitor.proofs.Slots.{HeldTree, Holds, row-back, put-row-holds, put-record-holds}
-use Rattle.monitor.proofs.Stands.{Stands, filled, same-operators, same-number}
+use Rattle.monitor.proofs.Stands.{Stands, filled, same-operators, same-asked, same-number}
 
 -- an answer that is what it should be where the call is accepted
 lent-answer : (number given : ℕ) → given ≡ number → (Is : List ℕ → Type 0) (answer before : List ℕ) → (number ≡ accepted → Is answer)
-    → Lent number Is before (outputAfter given answer before)
-lent-answer number given e Is answer before f = (λ z. (answer, f z, rw (e ∙ z)), λ h. rw (ne-eqb given 0 (λ z. h (sym e ∙ z))))
+    → Lent number Is before (lengthAfter given answer) (outputAfter given answer before)
+lent-answer number given e Is answer before f = (
+  λ z. (answer, f z, ap (λ x. lengthAfter x answer) (e ∙ z), ap (λ x. outputAfter x answer before) (e ∙ z)),
+  λ h. let z = ne-eqb given 0 (λ z. h (sym e ∙ z)) in (rw z, rw z),
+)
 
 valued : {A : Type 0} (number given : ℕ) → given ≡ number → (Is : A → Type 0) (refused value : A) → (number ≡ accepted → Is value)
     → Valued number Is refused (cond (eqb given accepted) value refused)
 valued number given e Is refused value f = (λ z. rw (e ∙ z) (f z), λ h. rw (ne-eqb given 0 (λ z. h (sym e ∙ z))))
+
+-- nothing is nothing, accepted or not
+no-length : (x : Bool) → _≡_ {A = ℕ} (cond x 0 0) 0
+no-length true = refl
+no-length false = refl
+
+no-output : (x : Bool) → _≡_ {A = List ℕ} (cond x [] []) []
+no-output true = refl
+no-output false = refl
 
 -- what an accepted list has passed
 pub front-accepted : (cs ds : List Check) → Numbered cs → first (cs ++ ds) ≡ accepted → first cs ≡ accepted
@@ -68,82 +79,72 @@ empty-passed xs cs e = go (isEmpty xs) e
 module _ (p : Panel) (b : Book) (s : Stands p b) where
   -- what a fetch that is accepted finds
   found : (k : ℕ) (cs : List Check) → first (placeCheck k ∷ emptyCheck (slotRow b k) ∷ cs) ≡ accepted
-      → (row : List ℕ) × (b .slots k ≡ some row) × Holds (b .n) (b .rules) (some row) (held (p .places) k)
+      → (row : List ℕ) × (b .slots k ≡ some row) × Holds (b .operators) (b .rules) (some row) (held (p .places) k)
   found k cs e =
       let (h, f) = place-passed k (emptyCheck (slotRow b k) ∷ cs) e in
       filled p b s k h (empty-passed (slotRow b k) cs f)
 
-  slot-tree : (k : ℕ) (row : List ℕ) → b .slots k ≡ some row → (t : Tree) → HeldTree (b .n) (b .rules) row (held (p .places) k) t → SlotTree b k t
+  slot-tree : (k : ℕ) (row : List ℕ) → b .slots k ≡ some row → (t : Tree) → HeldTree (b .operators) (b .rules) row (held (p .places) k) t → SlotTree b k t
   slot-tree k row q t g = rw (ap rowIn q) (g .tree)
 
   -- the tree that an accepted record is of
-  recorded : (bytes : List ℕ) → recordNumber (b .n) bytes ≡ accepted → (t : Tree) × Records b bytes t × (treeOf (class (b .n)) bytes ≡ some t)
+  recorded : (bytes : List ℕ) → recordNumber (b .operators) bytes ≡ accepted → (t : Tree) × Records b bytes t × (treeOf (class (b .operators)) bytes ≡ some t)
   recorded bytes e =
-      let (t, r) = record-accepted (b .n) bytes .0 e in
-      (t, (r .over, r .recorded), ap (treeOf (class (b .n))) (sym (r .recorded)) ∙ treeOf-record (class (b .n)) (brackets (b .n)) t (r .over))
+      let (t, r) = record-accepted (b .operators) bytes .0 e in
+      (t, (r .over, r .recorded), ap (treeOf (class (b .operators))) (sym (r .recorded)) ∙ treeOf-record (class (b .operators)) (brackets (b .operators)) t (r .over))
 
   -- The bytes of each accepted answer are those that the book gives.
-  pub told : (c : Call) → bookNumber b c ≡ accepted → Told b c (outcome p c .answer)
+  pub tells : (q : Question) → askedNumber b q ≡ accepted → Told b q (told p q .answer)
   unfolding buildNumber rowNumber repairNumber yieldNumber recordNumber
-  told (fetchRecord k out) z = let (row, q, (t, g)) = found k (shortCheck (recordBytes (slotRow b k)) (length out) ∷ []) z in (t, slot-tree k row q t g, g .recorded)
-  told (fetchRow k out) z =
+  tells (fetchRecord k out) z = let (row, q, (t, g)) = found k (shortCheck (recordBytes (slotRow b k)) (length out) ∷ []) z in (t, slot-tree k row q t g, g .recorded)
+  tells (fetchRow k out) z =
       let (row, q, (t, g)) = found k (shortCheck (length (slotRow b k)) (length out) ∷ []) z in
-      ap (λ n. rowOf (treeOf (class n) (held (p .places) k))) (same-operators p b s) ∙ row-back g ∙ sym (ap rowIn q)
-  told (image k out) z = let (h, f) = place-passed k (shortCheck slotBytes (length out) ∷ []) z in go (b .slots k) refl (s .holds k h)
+      ap (λ o. rowOf (treeOf (class o) (held (p .places) k))) (same-operators p b s) ∙ row-back g ∙ sym (ap rowIn q)
+  tells (image k out) z = let (h, f) = place-passed k (shortCheck slotBytes (length out) ∷ []) z in go (b .slots k) refl (s .holds k h)
     where
-      go : (slot : Option (List ℕ)) → b .slots k ≡ slot → Holds (b .n) (b .rules) slot (held (p .places) k) → Image b k slot (imageOf (held (p .places) k))
+      go : (slot : Option (List ℕ)) → b .slots k ≡ slot → Holds (b .operators) (b .rules) slot (held (p .places) k) → Image b k slot (imageOf (held (p .places) k))
       go none q e = ap imageOf e
       go (some row) q (t, g) = (t, slot-tree k row q t g, ap imageOf (g .recorded))
-  told (build row out) z =
-      let e = front-accepted (rowChecks (b .n) row) (shortCheck (recordBytes row) (length out) ∷ []) (row-numbered (b .n) row) z in
-      let (t, g) = put-row-holds (p .sheet) (b .n) (b .rules) (s .in-force) row e in
+  tells (build row out) z =
+      let e = front-accepted (rowChecks (b .operators) row) (shortCheck (recordBytes row) (length out) ∷ []) (row-numbered (b .operators) row) z in
+      let (t, g) = put-row-holds (p .sheet) (b .operators) (b .rules) (s .in-force) row e in
       (t, g .tree, g .recorded)
-  told (repair bytes out) z =
-      let e = front-accepted (recordChecks (b .n) bytes) (shortCheck (length bytes) (length out) ∷ []) (record-numbered (b .n) bytes) z in
+  tells (repair bytes out) z =
+      let e = front-accepted (recordChecks (b .operators) bytes) (shortCheck (length bytes) (length out) ∷ []) (record-numbered (b .operators) bytes) z in
       let (t, r, q) = recorded bytes e in
-      let (u, g) = put-record-holds (p .sheet) (b .n) (b .rules) (s .in-force) bytes e in
-      (t, u, r, rw (ap rowOf q) at (g .tree), ap (λ n. rebuilt n (closes (p .sheet)) bytes) (same-operators p b s) ∙ g .recorded)
-  told (yield bytes out) z =
-      let e = front-accepted (recordChecks (b .n) bytes) (shortCheck (rowTokens (treeOf (class (b .n)) bytes)) (length out) ∷ []) (record-numbered (b .n) bytes) z in
+      let (u, g) = put-record-holds (p .sheet) (b .operators) (b .rules) (s .in-force) bytes e in
+      (t, u, r, rw (ap rowOf q) at (g .tree), g .recorded)
+  tells (yield bytes out) z =
+      let e = front-accepted (recordChecks (b .operators) bytes) (shortCheck (rowTokens (treeOf (class (b .operators)) bytes)) (length out) ∷ []) (record-numbered (b .operators) bytes) z in
       let (t, r, q) = recorded bytes e in
-      (t, r, ap (λ n. rowOf (treeOf (class n) bytes)) (same-operators p b s) ∙ ap rowOf q)
-  told (load n rules) z = refl
-  told (loadList n rules) z = refl
-  told (putRow k row) z = refl
-  told (putRecord k bytes) z = refl
-  told (drop k) z = refl
-  told (judge bytes) z = refl
-  told (operand right bytes) z = refl
+      (t, r, ap (λ o. rowOf (treeOf (class o) bytes)) (same-operators p b s) ∙ ap rowOf q)
+  tells (judge bytes) z = refl
+  tells (operand right bytes) z = refl
 
-  judge-count : (bytes : List ℕ) → Count b (judge bytes) (reply p (judge bytes) .count)
-  unfolding judgement closes
+  judge-count : (bytes : List ℕ) → Count b (judge bytes) (told p (judge bytes) .count)
+  unfolding judgement
   judge-count bytes =
-      valued (bookNumber b (judge bytes)) (recordNumber (operators p) bytes) (same-number p b s (judge bytes)) (λ c. (t : Tree) × Records b bytes t × (c ≡ conflictCount (b .rules) t)) 0
-      (countIn (p .sheet .closes) (treeOf (class (operators p)) bytes))
+      valued (askedNumber b (judge bytes)) (recordNumber (ops p) bytes) (same-asked p b s (judge bytes)) (λ c. (t : Tree) × Records b bytes t × (c ≡ conflictCount (b .rules) t)) 0
+      (countIn (p .sheet) (treeOf (class (ops p)) bytes))
       (λ z.
       let (t, r, q) = recorded bytes z in (
         t,
         r,
-        ap (λ n. countIn (p .sheet .closes) (treeOf (class n) bytes)) (same-operators p b s) ∙ ap (countIn (p .sheet .closes)) q
-            ∙ sym (count-by-relation (p .sheet) (b .n) (b .rules) (s .in-force) t (r .0)),
+        ap (λ o. countIn (p .sheet) (treeOf (class o) bytes)) (same-operators p b s) ∙ ap (countIn (p .sheet)) q
+            ∙ sym (count-by-relation (p .sheet) (b .operators) (b .rules) (s .in-force) t (r .0)),
       ))
 
-  operand-part : (right : Bool) (bytes : List ℕ) → Part b (operand right bytes) (reply p (operand right bytes) .part)
+  operand-part : (right : Bool) (bytes : List ℕ) → Part b (operand right bytes) (told p (operand right bytes) .part)
   unfolding operandPart
   operand-part right bytes =
-      valued (bookNumber b (operand right bytes)) (recordNumber (operators p) bytes) (same-number p b s (operand right bytes)) (λ x. (t : Tree) × Records b bytes t × (x ≡ operandRecord right t)) []
-      (operandIn right (treeOf (class (operators p)) bytes))
+      valued (askedNumber b (operand right bytes)) (recordNumber (ops p) bytes) (same-asked p b s (operand right bytes)) (λ x. (t : Tree) × Records b bytes t × (x ≡ operandRecord right t)) []
+      (operandIn right (treeOf (class (ops p)) bytes))
       (λ z.
       let (t, r, q) = recorded bytes z in
-      (t, r, ap (λ n. operandIn right (treeOf (class n) bytes)) (same-operators p b s) ∙ ap (operandIn right) q))
+      (t, r, ap (λ o. operandIn right (treeOf (class o) bytes)) (same-operators p b s) ∙ ap (operandIn right) q))
 
-  count : (c : Call) → Count b c (outcome p c .count)
+  count : (q : Question) → Count b q (told p q .count)
   count (judge bytes) = judge-count bytes
-  count (load n rules) = refl
-  count (loadList n rules) = refl
-  count (putRow k row) = refl
-  count (putRecord k bytes) = refl
-  count (drop k) = refl
   count (fetchRecord k out) = refl
   count (fetchRow k out) = refl
   count (image k out) = refl
@@ -152,13 +153,8 @@ module _ (p : Panel) (b : Book) (s : Stands p b) where
   count (yield bytes out) = refl
   count (operand right bytes) = refl
 
-  part : (c : Call) → Part b c (outcome p c .part)
+  part : (q : Question) → Part b q (told p q .part)
   part (operand right bytes) = operand-part right bytes
-  part (load n rules) = refl
-  part (loadList n rules) = refl
-  part (putRow k row) = refl
-  part (putRecord k bytes) = refl
-  part (drop k) = refl
   part (fetchRecord k out) = refl
   part (fetchRow k out) = refl
   part (image k out) = refl
@@ -167,11 +163,25 @@ module _ (p : Panel) (b : Book) (s : Stands p b) where
   part (judge bytes) = refl
   part (yield bytes out) = refl
 
-  pub answers : (c : Call) → Answers b c (reply p c)
-  answers c =
+  pub answered : (q : Question) → Answered b q (reply p (ask q))
+  answered q =
       record {
-        number = same-number p b s c;
-        output = lent-answer (bookNumber b c) (outcome p c .number) (same-number p b s c) (Told b c) (outcome p c .answer) (lentTo c) (told c);
-        count = count c;
-        part = part c;
+        output = lent-answer (askedNumber b q) (told p q .number) (same-asked p b s q) (Told b q) (told p q .answer) (lentBefore q) (tells q);
+        count = count q;
+        part = part q;
       }
+
+  -- a number alone
+  silent : (number : ℕ) → Silent b (record { number = number; length = lengthAfter number []; output = outputAfter number [] []; count = 0; part = [] })
+  silent number = record { length = no-length (eqb number accepted); output = no-output (eqb number accepted); count = refl; part = refl }
+
+  rest : (c : Call) → Rest b c (reply p c)
+  rest (load n rules) = silent (outcome p (load n rules) .number)
+  rest (loadList n rules) = silent (outcome p (loadList n rules) .number)
+  rest (putRow k row) = silent (outcome p (putRow k row) .number)
+  rest (putRecord k bytes) = silent (outcome p (putRecord k bytes) .number)
+  rest (drop k) = silent (outcome p (drop k) .number)
+  rest (ask q) = answered q
+
+  pub answers : (c : Call) → Answers b c (reply p c)
+  answers c = record { number = same-number p b s c; rest = rest c }

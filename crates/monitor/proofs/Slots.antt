@@ -9,7 +9,7 @@ use lib.Dec.{eqb}
 use lib.ListN.{length}
 use Rattle.expression.specs.Limits.{mostTokens, mostRecordBytes}
 use Rattle.expression.specs.Refusal.{accepted}
-use Rattle.expression.specs.Token.{closing, class}
+use Rattle.expression.specs.Token.{closing, Operators, class}
 use Rattle.expression.specs.Tree.{Tree, recordOf, Over}
 use Rattle.expression.specs.Grammar.{Row}
 use Rattle.expression.specs.Decode.{treeOf}
@@ -22,9 +22,8 @@ use Rattle.expression.proofs.Lengths.{record-length}
 use Rattle.expression.proofs.Numbers.{record-accepted, row-accepted}
 use Rattle.disambiguation.specs.Rules.{Rule}
 use Rattle.disambiguation.specs.Conflicts.{ConflictFreeTree}
-use Rattle.sheet.specs.Relation.{closes}
+use Rattle.sheet.specs.Relation.{closesIn}
 use Rattle.sheet.specs.InForce.{InForce}
-use Rattle.sheet.specs.declared.Sheet.{Sheet}
 use Rattle.parser.specs.Build.{built}
 use Rattle.parser.proofs.InForceBuilds.{built-conflict-free}
 use Rattle.monitor.specs.Panel.{isEmpty, usesBeyond, rebuilt}
@@ -32,31 +31,31 @@ use Rattle.monitor.specs.Book.{rowIn}
 use Rattle.monitor.proofs.Uses.{count-small, yield-not-empty, record-not-empty, uses-yield, over-under}
 
 -- t is the row's tree, within the lengths, and the bytes are its record
-pub record HeldTree (n : ℕ) (rules : List Rule) (row bytes : List ℕ) (t : Tree) : Type 0 where
-  pub tree : ConflictFreeTree n rules row t
+pub record HeldTree (ops : Operators) (rules : List Rule) (row bytes : List ℕ) (t : Tree) : Type 0 where
+  pub tree : ConflictFreeTree ops rules row t
   pub recorded : bytes ≡ recordOf t
   pub tokens-fit : length row ≤ mostTokens
 
-abbrev pub Holds : ℕ → List Rule → Option (List ℕ) → List ℕ → Type 0
-Holds n rules none bytes = bytes ≡ []
-Holds n rules (some row) bytes = (t : Tree) × HeldTree n rules row bytes t
+abbrev pub Holds : Operators → List Rule → Option (List ℕ) → List ℕ → Type 0
+Holds ops rules none bytes = bytes ≡ []
+Holds ops rules (some row) bytes = (t : Tree) × HeldTree ops rules row bytes t
 
-module _ {n : ℕ} {rules : List Rule} {row bytes : List ℕ} {t : Tree} (h : HeldTree n rules row bytes t) where
+module _ {ops : Operators} {rules : List Rule} {row bytes : List ℕ} {t : Tree} (h : HeldTree ops rules row bytes t) where
   pub bytes-long : length bytes ≡ recordBytes row
-  bytes-long = ap length (h .recorded) ∙ record-length (class n) (brackets n) t (h .tree .over) ∙ ap recordBytes (h .tree .yields)
+  bytes-long = ap length (h .recorded) ∙ record-length (class ops) (brackets ops) t (h .tree .over) ∙ ap recordBytes (h .tree .yields)
 
   pub bytes-fit : length bytes ≤ mostRecordBytes
   bytes-fit = omega (arith, bytes-long, count-small (λ c. not (eqb c closing)) row, h .tokens-fit)
 
-  pub read-back : treeOf (class n) bytes ≡ some t
-  read-back = ap (treeOf (class n)) (h .recorded) ∙ treeOf-record (class n) (brackets n) t (h .tree .over)
+  pub read-back : treeOf (class ops) bytes ≡ some t
+  read-back = ap (treeOf (class ops)) (h .recorded) ∙ treeOf-record (class ops) (brackets ops) t (h .tree .over)
 
-  pub row-back : rowOf (treeOf (class n) bytes) ≡ row
+  pub row-back : rowOf (treeOf (class ops) bytes) ≡ row
   row-back = ap rowOf read-back ∙ h .tree .yields
 
-  pub held-accepted : recordNumber n bytes ≡ accepted
+  pub held-accepted : recordNumber ops bytes ≡ accepted
   held-accepted =
-      record-accepted n bytes .1 (
+      record-accepted ops bytes .1 (
         t,
         record { over = h .tree .over; recorded = sym (h .recorded); bytes-fit = bytes-fit; tokens-fit = rw (h .tree .yields) (h .tokens-fit) },
       )
@@ -67,13 +66,13 @@ module _ {n : ℕ} {rules : List Rule} {row bytes : List ℕ} {t : Tree} (h : He
   pub row-not-empty : isEmpty row ≡ false
   row-not-empty = ap isEmpty (sym (h .tree .yields)) ∙ yield-not-empty t
 
-  pub held-uses : (m : ℕ) → usesBeyond m bytes ≡ usesBeyond m row
+  pub held-uses : (m : Operators) → usesBeyond m bytes ≡ usesBeyond m row
   held-uses m = ap (usesBeyond m) (h .recorded) ∙ uses-yield m t ∙ ap (usesBeyond m) (h .tree .yields)
 
   -- under another sheet whose operators it uses
-  module _ (m : ℕ) (under : usesBeyond m bytes ≡ false) where
+  module _ (m : Operators) (under : usesBeyond m bytes ≡ false) where
     over-there : Over (class m) t
-    over-there = over-under n m t (h .tree .over) (ap (usesBeyond m) (sym (h .recorded)) ∙ under)
+    over-there = over-under ops m t (h .tree .over) (ap (usesBeyond m) (sym (h .recorded)) ∙ under)
 
     row-there : rowOf (treeOf (class m) bytes) ≡ row
     row-there = ap (λ x. rowOf (treeOf (class m) x)) (h .recorded) ∙ ap rowOf (treeOf-record (class m) (brackets m) t over-there) ∙ h .tree .yields
@@ -85,41 +84,41 @@ module _ {n : ℕ} {rules : List Rule} {row bytes : List ℕ} {t : Tree} (h : He
           record { over = over-there; recorded = sym (h .recorded); bytes-fit = bytes-fit; tokens-fit = rw (h .tree .yields) (h .tokens-fit) },
         )
 
-    pub rebuilt-there : (s : Sheet) (rules′ : List Rule) → InForce s m rules′ → Holds m rules′ (some row) (rebuilt m (closes s) bytes)
+    pub rebuilt-there : (s : List ℕ) (rules′ : List Rule) → InForce s m rules′ → Holds m rules′ (some row) (rebuilt s bytes)
     rebuilt-there s rules′ k =
         let r : Row m row = row-exactly-if-yielded m row .1 (t, over-there, h .tree .yields) in
         let (u, c, e) = built-conflict-free s m rules′ k row r in
-        (u, record { tree = c; recorded = ap (built (closes s)) row-there ∙ e; tokens-fit = h .tokens-fit })
+        (u, record { tree = c; recorded = ap (λ o. built (closesIn s) (rowOf (treeOf (class o) bytes))) (k .operators) ∙ ap (built (closesIn s)) row-there ∙ e; tokens-fit = h .tokens-fit })
 
 -- ---- of a slot, blank or not
-pub same-empty : (n : ℕ) (rules : List Rule) (slot : Option (List ℕ)) (bytes : List ℕ) → Holds n rules slot bytes → isEmpty bytes ≡ isEmpty (rowIn slot)
-same-empty n rules none bytes e = ap isEmpty e
-same-empty n rules (some row) bytes (t, h) = held-not-empty h ∙ sym (row-not-empty h)
+pub same-empty : (ops : Operators) (rules : List Rule) (slot : Option (List ℕ)) (bytes : List ℕ) → Holds ops rules slot bytes → isEmpty bytes ≡ isEmpty (rowIn slot)
+same-empty ops rules none bytes e = ap isEmpty e
+same-empty ops rules (some row) bytes (t, h) = held-not-empty h ∙ sym (row-not-empty h)
 
-pub same-length : (n : ℕ) (rules : List Rule) (slot : Option (List ℕ)) (bytes : List ℕ) → Holds n rules slot bytes → length bytes ≡ recordBytes (rowIn slot)
-same-length n rules none bytes e = ap length e
-same-length n rules (some row) bytes (t, h) = bytes-long h
+pub same-length : (ops : Operators) (rules : List Rule) (slot : Option (List ℕ)) (bytes : List ℕ) → Holds ops rules slot bytes → length bytes ≡ recordBytes (rowIn slot)
+same-length ops rules none bytes e = ap length e
+same-length ops rules (some row) bytes (t, h) = bytes-long h
 
-pub same-uses : (n : ℕ) (rules : List Rule) (m : ℕ) (slot : Option (List ℕ)) (bytes : List ℕ) → Holds n rules slot bytes → usesBeyond m bytes ≡ usesBeyond m (rowIn slot)
-same-uses n rules m none bytes e = ap (usesBeyond m) e
-same-uses n rules m (some row) bytes (t, h) = held-uses h m
+pub same-uses : (ops : Operators) (rules : List Rule) (m : Operators) (slot : Option (List ℕ)) (bytes : List ℕ) → Holds ops rules slot bytes → usesBeyond m bytes ≡ usesBeyond m (rowIn slot)
+same-uses ops rules m none bytes e = ap (usesBeyond m) e
+same-uses ops rules m (some row) bytes (t, h) = held-uses h m
 
-pub holds-fit : (n : ℕ) (rules : List Rule) (slot : Option (List ℕ)) (bytes : List ℕ) → Holds n rules slot bytes → length bytes ≤ mostRecordBytes
-holds-fit n rules none bytes e = omega (arith, ap length e)
-holds-fit n rules (some row) bytes (t, h) = bytes-fit h
+pub holds-fit : (ops : Operators) (rules : List Rule) (slot : Option (List ℕ)) (bytes : List ℕ) → Holds ops rules slot bytes → length bytes ≤ mostRecordBytes
+holds-fit ops rules none bytes e = omega (arith, ap length e)
+holds-fit ops rules (some row) bytes (t, h) = bytes-fit h
 
 -- ---- a row or a record that is put
-pub put-row-holds : (s : Sheet) (n : ℕ) (rules : List Rule) → InForce s n rules → (row : List ℕ) → rowNumber n row ≡ accepted → Holds n rules (some row) (built (closes s) row)
-put-row-holds s n rules k row e =
-    let (fits, r) = row-accepted n row .0 e in
-    let (t, c, q) = built-conflict-free s n rules k row r in
+pub put-row-holds : (s : List ℕ) (ops : Operators) (rules : List Rule) → InForce s ops rules → (row : List ℕ) → rowNumber ops row ≡ accepted → Holds ops rules (some row) (built (closesIn s) row)
+put-row-holds s ops rules k row e =
+    let (fits, r) = row-accepted ops row .0 e in
+    let (t, c, q) = built-conflict-free s ops rules k row r in
     (t, record { tree = c; recorded = q; tokens-fit = fits })
 
-pub put-record-holds : (s : Sheet) (n : ℕ) (rules : List Rule) → InForce s n rules → (bytes : List ℕ) → recordNumber n bytes ≡ accepted
-    → Holds n rules (some (rowOf (treeOf (class n) bytes))) (rebuilt n (closes s) bytes)
-put-record-holds s n rules k bytes e =
-    let (t, r) = record-accepted n bytes .0 e in
-    let q = ap rowOf (ap (treeOf (class n)) (sym (r .recorded)) ∙ treeOf-record (class n) (brackets n) t (r .over)) in
-    let here = row-exactly-if-yielded n (rowOf (treeOf (class n) bytes)) .1 (t, r .over, sym q) in
-    let (u, c, p) = built-conflict-free s n rules k (rowOf (treeOf (class n) bytes)) here in
-    (u, record { tree = c; recorded = p; tokens-fit = rw q (r .tokens-fit) })
+pub put-record-holds : (s : List ℕ) (ops : Operators) (rules : List Rule) → InForce s ops rules → (bytes : List ℕ) → recordNumber ops bytes ≡ accepted
+    → Holds ops rules (some (rowOf (treeOf (class ops) bytes))) (rebuilt s bytes)
+put-record-holds s ops rules k bytes e =
+    let (t, r) = record-accepted ops bytes .0 e in
+    let q = ap rowOf (ap (treeOf (class ops)) (sym (r .recorded)) ∙ treeOf-record (class ops) (brackets ops) t (r .over)) in
+    let here = row-exactly-if-yielded ops (rowOf (treeOf (class ops) bytes)) .1 (t, r .over, sym q) in
+    let (u, c, p) = built-conflict-free s ops rules k (rowOf (treeOf (class ops) bytes)) here in
+    (u, record { tree = c; recorded = ap (λ o. built (closesIn s) (rowOf (treeOf (class o) bytes))) (k .operators) ∙ p; tokens-fit = rw q (r .tokens-fit) })

@@ -9,7 +9,7 @@ use mathlib.Core.List.{List, [], _∷_, _++_}
 use lib.ListN.{length}
 use borrow.Author.Tests.{lt-ltb, le-ltb}
 use Rattle.expression.specs.Refusal.{Check, first}
-use Rattle.expression.specs.Token.{class}
+use Rattle.expression.specs.Token.{operators, class}
 use Rattle.expression.specs.Decode.{treeOf}
 use Rattle.expression.specs.Checks.{shortCheck, recordBytes, rowTokens, rowChecks, recordChecks, recordNumber, buildNumber, repairNumber, yieldNumber}
 use Rattle.expression.proofs.Numbers.{passed-first, first-append, record-numbered}
@@ -18,22 +18,21 @@ use Rattle.disambiguation.specs.Below.{allBelow}
 use Rattle.disambiguation.specs.SheetChecks.{ruleBytes}
 use Rattle.disambiguation.proofs.RuleBytes.{rules-back, list-oversize, list-whole}
 use Rattle.sheet.specs.InForce.{InForce}
-use Rattle.sheet.specs.Relation as relation
 use Rattle.sheet.proofs.Laws.{fresh-in-force}
 use Rattle.places.specs.Store.{placeCount, storeBytes, held}
 use Rattle.places.specs.Store as store
 use Rattle.places.proofs.Laws.{held-fresh}
-use Rattle.monitor.specs.Call.{Call, load, loadList, putRow, putRecord, drop, fetchRecord, fetchRow, image, build, repair, judge, yield, operand}
+use Rattle.monitor.specs.Call.{Question, Call, load, loadList, putRow, putRecord, drop, ask, fetchRecord, fetchRow, image, build, repair, judge, yield, operand}
 use Rattle.monitor.specs.Panel.{Panel, fresh, placeCheck, isEmpty, emptyCheck, usesBeyond, sheetChecks}
-use Rattle.monitor.specs.Steps.{operators, loadNumber, putRowNumber, putRecordNumber, dropNumber, fetchRecordNumber, fetchRowNumber, imageNumber, reply}
-use Rattle.monitor.specs.Book.{Book, blank, rowIn, slotRow, bookNumber}
+use Rattle.monitor.specs.Steps.{ops, loadNumber, putRowNumber, putRecordNumber, dropNumber, fetchRecordNumber, fetchRowNumber, imageNumber, told, reply}
+use Rattle.monitor.specs.Book.{Book, blank, rowIn, slotRow, askedNumber, bookNumber}
 use Rattle.monitor.proofs.Slots.{Holds, same-empty, same-length, same-uses, held-accepted, read-back}
 
 -- The panel's sheet is the book's, and each place holds the tree of its slot's row.
 pub record Stands (p : Panel) (b : Book) : Type 0 where
-  pub in-force : InForce (p .sheet) (b .n) (b .rules)
+  pub in-force : InForce (p .sheet) (b .operators) (b .rules)
   pub size : length (p .places) ≡ storeBytes
-  pub holds : (k : ℕ) → k < placeCount → Holds (b .n) (b .rules) (b .slots k) (held (p .places) k)
+  pub holds : (k : ℕ) → k < placeCount → Holds (b .operators) (b .rules) (b .slots k) (held (p .places) k)
 
 pub fresh-stands : Stands fresh blank
 unfolding store.fresh
@@ -63,79 +62,83 @@ all-agree (suc m) p q f = ap₂ _&&_ (all-agree m p q (λ k h. f k (omega arith)
 
 -- ---- the numbers
 module _ (p : Panel) (b : Book) (s : Stands p b) where
-  pub same-operators : operators p ≡ b .n
+  pub same-operators : ops p ≡ b .operators
   same-operators = s .in-force .operators
 
   -- what a slot that is not blank holds
   pub filled : (k : ℕ) → k < placeCount → isEmpty (slotRow b k) ≡ false
-      → (row : List ℕ) × (b .slots k ≡ some row) × Holds (b .n) (b .rules) (some row) (held (p .places) k)
+      → (row : List ℕ) × (b .slots k ≡ some row) × Holds (b .operators) (b .rules) (some row) (held (p .places) k)
   filled k h e = go (b .slots k) refl (s .holds k h) e
     where
-      go : (slot : Option (List ℕ)) → b .slots k ≡ slot → Holds (b .n) (b .rules) slot (held (p .places) k) → isEmpty (rowIn slot) ≡ false
-          → (row : List ℕ) × (b .slots k ≡ some row) × Holds (b .n) (b .rules) (some row) (held (p .places) k)
+      go : (slot : Option (List ℕ)) → b .slots k ≡ slot → Holds (b .operators) (b .rules) slot (held (p .places) k) → isEmpty (rowIn slot) ≡ false
+          → (row : List ℕ) × (b .slots k ≡ some row) × Holds (b .operators) (b .rules) (some row) (held (p .places) k)
       go none q g f = absurd (let z : _≡_ {A = ℕ} 0 1 = cc in omega arith)
       go (some row) q g f = (row, q, g)
 
   empty-same : (k : ℕ) → k < placeCount → isEmpty (held (p .places) k) ≡ isEmpty (slotRow b k)
-  empty-same k h = same-empty (b .n) (b .rules) (b .slots k) (held (p .places) k) (s .holds k h)
+  empty-same k h = same-empty (b .operators) (b .rules) (b .slots k) (held (p .places) k) (s .holds k h)
 
   load-same : (n : ℕ) (rules : List ℕ) → loadNumber p n rules ≡ bookNumber b (load n rules)
   unfolding loadNumber
   load-same n rules =
       ap (λ x. first (sheetChecks n rules ++ ((not x, 11) ∷ [])))
-      (all-agree placeCount (λ k. not (usesBeyond n (held (p .places) k))) (λ k. not (usesBeyond n (slotRow b k)))
-      (λ k h. ap not (same-uses (b .n) (b .rules) n (b .slots k) (held (p .places) k) (s .holds k h))))
+      (all-agree placeCount (λ k. not (usesBeyond (operators n) (held (p .places) k))) (λ k. not (usesBeyond (operators n) (slotRow b k)))
+      (λ k h. ap not (same-uses (b .operators) (b .rules) (operators n) (b .slots k) (held (p .places) k) (s .holds k h))))
 
   -- the book gives a list of rules the number of their bytes
   pub list-same : (n : ℕ) (rules : List Rule) → bookNumber b (load n (ruleBytes rules)) ≡ bookNumber b (loadList n rules)
   list-same n rules = rw (list-oversize rules, list-whole rules, rules-back rules)
 
-  fetch-record-same : (k : ℕ) (out : List ℕ) → fetchRecordNumber p k (length out) ≡ bookNumber b (fetchRecord k out)
+  fetch-record-same : (k : ℕ) (out : List ℕ) → fetchRecordNumber p k (length out) ≡ askedNumber b (fetchRecord k out)
   unfolding fetchRecordNumber
   fetch-record-same k out =
       by-place k (emptyCheck (held (p .places) k) ∷ shortCheck (length (held (p .places) k)) (length out) ∷ [])
       (emptyCheck (slotRow b k) ∷ shortCheck (recordBytes (slotRow b k)) (length out) ∷ [])
       (λ h. by-empty (held (p .places) k) (slotRow b k) (shortCheck (length (held (p .places) k)) (length out) ∷ []) (shortCheck (recordBytes (slotRow b k)) (length out) ∷ [])
       (empty-same k h)
-      (λ e. ap (λ x. first (shortCheck x (length out) ∷ [])) (same-length (b .n) (b .rules) (b .slots k) (held (p .places) k) (s .holds k h))))
+      (λ e. ap (λ x. first (shortCheck x (length out) ∷ [])) (same-length (b .operators) (b .rules) (b .slots k) (held (p .places) k) (s .holds k h))))
 
   drop-same : (k : ℕ) → dropNumber p k ≡ bookNumber b (drop k)
   unfolding dropNumber
   drop-same k = by-place k (emptyCheck (held (p .places) k) ∷ []) (emptyCheck (slotRow b k) ∷ []) (λ h. by-empty (held (p .places) k) (slotRow b k) [] [] (empty-same k h) (λ e. refl))
 
-  fetch-row-same : (k : ℕ) (out : List ℕ) → fetchRowNumber p k (length out) ≡ bookNumber b (fetchRow k out)
+  fetch-row-same : (k : ℕ) (out : List ℕ) → fetchRowNumber p k (length out) ≡ askedNumber b (fetchRow k out)
   unfolding fetchRowNumber recordNumber
   fetch-row-same k out =
       by-place k (emptyCheck (held (p .places) k) ∷ here) (emptyCheck (slotRow b k) ∷ there)
       (λ h. by-empty (held (p .places) k) (slotRow b k) here there (empty-same k h) (λ e. rest h (filled k h e)))
     where
       here : List Check
-      here = recordChecks (operators p) (held (p .places) k) ++ (shortCheck (rowTokens (treeOf (class (operators p)) (held (p .places) k))) (length out) ∷ [])
+      here = recordChecks (ops p) (held (p .places) k) ++ (shortCheck (rowTokens (treeOf (class (ops p)) (held (p .places) k))) (length out) ∷ [])
 
       there : List Check
       there = shortCheck (length (slotRow b k)) (length out) ∷ []
 
-      rest : k < placeCount → (row : List ℕ) × (b .slots k ≡ some row) × Holds (b .n) (b .rules) (some row) (held (p .places) k)
-          → first (recordChecks (operators p) (held (p .places) k) ++ (shortCheck (rowTokens (treeOf (class (operators p)) (held (p .places) k))) (length out) ∷ []))
+      rest : k < placeCount → (row : List ℕ) × (b .slots k ≡ some row) × Holds (b .operators) (b .rules) (some row) (held (p .places) k)
+          → first (recordChecks (ops p) (held (p .places) k) ++ (shortCheck (rowTokens (treeOf (class (ops p)) (held (p .places) k))) (length out) ∷ []))
           ≡ first (shortCheck (length (slotRow b k)) (length out) ∷ [])
       rest h (row, q, (t, g)) =
           ap (λ n. first (recordChecks n (held (p .places) k) ++ (shortCheck (rowTokens (treeOf (class n) (held (p .places) k))) (length out) ∷ []))) same-operators
-          ∙ first-append (recordChecks (b .n) (held (p .places) k)) (shortCheck (rowTokens (treeOf (class (b .n)) (held (p .places) k))) (length out) ∷ [])
-          (passed-first (recordChecks (b .n) (held (p .places) k)) (record-numbered (b .n) (held (p .places) k)) (held-accepted g))
+          ∙ first-append (recordChecks (b .operators) (held (p .places) k)) (shortCheck (rowTokens (treeOf (class (b .operators)) (held (p .places) k))) (length out) ∷ [])
+          (passed-first (recordChecks (b .operators) (held (p .places) k)) (record-numbered (b .operators) (held (p .places) k)) (held-accepted g))
           ∙ ap (λ x. first (shortCheck x (length out) ∷ [])) (ap rowTokens (read-back g) ∙ ap length (g .tree .yields ∙ sym (ap rowIn q)))
 
+  pub same-asked : (q : Question) → told p q .number ≡ askedNumber b q
+  unfolding imageNumber
+  same-asked (fetchRecord k out) = fetch-record-same k out
+  same-asked (fetchRow k out) = fetch-row-same k out
+  same-asked (image k out) = refl
+  same-asked (build row out) = ap (λ o. buildNumber o row (length out)) same-operators
+  same-asked (repair bytes out) = ap (λ o. repairNumber o bytes (length out)) same-operators
+  same-asked (judge bytes) = ap (λ o. recordNumber o bytes) same-operators
+  same-asked (yield bytes out) = ap (λ o. yieldNumber o bytes (length out)) same-operators
+  same-asked (operand right bytes) = ap (λ o. recordNumber o bytes) same-operators
+
   pub same-number : (c : Call) → reply p c .number ≡ bookNumber b c
-  unfolding putRowNumber putRecordNumber imageNumber
+  unfolding putRowNumber putRecordNumber
   same-number (load n rules) = load-same n rules
   same-number (loadList n rules) = load-same n (ruleBytes rules) ∙ list-same n rules
-  same-number (putRow k row) = ap (λ n. first (placeCheck k ∷ rowChecks n row)) same-operators
-  same-number (putRecord k bytes) = ap (λ n. first (placeCheck k ∷ recordChecks n bytes)) same-operators
+  same-number (putRow k row) = ap (λ o. first (placeCheck k ∷ rowChecks o row)) same-operators
+  same-number (putRecord k bytes) = ap (λ o. first (placeCheck k ∷ recordChecks o bytes)) same-operators
   same-number (drop k) = drop-same k
-  same-number (fetchRecord k out) = fetch-record-same k out
-  same-number (fetchRow k out) = fetch-row-same k out
-  same-number (image k out) = refl
-  same-number (build row out) = ap (λ n. buildNumber n row (length out)) same-operators
-  same-number (repair bytes out) = ap (λ n. repairNumber n bytes (length out)) same-operators
-  same-number (judge bytes) = ap (λ n. recordNumber n bytes) same-operators
-  same-number (yield bytes out) = ap (λ n. yieldNumber n bytes (length out)) same-operators
-  same-number (operand right bytes) = ap (λ n. recordNumber n bytes) same-operators
+  same-number (ask q) = same-asked q

@@ -1,4 +1,4 @@
--- Which operators rows, records and trees use, and what a smaller or larger count of operators makes of a tree. Assumes nothing.
+-- Which operators rows, records and trees use, and what other operators make of a tree. Assumes nothing.
 use Prim.Native.Nat.{ℕ, _+_, _≤_, _<_}
 use native.Mathlib.Omega.{arith}
 use mathlib.Core.Path.{_≡_, refl, ap, ap₂, sym, _∙_}
@@ -9,7 +9,7 @@ use lib.ListN.{length}
 use borrow.Author.Tests.{lt-ltb, ltb-true, not-false}
 use Rattle.expression.specs.Lists.{any, one, count}
 use Rattle.expression.specs.Limits.{mostOperators}
-use Rattle.expression.specs.Token.{Class, Infix, Opening, Closing, Reading, Meaningless, closing, class}
+use Rattle.expression.specs.Token.{Class, Infix, Opening, Closing, Reading, Meaningless, closing, Operators, class}
 use Rattle.expression.specs.Tree.{Tree, reading, bracket, binary, yield, recordOf, Over}
 use Rattle.expression.proofs.Classes.{class-operator, class-reading, by-class}
 use Rattle.monitor.specs.Panel.{isEmpty, usesBeyond}
@@ -60,27 +60,27 @@ record-not-empty (bracket t) = refl
 record-not-empty (binary o l r) = refl
 
 -- ---- a tree's row uses the operators that its record does
-pub uses-yield : (m : ℕ) (t : Tree) → usesBeyond m (recordOf t) ≡ usesBeyond m (yield t)
+pub uses-yield : (m : Operators) (t : Tree) → usesBeyond m (recordOf t) ≡ usesBeyond m (yield t)
 unfolding usesBeyond
 uses-yield m (reading a) = refl
 uses-yield m (bracket t) =
     uses-yield m t ∙ sym (any-append (beyond m) (yield t) (closing ∷ []) ∙ or-none (any (beyond m) (yield t)))
   where
-    beyond : ℕ → ℕ → Bool
-    beyond m c = ltb c mostOperators && not (ltb c m)
+    beyond : Operators → ℕ → Bool
+    beyond m c = ltb c mostOperators && not (ltb c (m .count))
 uses-yield m (binary o l r) =
     ap (λ x. beyond m o || x) (any-append (beyond m) (recordOf l) (recordOf r) ∙ ap₂ _||_ (uses-yield m l) (uses-yield m r))
     ∙ or-middle (beyond m o) (any (beyond m) (yield l)) (any (beyond m) (yield r))
     ∙ sym (any-append (beyond m) (yield l) (o ∷ yield r))
   where
-    beyond : ℕ → ℕ → Bool
-    beyond m c = ltb c mostOperators && not (ltb c m)
+    beyond : Operators → ℕ → Bool
+    beyond m c = ltb c mostOperators && not (ltb c (m .count))
 
--- ---- a tree over n operators that uses none beyond m is over m
-operator-under : (n m c : ℕ) → class n c ≡ Infix → (ltb c mostOperators && not (ltb c m)) ≡ false → class m c ≡ Infix
+-- ---- a tree over some operators that uses none beyond others is over those
+operator-under : (n m : Operators) (c : ℕ) → class n c ≡ Infix → (ltb c mostOperators && not (ltb c (m .count))) ≡ false → class m c ≡ Infix
 operator-under n m c h e =
     let small = as-operator n c (ap isInfix h) in
-    class-operator m c small (ltb-true c m (not-false (ltb c m) (rw (lt-ltb c mostOperators small) at e)))
+    class-operator m c small (ltb-true c (m .count) (not-false (ltb c (m .count)) (rw (lt-ltb c mostOperators small) at e)))
   where
     isInfix : Class → Bool
     isInfix Infix = true
@@ -89,12 +89,12 @@ operator-under n m c h e =
     isInfix Reading = false
     isInfix Meaningless = false
 
-    as-operator : (n c : ℕ) → isInfix (class n c) ≡ true → c < mostOperators
+    as-operator : (n : Operators) (c : ℕ) → isInfix (class n c) ≡ true → c < mostOperators
     as-operator n c =
         by-class n (λ x. isInfix x ≡ true → c < mostOperators) c (λ l _ _. l) (λ _ q. absurd (false≢true q)) (λ _ q. absurd (false≢true q))
         (λ _ _ q. absurd (false≢true q)) (λ q. absurd (false≢true q))
 
-reading-under : (n m c : ℕ) → class n c ≡ Reading → class m c ≡ Reading
+reading-under : (n m : Operators) (c : ℕ) → class n c ≡ Reading → class m c ≡ Reading
 reading-under n m c h = go (ap isReading h)
   where
     isReading : Class → Bool
@@ -109,7 +109,7 @@ reading-under n m c h = go (ap isReading h)
         by-class n (λ x. isReading x ≡ true → class m c ≡ Reading) c (λ _ _ q. absurd (false≢true q)) (λ _ q. absurd (false≢true q)) (λ _ q. absurd (false≢true q))
         (λ l g _. class-reading m c l g) (λ q. absurd (false≢true q))
 
-pub over-under : (n m : ℕ) (t : Tree) → Over (class n) t → usesBeyond m (recordOf t) ≡ false → Over (class m) t
+pub over-under : (n m : Operators) (t : Tree) → Over (class n) t → usesBeyond m (recordOf t) ≡ false → Over (class m) t
 unfolding usesBeyond
 over-under n m (reading a) h e = reading-under n m a h
 over-under n m (bracket t) h e = over-under n m t h e
@@ -119,4 +119,4 @@ over-under n m (binary o l r) h e =
     (operator-under n m o (h .0) p, over-under n m l (h .1) x, over-under n m r (h .2) y)
   where
     beyond : ℕ → Bool
-    beyond c = ltb c mostOperators && not (ltb c m)
+    beyond c = ltb c mostOperators && not (ltb c (m .count))

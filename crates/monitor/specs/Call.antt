@@ -4,42 +4,51 @@ use mathlib.Core.Bool.{Bool}
 use mathlib.Core.List.{List, []}
 use Rattle.disambiguation.specs.Rules.{Rule}
 
--- `loadList` is the load whose rules come as a list of records. `out` is what the lent output holds before the call.
+-- The questions: calls that change nothing. `out` is what the lent output holds before the call.
+pub data Question : Type 0 where
+  fetchRecord : (place : ℕ) (out : List ℕ) → Question
+  fetchRow : (place : ℕ) (out : List ℕ) → Question
+  image : (place : ℕ) (out : List ℕ) → Question
+  build : (row : List ℕ) (out : List ℕ) → Question
+  repair : (bytes : List ℕ) (out : List ℕ) → Question
+  judge : (bytes : List ℕ) → Question
+  yield : (bytes : List ℕ) (out : List ℕ) → Question
+  operand : (right : Bool) (bytes : List ℕ) → Question
+
+-- All calls. `loadList` is the load whose rules come as a list of records.
 pub data Call : Type 0 where
   load : (n : ℕ) (rules : List ℕ) → Call
   loadList : (n : ℕ) (rules : List Rule) → Call
   putRow : (place : ℕ) (row : List ℕ) → Call
   putRecord : (place : ℕ) (bytes : List ℕ) → Call
   drop : (place : ℕ) → Call
-  fetchRecord : (place : ℕ) (out : List ℕ) → Call
-  fetchRow : (place : ℕ) (out : List ℕ) → Call
-  image : (place : ℕ) (out : List ℕ) → Call
-  build : (row : List ℕ) (out : List ℕ) → Call
-  repair : (bytes : List ℕ) (out : List ℕ) → Call
-  judge : (bytes : List ℕ) → Call
-  yield : (bytes : List ℕ) (out : List ℕ) → Call
-  operand : (right : Bool) (bytes : List ℕ) → Call
+  ask : Question → Call
 
--- what the lent output holds before the call; nothing where none is lent
+-- what the output lent to a question holds before it; nothing where none is lent
+abbrev pub lentBefore : Question → List ℕ
+lentBefore (fetchRecord k out) = out
+lentBefore (fetchRow k out) = out
+lentBefore (image k out) = out
+lentBefore (build row out) = out
+lentBefore (repair bytes out) = out
+lentBefore (judge bytes) = []
+lentBefore (yield bytes out) = out
+lentBefore (operand right bytes) = []
+
+-- the same of any call
 abbrev pub lentTo : Call → List ℕ
-lentTo (fetchRecord k out) = out
-lentTo (fetchRow k out) = out
-lentTo (image k out) = out
-lentTo (build row out) = out
-lentTo (repair bytes out) = out
-lentTo (yield bytes out) = out
 lentTo (load n rules) = []
 lentTo (loadList n rules) = []
 lentTo (putRow k row) = []
 lentTo (putRecord k bytes) = []
 lentTo (drop k) = []
-lentTo (judge bytes) = []
-lentTo (operand right bytes) = []
+lentTo (ask q) = lentBefore q
 
--- What is compared at every call: its number; the whole lent output after it, empty where none is lent; a judge's count, 0 for others;
--- an operand's part, empty for others.
+-- What is compared at every call: its number; the whole lent output after it, empty where none is lent, and how many bytes at its front are the
+-- answer; a judge's count, 0 for others; an operand's part, empty for others.
 pub record Reply : Type 0 where
   pub number : ℕ
+  pub length : ℕ
   pub output : List ℕ
   pub count : ℕ
   pub part : List ℕ

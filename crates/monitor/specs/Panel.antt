@@ -1,4 +1,4 @@
--- A panel value, and what each call makes of it and answers: the calls' contracts are these definitions. Assumes nothing.
+-- A panel value, and the checks and the rebuilding that its calls share. Assumes nothing.
 use Prim.Native.Nat.{ℕ, zero, suc}
 use mathlib.Core.Bool.{Bool, true, false, not, _&&_, cond}
 use mathlib.Core.List.{List, [], _∷_, _++_}
@@ -6,7 +6,7 @@ use lib.Dec.{eqb, ltb}
 use Rattle.expression.specs.Lists.{any}
 use Rattle.expression.specs.Limits.{mostOperators}
 use Rattle.expression.specs.Refusal.{Check, accepted, place, empty, inUse}
-use Rattle.expression.specs.Token.{class}
+use Rattle.expression.specs.Token.{Operators, operators, class}
 use Rattle.expression.specs.Decode.{treeOf}
 use Rattle.expression.specs.Operand.{rowOf}
 use Rattle.expression.specs.Checks.{recordNumber}
@@ -14,20 +14,24 @@ use Rattle.disambiguation.specs.Rules.{Rule, L, R}
 use Rattle.disambiguation.specs.Below.{allBelow}
 use Rattle.disambiguation.specs.Verdict.{ruleChecks}
 use Rattle.disambiguation.specs.SheetChecks.{rulesOf, orderChecks, listOrderChecks}
-use Rattle.sheet.specs.Relation as relation
-use Rattle.sheet.specs.declared.Sheet.{Sheet}
+use Rattle.sheet.specs.Layout.{operatorsOf}
+use Rattle.sheet.specs.Layout as layout
+use Rattle.sheet.specs.Relation.{closesIn}
 use Rattle.parser.specs.Build.{built}
 use Rattle.places.specs.Store.{placeCount, held, stored}
 use Rattle.places.specs.Store as store
 
--- the sheet in force, and the store of the sixteen places
+-- the sheet in force, and the store of the sixteen places, as they are lent
 pub record Panel : Type 0 where
-  pub sheet : Sheet
+  pub sheet : List ℕ
   pub places : List ℕ
+
+abbrev pub panel : List ℕ → List ℕ → Panel
+panel sheet places = record { sheet = sheet; places = places }
 
 -- n = 0, no rules, sixteen empty places
 abbrev pub fresh : Panel
-fresh = record { sheet = relation.fresh; places = store.fresh }
+fresh = panel layout.fresh store.fresh
 
 -- 8 and 9
 abbrev pub placeCheck : ℕ → Check
@@ -41,32 +45,32 @@ abbrev pub emptyCheck : List ℕ → Check
 emptyCheck bytes = (isEmpty bytes, empty)
 
 -- the bytes of a row or a record use an operator that is not below n
-unfoldable pub usesBeyond : ℕ → List ℕ → Bool
-usesBeyond n bytes = any (λ c. ltb c mostOperators && not (ltb c n)) bytes
+unfoldable pub usesBeyond : Operators → List ℕ → Bool
+usesBeyond ops bytes = any (λ c. ltb c mostOperators && not (ltb c (ops .count))) bytes
 
 -- 11: what some place holds does
-abbrev pub inUseCheck : ℕ → (ℕ → List ℕ) → Check
-inUseCheck n holds = (not (allBelow placeCount (λ k. not (usesBeyond n (holds k)))), inUse)
+abbrev pub inUseCheck : Operators → (ℕ → List ℕ) → Check
+inUseCheck ops holds = (not (allBelow placeCount (λ k. not (usesBeyond ops (holds k)))), inUse)
 
 -- 1, 2, 3, 4, 5 of a sheet
 abbrev pub sheetChecks : ℕ → List ℕ → List Check
-sheetChecks n bytes = orderChecks n bytes ++ ruleChecks n (L (rulesOf bytes)) (R (rulesOf bytes))
+sheetChecks n bytes = orderChecks n bytes ++ ruleChecks (operators n) (L (rulesOf bytes)) (R (rulesOf bytes))
 
 -- 1, 3, 4, 5 of a sheet whose rules come as a list
 abbrev pub listChecks : ℕ → List Rule → List Check
-listChecks n rules = listOrderChecks n rules ++ ruleChecks n (L rules) (R rules)
+listChecks n rules = listOrderChecks n rules ++ ruleChecks (operators n) (L rules) (R rules)
 
 -- x, where the number is 0, and else y
 abbrev pub ifAccepted : {A : Type 0} → ℕ → A → A → A
 ifAccepted number x y = cond (eqb number accepted) x y
 
--- the record of the row of a record, built by a relation
-abbrev pub rebuilt : ℕ → (ℕ → ℕ → Bool) → List ℕ → List ℕ
-rebuilt n relation bytes = built relation (rowOf (treeOf (class n) bytes))
+-- the record of the row of a record, built under a sheet
+abbrev pub rebuilt : List ℕ → List ℕ → List ℕ
+rebuilt sheet bytes = built (closesIn sheet) (rowOf (treeOf (class (operatorsOf sheet)) bytes))
 
 -- the places below k rebuilt, each where it holds a tree
-unfoldable pub rebuiltTo : ℕ → (ℕ → ℕ → Bool) → ℕ → List ℕ → List ℕ
-rebuiltTo n relation zero places = places
-rebuiltTo n relation (suc k) places =
-    let before = rebuiltTo n relation k places in
-    ifAccepted (recordNumber n (held before k)) (stored before k (rebuilt n relation (held before k))) before
+unfoldable pub rebuiltTo : List ℕ → ℕ → List ℕ → List ℕ
+rebuiltTo sheet zero places = places
+rebuiltTo sheet (suc k) places =
+    let before = rebuiltTo sheet k places in
+    ifAccepted (recordNumber (operatorsOf sheet) (held before k)) (stored before k (rebuilt sheet (held before k))) before

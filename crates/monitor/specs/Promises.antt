@@ -9,7 +9,7 @@ use mathlib.Core.List.{List}
 use lib.ListN.{length}
 use Rattle.expression.specs.Limits.{mostTokens, mostRecordBytes}
 use Rattle.expression.specs.Refusal.{accepted, dead, double}
-use Rattle.expression.specs.Token.{class}
+use Rattle.expression.specs.Token.{Operators, operators, class}
 use Rattle.expression.specs.Grammar.{Row}
 use Rattle.expression.specs.Tree.{Tree, recordOf, Over}
 use Rattle.expression.specs.Tree as tree
@@ -18,7 +18,7 @@ use Rattle.disambiguation.specs.Conflicts.{conflictCount, ConflictFreeTree}
 use Rattle.disambiguation.specs.ExactlyOne.{SomeRowHasNone, SomeRowHasTwo, EveryRowHasExactlyOne}
 use Rattle.disambiguation.specs.SheetChecks.{rulesOf, InOrder, ListInOrder}
 use Rattle.sheet.specs.InForce.{InForce}
-use Rattle.monitor.specs.Call.{Call, lentTo, load, loadList, build, repair, judge, yield}
+use Rattle.monitor.specs.Call.{Call, lentTo, load, loadList, ask, build, repair, judge, yield}
 use Rattle.monitor.specs.Panel.{Panel}
 use Rattle.monitor.specs.Steps.{after, reply}
 use Rattle.monitor.specs.Answers.{Answers}
@@ -37,9 +37,9 @@ abbrev pub ForItsRules : ℕ → Type 0
 ForItsRules number = (number ≡ dead) ⊎ (number ≡ double)
 
 module _ (cs : List Call) where
-  -- n and the rules of the sheet in force
-  abbrev n : ℕ
-  n = inForce cs .n
+  -- the operators and the rules of the sheet in force
+  abbrev ops : Operators
+  ops = inForce cs .operators
 
   abbrev rules : List Rule
   rules = inForce cs .rules
@@ -47,36 +47,36 @@ module _ (cs : List Call) where
   -- Demand 2. Within the lengths, and with room for the answer,
   pub record Demand2 : Type 0 where
     -- a row is built into its conflict-free tree;
-    pub built : (row : List ℕ) → Row n row → length row ≤ mostTokens
-        → (t : Tree) × ConflictFreeTree n rules row t × ((out : List ℕ) → length (recordOf t) ≤ length out → AnsweredBy cs (build row out) out (recordOf t))
+    pub built : (row : List ℕ) → Row ops row → length row ≤ mostTokens
+        → (t : Tree) × ConflictFreeTree ops rules row t × ((out : List ℕ) → length (recordOf t) ≤ length out → AnsweredBy cs (ask (build row out)) out (recordOf t))
     -- a tree gives back its row;
-    pub given-back : (t : Tree) → Over (class n) t → Within t → (out : List ℕ) → length (tree.yield t) ≤ length out
-        → AnsweredBy cs (yield (recordOf t) out) out (tree.yield t)
+    pub given-back : (t : Tree) → Over (class ops) t → Within t → (out : List ℕ) → length (tree.yield t) ≤ length out
+        → AnsweredBy cs (ask (yield (recordOf t) out)) out (tree.yield t)
     -- repair turns any tree over the sheet's operators into the conflict-free tree of the same row;
-    pub repaired : (t : Tree) → Over (class n) t → Within t
-        → (u : Tree) × ConflictFreeTree n rules (tree.yield t) u × ((out : List ℕ) → length (recordOf u) ≤ length out → AnsweredBy cs (repair (recordOf t) out) out (recordOf u))
+    pub repaired : (t : Tree) → Over (class ops) t → Within t
+        → (u : Tree) × ConflictFreeTree ops rules (tree.yield t) u × ((out : List ℕ) → length (recordOf u) ≤ length out → AnsweredBy cs (ask (repair (recordOf t) out)) out (recordOf u))
     -- a tree's conflict count is the number of excluded patterns that it shows.
-    pub counted : (t : Tree) → Over (class n) t → Within t
-        → (answer cs (judge (recordOf t)) .number ≡ accepted) × (answer cs (judge (recordOf t)) .count ≡ conflictCount rules t)
+    pub counted : (t : Tree) → Over (class ops) t → Within t
+        → (answer cs (ask (judge (recordOf t))) .number ≡ accepted) × (answer cs (ask (judge (recordOf t))) .count ≡ conflictCount rules t)
 
   -- Demand 3.
   pub record Demand3 : Type 0 where
-    -- The sheet in force is that of the last accepted load of the list, or the fresh panel's: the panel's has its n, and its relation is that of its rules.
-    pub sheet : InForce (panelAfter cs .sheet) n rules
+    -- The sheet in force is that of the last accepted load of the list, or the fresh panel's: the panel's has its operators, and its relation is that of its rules.
+    pub sheet : InForce (panelAfter cs .sheet) ops rules
     -- Every row of any length over the operators of the sheet in force has exactly one conflict-free tree.
-    pub one-tree : EveryRowHasExactlyOne n rules
+    pub one-tree : EveryRowHasExactlyOne ops rules
     -- A place is filled exactly when a put there was accepted and no drop there was accepted since,
     pub filled : (k : ℕ) → Filled cs k ↔ ((row : List ℕ) × (lastPut k cs ≡ some row))
     -- and it then holds that tree, for the row, or the record's row, of the last accepted put there.
-    pub held-tree : (k : ℕ) (row : List ℕ) → lastPut k cs ≡ some row → (t : Tree) × ConflictFreeTree n rules row t × HoldsTree cs k t
+    pub held-tree : (k : ℕ) (row : List ℕ) → lastPut k cs ≡ some row → (t : Tree) × ConflictFreeTree ops rules row t × HoldsTree cs k t
     -- Whatever is called next, the answer is the one that the book gives.
     pub answered : (c : Call) → Answers (bookAfter cs) c (answer cs c)
     -- A sheet in order is refused for its rules exactly when some row of any length has no conflict-free tree under it, or two or more: in bytes,
     pub refused : (m : ℕ) (bytes : List ℕ) → InOrder m bytes
-        → ForItsRules (answer cs (load m bytes) .number) ↔ (SomeRowHasNone m (rulesOf bytes) ⊎ SomeRowHasTwo m (rulesOf bytes))
+        → ForItsRules (answer cs (load m bytes) .number) ↔ (SomeRowHasNone (operators m) (rulesOf bytes) ⊎ SomeRowHasTwo (operators m) (rulesOf bytes))
     -- and with its rules as a list of records.
     pub refused-list : (m : ℕ) (given : List Rule) → ListInOrder m given
-        → ForItsRules (answer cs (loadList m given) .number) ↔ (SomeRowHasNone m given ⊎ SomeRowHasTwo m given)
+        → ForItsRules (answer cs (loadList m given) .number) ↔ (SomeRowHasNone (operators m) given ⊎ SomeRowHasTwo (operators m) given)
     -- Two trees over the operators of the sheet in force, within the lengths, repair to the same bytes exactly when their rows are the same.
-    pub same-bytes : (t u : Tree) → Over (class n) t → Over (class n) u → Within t → Within u
+    pub same-bytes : (t u : Tree) → Over (class ops) t → Over (class ops) u → Within t → Within u
         → ((bytes : List ℕ) × RepairsTo cs t bytes × RepairsTo cs u bytes) ↔ (tree.yield t ≡ tree.yield u)

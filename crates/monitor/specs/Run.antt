@@ -8,7 +8,7 @@ use lib.Dec.{eqb}
 use lib.ListN.{length}
 use lib.ListN as lists
 use Rattle.expression.specs.Refusal.{accepted}
-use Rattle.expression.specs.Token.{class}
+use Rattle.expression.specs.Token.{Operators, operators, class}
 use Rattle.expression.specs.Tree.{Tree, recordOf}
 use Rattle.expression.specs.Tree as tree
 use Rattle.expression.specs.Decode.{treeOf}
@@ -16,7 +16,7 @@ use Rattle.expression.specs.Operand.{rowOf}
 use Rattle.disambiguation.specs.Rules.{Rule}
 use Rattle.disambiguation.specs.SheetChecks.{rulesOf}
 use Rattle.places.specs.Store.{imageOf}
-use Rattle.monitor.specs.Call.{Call, load, loadList, putRow, putRecord, drop, fetchRecord, fetchRow, image, build, repair, judge, yield, operand, Reply}
+use Rattle.monitor.specs.Call.{Question, Call, load, loadList, putRow, putRecord, drop, ask, fetchRecord, fetchRow, image, repair, Reply}
 use Rattle.monitor.specs.Panel.{Panel, fresh}
 use Rattle.monitor.specs.Steps.{after, reply}
 use Rattle.monitor.specs.Book.{Book, blank, next}
@@ -39,46 +39,32 @@ bookAfter (c ∷ cs) = next (bookAfter cs) c
 abbrev pub isAccepted : List Call → Call → Bool
 isAccepted cs c = eqb (answer cs c .number) accepted
 
--- The sheet in force, said of the list: n and the rules of the last accepted load, or the fresh panel's.
+-- The sheet in force, said of the list: the operators and the rules of the last accepted load, or the fresh panel's.
 pub record Rules : Type 0 where
-  pub n : ℕ
+  pub operators : Operators
   pub rules : List Rule
 
-abbrev pub rulesIn : ℕ → List Rule → Rules
-rulesIn n rules = record { n = n; rules = rules }
+abbrev pub rulesIn : Operators → List Rule → Rules
+rulesIn ops rules = record { operators = ops; rules = rules }
 
 unfoldable pub inForce : List Call → Rules
-inForce [] = rulesIn 0 []
-inForce (load n rules ∷ cs) = cond (isAccepted cs (load n rules)) (rulesIn n (rulesOf rules)) (inForce cs)
-inForce (loadList n rules ∷ cs) = cond (isAccepted cs (loadList n rules)) (rulesIn n rules) (inForce cs)
+inForce [] = rulesIn (operators 0) []
+inForce (load n rules ∷ cs) = cond (isAccepted cs (load n rules)) (rulesIn (operators n) (rulesOf rules)) (inForce cs)
+inForce (loadList n rules ∷ cs) = cond (isAccepted cs (loadList n rules)) (rulesIn (operators n) rules) (inForce cs)
 inForce (putRow k row ∷ cs) = inForce cs
 inForce (putRecord k bytes ∷ cs) = inForce cs
 inForce (drop k ∷ cs) = inForce cs
-inForce (fetchRecord k out ∷ cs) = inForce cs
-inForce (fetchRow k out ∷ cs) = inForce cs
-inForce (image k out ∷ cs) = inForce cs
-inForce (build row out ∷ cs) = inForce cs
-inForce (repair bytes out ∷ cs) = inForce cs
-inForce (judge bytes ∷ cs) = inForce cs
-inForce (yield bytes out ∷ cs) = inForce cs
-inForce (operand right bytes ∷ cs) = inForce cs
+inForce (ask q ∷ cs) = inForce cs
 
 -- The row, or the record's row, of the last accepted put at the place k; none where there was no such put, or a drop there was accepted since.
 unfoldable pub lastPut : ℕ → List Call → Option (List ℕ)
 lastPut k [] = none
 lastPut k (loadList n rules ∷ cs) = lastPut k cs
 lastPut k (putRow j row ∷ cs) = cond (isAccepted cs (putRow j row) && eqb k j) (some row) (lastPut k cs)
-lastPut k (putRecord j bytes ∷ cs) = cond (isAccepted cs (putRecord j bytes) && eqb k j) (some (rowOf (treeOf (class (inForce cs .n)) bytes))) (lastPut k cs)
+lastPut k (putRecord j bytes ∷ cs) = cond (isAccepted cs (putRecord j bytes) && eqb k j) (some (rowOf (treeOf (class (inForce cs .operators)) bytes))) (lastPut k cs)
 lastPut k (drop j ∷ cs) = cond (isAccepted cs (drop j) && eqb k j) none (lastPut k cs)
 lastPut k (load n rules ∷ cs) = lastPut k cs
-lastPut k (fetchRecord j out ∷ cs) = lastPut k cs
-lastPut k (fetchRow j out ∷ cs) = lastPut k cs
-lastPut k (image j out ∷ cs) = lastPut k cs
-lastPut k (build row out ∷ cs) = lastPut k cs
-lastPut k (repair bytes out ∷ cs) = lastPut k cs
-lastPut k (judge bytes ∷ cs) = lastPut k cs
-lastPut k (yield bytes out ∷ cs) = lastPut k cs
-lastPut k (operand right bytes ∷ cs) = lastPut k cs
+lastPut k (ask q ∷ cs) = lastPut k cs
 
 module _ (cs : List Call) where
   -- the call is accepted, and its output is the bytes, then what stood there before
@@ -87,9 +73,9 @@ module _ (cs : List Call) where
 
   -- A place holds a tree: any fetch or image with room enough, called there next, would be accepted and answer from that tree.
   pub record HoldsTree (k : ℕ) (t : Tree) : Type 0 where
-    pub fetches-record : (out : List ℕ) → length (recordOf t) ≤ length out → AnsweredBy (fetchRecord k out) out (recordOf t)
-    pub fetches-row : (out : List ℕ) → length (tree.yield t) ≤ length out → AnsweredBy (fetchRow k out) out (tree.yield t)
-    pub images : (out : List ℕ) → length (imageOf (recordOf t)) ≤ length out → AnsweredBy (image k out) out (imageOf (recordOf t))
+    pub fetches-record : (out : List ℕ) → length (recordOf t) ≤ length out → AnsweredBy (ask (fetchRecord k out)) out (recordOf t)
+    pub fetches-row : (out : List ℕ) → length (tree.yield t) ≤ length out → AnsweredBy (ask (fetchRow k out)) out (tree.yield t)
+    pub images : (out : List ℕ) → length (imageOf (recordOf t)) ≤ length out → AnsweredBy (ask (image k out)) out (imageOf (recordOf t))
 
   -- and so is filled
   abbrev pub Filled : ℕ → Type 0
@@ -98,4 +84,4 @@ module _ (cs : List Call) where
   -- A tree repairs to the bytes that an accepted repair of its record answers: with room for just a record of its length, they are the whole output.
   abbrev pub RepairsTo : Tree → List ℕ → Type 0
   RepairsTo t bytes =
-      (out : List ℕ) → length out ≡ length (recordOf t) → (answer cs (repair (recordOf t) out) .number ≡ accepted) × (answer cs (repair (recordOf t) out) .output ≡ bytes)
+      (out : List ℕ) → length out ≡ length (recordOf t) → (answer cs (ask (repair (recordOf t) out)) .number ≡ accepted) × (answer cs (ask (repair (recordOf t) out)) .output ≡ bytes)

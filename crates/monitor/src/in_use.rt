@@ -1,22 +1,27 @@
-// Whether a held tree uses an operator that is not below a new n.
+// Whether a held tree uses an operator that a new sheet does not have.
 ghost use mathlib.Core.Path.{_≡_};
 ghost use mathlib.Core.Bool.{not, _&&_};
 ghost use lib.Dec.{ltb};
 ghost use Rattle.expression.specs.Limits.{mostOperators};
+ghost use Rattle.expression.specs.Token.{operators};
+ghost use Rattle.sheet.specs.Layout.{operatorsOf};
 ghost use Rattle.places.specs.Store.{held};
 ghost use Rattle.monitor.specs.Panel.{usesBeyond, inUseCheck};
+use expression::limits::MOST_OPERATORS;
 use places::limits;
+use places::limits::STORE_BYTES;
+use sheet::layout::SHEET_WORDS;
 
 // The byte is an operator not below n.
 fn is_beyond(n: u8, byte: u8) -> bool
     ensures { λ r. ⌜ r ≡ (ltb byte mostOperators && not (ltb byte n)) ⌝ }
 {
-    (n <= byte) & (byte < sheet::limits::MOST_OPERATORS)
+    (n <= byte) & (byte < MOST_OPERATORS)
 }
 
 // Some byte is. The loop has no branch, so that bytes are tested side by side.
 fn uses_beyond(n: u8, bytes: &[u8]) -> bool
-    ensures { λ r. ⌜ r ≡ usesBeyond n (now (bytes .entry)) ⌝ }
+    ensures { λ r. ⌜ r ≡ usesBeyond (operators n) (now (bytes .entry)) ⌝ }
 {
     let mut found = false;
     let mut i: usize = 0;
@@ -28,16 +33,16 @@ fn uses_beyond(n: u8, bytes: &[u8]) -> bool
 }
 
 // The place holds such a byte.
-fn place_uses(n: u8, places: &[u8; 4096], place: u8) -> bool
-    ensures { λ r. ⌜ r ≡ usesBeyond n (held (now (places .entry)) place) ⌝ }
+fn place_uses(n: u8, places: &[u8; STORE_BYTES], place: u8) -> bool
+    ensures { λ r. ⌜ r ≡ usesBeyond (operators n) (held (now (places .entry)) place) ⌝ }
 {
     let bytes = places::held_record(places, place);
     uses_beyond(n, bytes)
 }
 
 // Some place does.
-pub fn in_use(n: u8, places: &[u8; 4096]) -> bool
-    ensures { λ r. ⌜ r ≡ inUseCheck n (held (now (places .entry))) .0 ⌝ }
+fn any_uses(n: u8, places: &[u8; STORE_BYTES]) -> bool
+    ensures { λ r. ⌜ r ≡ inUseCheck (operators n) (held (now (places .entry))) .0 ⌝ }
 {
     let mut place: u8 = 0;
     while place < limits::PLACE_COUNT {
@@ -47,4 +52,11 @@ pub fn in_use(n: u8, places: &[u8; 4096]) -> bool
         place += 1;
     }
     false
+}
+
+// The same under a sheet's operators: their count tells.
+pub fn in_use(sheet: &[u32; SHEET_WORDS], places: &[u8; STORE_BYTES]) -> bool
+    ensures { λ r. ⌜ r ≡ inUseCheck (operatorsOf (now (sheet .entry))) (held (now (places .entry))) .0 ⌝ }
+{
+    any_uses(sheet::operator_count(sheet), places)
 }

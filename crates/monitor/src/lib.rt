@@ -1,91 +1,102 @@
-// The panel's calls: a sheet in force by value, and the sixteen places lent. After a refusal the panel and a lent output are as they were.
-ghost use mathlib.Core.Path.{_≡_};
+// The panel's calls: the sheet in force and the sixteen places are lent. After a refusal the panel and a lent output are as they were.
 ghost use mathlib.Core.Bool.{Bool};
-ghost use Rattle.expression.specs.Checks.{recordNumber};
-ghost use Rattle.expression.specs.Operand.{operandPart};
-ghost use Rattle.record.specs.Answers.{judgement};
-ghost use Rattle.monitor.specs.Contracts.{panel, AnswersBuild, AnswersRepair, AnswersYield, AnswersRecord, AnswersRow, AnswersImage, LoadsPanel, PutsRow, PutsRecord, Drops};
+ghost use Rattle.monitor.specs.Call.{load, putRow, putRecord, fetchRecord, fetchRow, image, build, repair, yield};
+ghost use Rattle.monitor.specs.Panel.{panel};
+ghost use Rattle.monitor.specs.Contracts.{Changes, Drops, Answers, AnswersUnder, AnswersFrom, Judges, NumbersOperand, FindsOperand};
+use expression::limits::MOST_RECORD_BYTES;
+use expression::refusal;
 use places::limits;
+use places::limits::STORE_BYTES;
 use record::Answer;
 use record::Judgement;
-use sheet::Loaded;
-use sheet::Sheet;
-use sheet::refusal;
+use sheet::layout::SHEET_WORDS;
 
 mod in_use;
 mod storing;
 
+// The count of places, as a caller's number is compared with it.
+const PLACE_COUNT: u32 = limits::PLACE_COUNT as u32;
+
 // The sheet of n operators and the rules takes the old one's place, and every held tree becomes the conflict-free tree of its row.
-pub fn load(sheet: Sheet, places: &mut [u8; 4096], n: u8, rules: &[u8]) -> Loaded
-    ensures { λ r. ⌜ LoadsPanel (panel sheet (now (places .entry))) n (now (rules .entry)) r (now (places .exit)) ⌝ }
+pub fn load(
+    sheet: &mut [u32; SHEET_WORDS],
+    places: &mut [u8; STORE_BYTES],
+    n: u32,
+    rules: &[u8],
+) -> u8
+    ensures { λ r. ⌜ Changes (panel (now (sheet .entry)) (now (places .entry))) (load n (now (rules .entry))) r (panel (now (sheet .exit)) (now (places .exit))) ⌝ }
 {
-    let loaded = sheet::load(sheet, n, rules);
-    let number = loaded.number;
+    let mut new = [0u32; SHEET_WORDS];
+    let number = sheet::load(&mut new, n, rules);
     if number != refusal::ACCEPTED {
-        return loaded;
+        return number;
     }
-    let new = loaded.sheet;
-    if in_use::in_use(n, places) {
-        return Loaded {
-            number: refusal::IN_USE,
-            sheet: sheet,
-        };
+    if in_use::in_use(&new, places) {
+        return refusal::IN_USE;
     }
-    storing::rebuild_all(n, &new.closes, places);
-    Loaded {
-        number: refusal::ACCEPTED,
-        sheet: new,
-    }
+    storing::rebuild_all(&new, places);
+    *sheet = new;
+    refusal::ACCEPTED
 }
 
 // The place holds the record of the row's tree.
-pub fn put_row(sheet: Sheet, places: &mut [u8; 4096], place: u8, row: &[u8]) -> u8
-    ensures { λ r. ⌜ PutsRow (panel sheet (now (places .entry))) place (now (row .entry)) r (now (places .exit)) ⌝ }
+pub fn put_row(
+    sheet: &[u32; SHEET_WORDS],
+    places: &mut [u8; STORE_BYTES],
+    place: u32,
+    row: &[u8],
+) -> u8
+    ensures { λ r. ⌜ Changes (panel (now (sheet .entry)) (now (places .entry))) (putRow place (now (row .entry))) r (panel (now (sheet .entry)) (now (places .exit))) ⌝ }
 {
-    if limits::PLACE_COUNT <= place {
+    if PLACE_COUNT <= place {
         return refusal::PLACE;
     }
-    let mut buffer = [0u8; 255];
-    storing::store_row(sheet.n, &sheet.closes, places, place, row, &mut buffer)
+    let mut buffer = [0u8; MOST_RECORD_BYTES];
+    storing::store_row(sheet, places, place as u8, row, &mut buffer)
 }
 
 // The place holds the record of the conflict-free tree of the record's row.
-pub fn put_record(sheet: Sheet, places: &mut [u8; 4096], place: u8, bytes: &[u8]) -> u8
-    ensures { λ r. ⌜ PutsRecord (panel sheet (now (places .entry))) place (now (bytes .entry)) r (now (places .exit)) ⌝ }
+pub fn put_record(
+    sheet: &[u32; SHEET_WORDS],
+    places: &mut [u8; STORE_BYTES],
+    place: u32,
+    bytes: &[u8],
+) -> u8
+    ensures { λ r. ⌜ Changes (panel (now (sheet .entry)) (now (places .entry))) (putRecord place (now (bytes .entry))) r (panel (now (sheet .entry)) (now (places .exit))) ⌝ }
 {
-    if limits::PLACE_COUNT <= place {
+    if PLACE_COUNT <= place {
         return refusal::PLACE;
     }
-    let mut buffer = [0u8; 255];
-    storing::store_record(sheet.n, &sheet.closes, places, place, bytes, &mut buffer)
+    let mut buffer = [0u8; MOST_RECORD_BYTES];
+    storing::store_record(sheet, places, place as u8, bytes, &mut buffer)
 }
 
 // The place is empty.
-pub fn drop_place(places: &mut [u8; 4096], place: u8) -> u8
+pub fn drop_place(places: &mut [u8; STORE_BYTES], place: u32) -> u8
     ensures { λ r. ⌜ Drops (now (places .entry)) place r (now (places .exit)) ⌝ }
 {
-    if limits::PLACE_COUNT <= place {
+    if PLACE_COUNT <= place {
         return refusal::PLACE;
     }
-    let held = places::held_record(places, place);
+    let held = places::held_record(places, place as u8);
     if held.len() == 0 {
         return refusal::EMPTY;
     }
-    places::clear(places, place);
+    places::clear(places, place as u8);
     refusal::ACCEPTED
 }
 
 // The record that the place holds, at the front of `out`.
-pub fn fetch_record(places: &[u8; 4096], place: u8, out: &mut [u8]) -> Answer
-    ensures { λ r. ⌜ AnswersRecord (now (places .entry)) place (now (out .entry)) (now (out .exit)) r ⌝ }
+pub fn fetch_record(places: &[u8; STORE_BYTES], place: u32, out: &mut [u8]) -> Answer
+    ensures { λ r. ⌜ AnswersFrom (now (places .entry)) (fetchRecord place (now (out .entry))) r (now (out .exit)) ⌝ }
 {
-    if limits::PLACE_COUNT <= place {
+    if PLACE_COUNT <= place {
         return Answer {
             number: refusal::PLACE,
             length: 0,
         };
     }
-    let bytes = places::held_record(places, place);
+    let bytes = places::held_record(places, place as u8);
     let length = bytes.len();
     if length == 0 {
         return Answer {
@@ -107,30 +118,35 @@ pub fn fetch_record(places: &[u8; 4096], place: u8, out: &mut [u8]) -> Answer
 }
 
 // The row of the tree that the place holds, at the front of `out`.
-pub fn fetch_row(sheet: Sheet, places: &[u8; 4096], place: u8, out: &mut [u8]) -> Answer
-    ensures { λ r. ⌜ AnswersRow sheet (now (places .entry)) place (now (out .entry)) (now (out .exit)) r ⌝ }
+pub fn fetch_row(
+    sheet: &[u32; SHEET_WORDS],
+    places: &[u8; STORE_BYTES],
+    place: u32,
+    out: &mut [u8],
+) -> Answer
+    ensures { λ r. ⌜ Answers (panel (now (sheet .entry)) (now (places .entry))) (fetchRow place (now (out .entry))) r (now (out .exit)) ⌝ }
 {
-    if limits::PLACE_COUNT <= place {
+    if PLACE_COUNT <= place {
         return Answer {
             number: refusal::PLACE,
             length: 0,
         };
     }
-    let bytes = places::held_record(places, place);
+    let bytes = places::held_record(places, place as u8);
     if bytes.len() == 0 {
         return Answer {
             number: refusal::EMPTY,
             length: 0,
         };
     }
-    record::yield_row(sheet.n, bytes, out)
+    record::yield_row(sheet, bytes, out)
 }
 
 // The image of the place, at the front of `out`.
-pub fn image(places: &[u8; 4096], place: u8, out: &mut [u8]) -> Answer
-    ensures { λ r. ⌜ AnswersImage (now (places .entry)) place (now (out .entry)) (now (out .exit)) r ⌝ }
+pub fn image(places: &[u8; STORE_BYTES], place: u32, out: &mut [u8]) -> Answer
+    ensures { λ r. ⌜ AnswersFrom (now (places .entry)) (image place (now (out .entry))) r (now (out .exit)) ⌝ }
 {
-    if limits::PLACE_COUNT <= place {
+    if PLACE_COUNT <= place {
         return Answer {
             number: refusal::PLACE,
             length: 0,
@@ -142,7 +158,7 @@ pub fn image(places: &[u8; 4096], place: u8, out: &mut [u8]) -> Answer
             length: 0,
         };
     }
-    places::draw(places, place, out);
+    places::draw(places, place as u8, out);
     Answer {
         number: refusal::ACCEPTED,
         length: limits::SLOT_BYTES,
@@ -150,43 +166,43 @@ pub fn image(places: &[u8; 4096], place: u8, out: &mut [u8]) -> Answer
 }
 
 // The record of the row's tree, at the front of `out`.
-pub fn build(sheet: Sheet, row: &[u8], out: &mut [u8]) -> Answer
-    ensures { λ r. ⌜ AnswersBuild sheet (now (row .entry)) (now (out .entry)) (now (out .exit)) r ⌝ }
+pub fn build(sheet: &[u32; SHEET_WORDS], row: &[u8], out: &mut [u8]) -> Answer
+    ensures { λ r. ⌜ AnswersUnder (now (sheet .entry)) (build (now (row .entry)) (now (out .entry))) r (now (out .exit)) ⌝ }
 {
-    parser::build_row(sheet.n, &sheet.closes, row, out)
+    parser::build_row(sheet, row, out)
 }
 
 // The record of the conflict-free tree of the record's row, at the front of `out`.
-pub fn repair(sheet: Sheet, bytes: &[u8], out: &mut [u8]) -> Answer
-    ensures { λ r. ⌜ AnswersRepair sheet (now (bytes .entry)) (now (out .entry)) (now (out .exit)) r ⌝ }
+pub fn repair(sheet: &[u32; SHEET_WORDS], bytes: &[u8], out: &mut [u8]) -> Answer
+    ensures { λ r. ⌜ AnswersUnder (now (sheet .entry)) (repair (now (bytes .entry)) (now (out .entry))) r (now (out .exit)) ⌝ }
 {
-    parser::repair_record(sheet.n, &sheet.closes, bytes, out)
+    parser::repair_record(sheet, bytes, out)
 }
 
 // The number of the record, and its conflict count.
-pub fn judge(sheet: Sheet, bytes: &[u8]) -> Judgement
-    ensures { λ r. ⌜ r ≡ judgement (sheet .n) (sheet .closes) (now (bytes .entry)) ⌝ }
+pub fn judge(sheet: &[u32; SHEET_WORDS], bytes: &[u8]) -> Judgement
+    ensures { λ r. ⌜ Judges (now (sheet .entry)) (now (bytes .entry)) r ⌝ }
 {
-    record::judge(sheet.n, &sheet.closes, bytes)
+    record::judge(sheet, bytes)
 }
 
 // The row of the record's tree, at the front of `out`.
-pub fn yield_row(sheet: Sheet, bytes: &[u8], out: &mut [u8]) -> Answer
-    ensures { λ r. ⌜ AnswersYield sheet (now (bytes .entry)) (now (out .entry)) (now (out .exit)) r ⌝ }
+pub fn yield_row(sheet: &[u32; SHEET_WORDS], bytes: &[u8], out: &mut [u8]) -> Answer
+    ensures { λ r. ⌜ AnswersUnder (now (sheet .entry)) (yield (now (bytes .entry)) (now (out .entry))) r (now (out .exit)) ⌝ }
 {
-    record::yield_row(sheet.n, bytes, out)
+    record::yield_row(sheet, bytes, out)
 }
 
 // The number of an operand call.
-pub fn operand_number(sheet: Sheet, bytes: &[u8]) -> u8
-    ensures { λ r. ⌜ r ≡ recordNumber (sheet .n) (now (bytes .entry)) ⌝ }
+pub fn operand_number(sheet: &[u32; SHEET_WORDS], bytes: &[u8]) -> u8
+    ensures { λ r. ⌜ NumbersOperand (now (sheet .entry)) (now (bytes .entry)) r ⌝ }
 {
-    record::record_number(sheet.n, bytes)
+    record::record_number(sheet, bytes)
 }
 
 // The record of the left or of the right operand of the top node: that part of `bytes`.
-pub fn operand(sheet: Sheet, bytes: &[u8], right: bool) -> &[u8]
-    ensures { λ r. ⌜ now r ≡ operandPart (sheet .n) right (now (bytes .entry)) ⌝ }
+pub fn operand<'a, 'b>(sheet: &'a [u32; SHEET_WORDS], bytes: &'b [u8], right: bool) -> &'b [u8]
+    ensures { λ r. ⌜ FindsOperand (now (sheet .entry)) right (now (bytes .entry)) (now r) ⌝ }
 {
-    record::operand(sheet.n, bytes, right)
+    record::operand(sheet, bytes, right)
 }

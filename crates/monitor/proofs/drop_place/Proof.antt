@@ -8,7 +8,9 @@ drop-place-spec =
     tie.close
     (tie.spec
     (λ c. search drop-ways)
+    (λ c. search drop-ways)
     (λ c κs. search drop-ways)
+    (λ c. search drop-ways)
     (λ c. search drop-ways)
     (λ c κs. search drop-ways)
     (λ c. search drop-ways))

@@ -8,6 +8,7 @@ fetch-record-spec =
     tie.close
     (tie.spec
     (λ c. search fetch-record-ways)
+    (λ c. search fetch-record-ways)
     (λ c κs. search fetch-record-ways)
     (λ c. search fetch-record-ways)
     (λ c. search fetch-record-ways)

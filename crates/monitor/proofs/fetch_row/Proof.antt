@@ -8,6 +8,7 @@ fetch-row-spec =
     tie.close
     (tie.spec
     (λ c. search fetch-row-ways)
+    (λ c. search fetch-row-ways)
     (λ c κs. search fetch-row-ways)
     (λ c. search fetch-row-ways)
     (λ c κs. search fetch-row-ways)

@@ -9,6 +9,7 @@ image-spec =
     (tie.spec
     (λ c. search image-ways)
     (λ c. search image-ways)
+    (λ c. search image-ways)
     (λ c κs. search image-ways)
     (λ c. search image-ways)
     (λ c. search image-ways))

@@ -9,5 +9,6 @@ put-record-spec =
     (tie.spec
     (λ c. search put-record-ways)
     (λ c. search put-record-ways)
+    (λ c. search put-record-ways)
     (λ c κs. search put-record-ways)
     (λ c. search put-record-ways))

@@ -9,5 +9,6 @@ put-row-spec =
     (tie.spec
     (λ c. search put-row-ways)
     (λ c. search put-row-ways)
+    (λ c. search put-row-ways)
     (λ c κs. search put-row-ways)
     (λ c. search put-row-ways))
