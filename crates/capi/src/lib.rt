@@ -1,139 +1,145 @@
-// The calls for C and Rust, under names of their own. The sheet in force is passed by value, and what is lent by address.
-ghost use mathlib.Core.Path.{_≡_};
-ghost use Rattle.expression.specs.Checks.{recordNumber};
-ghost use Rattle.record.specs.Answers.{judgement};
-ghost use Rattle.record.specs.Operands.{OperandAt};
-ghost use Rattle.monitor.specs.Contracts.{panel, AnswersBuild, AnswersRepair, AnswersYield, AnswersRecord, AnswersRow, AnswersImage, LoadsPanel, PutsRow, PutsRecord, Drops};
+// The calls for C and Rust, under names of their own. They take numbers and addresses alone: a list is an address and a length.
+ghost use Rattle.monitor.specs.Call.{load, putRow, putRecord, fetchRecord, fetchRow, image, build, repair, yield};
+ghost use Rattle.monitor.specs.Panel.{panel};
+ghost use Rattle.monitor.specs.Contracts.{Changes, Drops, Answers, AnswersUnder, AnswersFrom, Judges, NumbersOperand, PlacesOperand};
 ghost use Rattle.frame.specs.Contracts.{Replies};
-use frame::Replied;
+use frame::limits::MOST_REPLY;
+use places::limits::STORE_BYTES;
 use record::Answer;
 use record::Judgement;
 use record::operands::Part;
-use sheet::Loaded;
-use sheet::Sheet;
+use sheet::layout::SHEET_WORDS;
 
 #[no_mangle]
 pub extern "C" fn tihvomen_load(
-    sheet: Sheet,
-    places: &mut [u8; 4096],
-    n: u8,
+    sheet: &mut [u32; SHEET_WORDS],
+    places: &mut [u8; STORE_BYTES],
+    n: u32,
     rules: &[u8],
-) -> Loaded
-    ensures { λ r. ⌜ LoadsPanel (panel sheet (now (places .entry))) n (now (rules .entry)) r (now (places .exit)) ⌝ }
+) -> u8
+    ensures { λ r. ⌜ Changes (panel (now (sheet .entry)) (now (places .entry))) (load n (now (rules .entry))) r (panel (now (sheet .exit)) (now (places .exit))) ⌝ }
 {
     monitor::load(sheet, places, n, rules)
 }
 
 #[no_mangle]
 pub extern "C" fn tihvomen_put_row(
-    sheet: Sheet,
-    places: &mut [u8; 4096],
-    place: u8,
+    sheet: &[u32; SHEET_WORDS],
+    places: &mut [u8; STORE_BYTES],
+    place: u32,
     row: &[u8],
 ) -> u8
-    ensures { λ r. ⌜ PutsRow (panel sheet (now (places .entry))) place (now (row .entry)) r (now (places .exit)) ⌝ }
+    ensures { λ r. ⌜ Changes (panel (now (sheet .entry)) (now (places .entry))) (putRow place (now (row .entry))) r (panel (now (sheet .entry)) (now (places .exit))) ⌝ }
 {
     monitor::put_row(sheet, places, place, row)
 }
 
 #[no_mangle]
 pub extern "C" fn tihvomen_put_record(
-    sheet: Sheet,
-    places: &mut [u8; 4096],
-    place: u8,
+    sheet: &[u32; SHEET_WORDS],
+    places: &mut [u8; STORE_BYTES],
+    place: u32,
     bytes: &[u8],
 ) -> u8
-    ensures { λ r. ⌜ PutsRecord (panel sheet (now (places .entry))) place (now (bytes .entry)) r (now (places .exit)) ⌝ }
+    ensures { λ r. ⌜ Changes (panel (now (sheet .entry)) (now (places .entry))) (putRecord place (now (bytes .entry))) r (panel (now (sheet .entry)) (now (places .exit))) ⌝ }
 {
     monitor::put_record(sheet, places, place, bytes)
 }
 
 #[no_mangle]
-pub extern "C" fn tihvomen_drop(places: &mut [u8; 4096], place: u8) -> u8
+pub extern "C" fn tihvomen_drop(places: &mut [u8; STORE_BYTES], place: u32) -> u8
     ensures { λ r. ⌜ Drops (now (places .entry)) place r (now (places .exit)) ⌝ }
 {
     monitor::drop_place(places, place)
 }
 
 #[no_mangle]
-pub extern "C" fn tihvomen_fetch_record(places: &[u8; 4096], place: u8, out: &mut [u8]) -> Answer
-    ensures { λ r. ⌜ AnswersRecord (now (places .entry)) place (now (out .entry)) (now (out .exit)) r ⌝ }
+pub extern "C" fn tihvomen_fetch_record(
+    places: &[u8; STORE_BYTES],
+    place: u32,
+    out: &mut [u8],
+) -> Answer
+    ensures { λ r. ⌜ AnswersFrom (now (places .entry)) (fetchRecord place (now (out .entry))) r (now (out .exit)) ⌝ }
 {
     monitor::fetch_record(places, place, out)
 }
 
 #[no_mangle]
 pub extern "C" fn tihvomen_fetch_row(
-    sheet: Sheet,
-    places: &[u8; 4096],
-    place: u8,
+    sheet: &[u32; SHEET_WORDS],
+    places: &[u8; STORE_BYTES],
+    place: u32,
     out: &mut [u8],
 ) -> Answer
-    ensures { λ r. ⌜ AnswersRow sheet (now (places .entry)) place (now (out .entry)) (now (out .exit)) r ⌝ }
+    ensures { λ r. ⌜ Answers (panel (now (sheet .entry)) (now (places .entry))) (fetchRow place (now (out .entry))) r (now (out .exit)) ⌝ }
 {
     monitor::fetch_row(sheet, places, place, out)
 }
 
 #[no_mangle]
-pub extern "C" fn tihvomen_image(places: &[u8; 4096], place: u8, out: &mut [u8]) -> Answer
-    ensures { λ r. ⌜ AnswersImage (now (places .entry)) place (now (out .entry)) (now (out .exit)) r ⌝ }
+pub extern "C" fn tihvomen_image(places: &[u8; STORE_BYTES], place: u32, out: &mut [u8]) -> Answer
+    ensures { λ r. ⌜ AnswersFrom (now (places .entry)) (image place (now (out .entry))) r (now (out .exit)) ⌝ }
 {
     monitor::image(places, place, out)
 }
 
 #[no_mangle]
-pub extern "C" fn tihvomen_build(sheet: Sheet, row: &[u8], out: &mut [u8]) -> Answer
-    ensures { λ r. ⌜ AnswersBuild sheet (now (row .entry)) (now (out .entry)) (now (out .exit)) r ⌝ }
+pub extern "C" fn tihvomen_build(sheet: &[u32; SHEET_WORDS], row: &[u8], out: &mut [u8]) -> Answer
+    ensures { λ r. ⌜ AnswersUnder (now (sheet .entry)) (build (now (row .entry)) (now (out .entry))) r (now (out .exit)) ⌝ }
 {
     monitor::build(sheet, row, out)
 }
 
 #[no_mangle]
-pub extern "C" fn tihvomen_repair(sheet: Sheet, bytes: &[u8], out: &mut [u8]) -> Answer
-    ensures { λ r. ⌜ AnswersRepair sheet (now (bytes .entry)) (now (out .entry)) (now (out .exit)) r ⌝ }
+pub extern "C" fn tihvomen_repair(
+    sheet: &[u32; SHEET_WORDS],
+    bytes: &[u8],
+    out: &mut [u8],
+) -> Answer
+    ensures { λ r. ⌜ AnswersUnder (now (sheet .entry)) (repair (now (bytes .entry)) (now (out .entry))) r (now (out .exit)) ⌝ }
 {
     monitor::repair(sheet, bytes, out)
 }
 
 #[no_mangle]
-pub extern "C" fn tihvomen_judge(sheet: Sheet, bytes: &[u8]) -> Judgement
-    ensures { λ r. ⌜ r ≡ judgement (sheet .n) (sheet .closes) (now (bytes .entry)) ⌝ }
+pub extern "C" fn tihvomen_judge(sheet: &[u32; SHEET_WORDS], bytes: &[u8]) -> Judgement
+    ensures { λ r. ⌜ Judges (now (sheet .entry)) (now (bytes .entry)) r ⌝ }
 {
     monitor::judge(sheet, bytes)
 }
 
 #[no_mangle]
-pub extern "C" fn tihvomen_yield(sheet: Sheet, bytes: &[u8], out: &mut [u8]) -> Answer
-    ensures { λ r. ⌜ AnswersYield sheet (now (bytes .entry)) (now (out .entry)) (now (out .exit)) r ⌝ }
+pub extern "C" fn tihvomen_yield(sheet: &[u32; SHEET_WORDS], bytes: &[u8], out: &mut [u8]) -> Answer
+    ensures { λ r. ⌜ AnswersUnder (now (sheet .entry)) (yield (now (bytes .entry)) (now (out .entry))) r (now (out .exit)) ⌝ }
 {
     monitor::yield_row(sheet, bytes, out)
 }
 
-// The number of an operand call.
+// The number of an operand call, for either side.
 #[no_mangle]
-pub extern "C" fn tihvomen_operand_number(sheet: Sheet, bytes: &[u8]) -> u8
-    ensures { λ r. ⌜ r ≡ recordNumber (sheet .n) (now (bytes .entry)) ⌝ }
+pub extern "C" fn tihvomen_operand_number(sheet: &[u32; SHEET_WORDS], bytes: &[u8]) -> u8
+    ensures { λ r. ⌜ NumbersOperand (now (sheet .entry)) (now (bytes .entry)) r ⌝ }
 {
     monitor::operand_number(sheet, bytes)
 }
 
 // The place of an operand in the caller's record.
 #[no_mangle]
-pub extern "C" fn tihvomen_operand(sheet: Sheet, bytes: &[u8], right: bool) -> Part
-    ensures { λ r. ⌜ OperandAt (sheet .n) right (now (bytes .entry)) r ⌝ }
+pub extern "C" fn tihvomen_operand(sheet: &[u32; SHEET_WORDS], bytes: &[u8], right: bool) -> Part
+    ensures { λ r. ⌜ PlacesOperand (now (sheet .entry)) right (now (bytes .entry)) r ⌝ }
 {
-    record::operands::operand_part(sheet.n, bytes, right)
+    monitor::operand_part(sheet, bytes, right)
 }
 
-// The reply to a line.
+// The reply to a line: its length.
 #[no_mangle]
 pub extern "C" fn tihvomen_reply(
-    sheet: Sheet,
-    places: &mut [u8; 4096],
+    sheet: &mut [u32; SHEET_WORDS],
+    places: &mut [u8; STORE_BYTES],
     line: &[u8],
-    out: &mut [u8],
-) -> Replied
-    ensures { λ r. ⌜ Replies (panel sheet (now (places .entry))) (now (line .entry)) (now (out .entry)) (now (out .exit)) (now (places .exit)) r ⌝ }
+    out: &mut [u8; MOST_REPLY],
+) -> usize
+    ensures { λ r. ⌜ Replies (panel (now (sheet .entry)) (now (places .entry))) (now (line .entry)) (now (out .entry)) (now (out .exit)) (panel (now (sheet .exit)) (now (places .exit))) r ⌝ }
 {
     frame::reply(sheet, places, line, out)
 }

@@ -1,5 +1,5 @@
 -- Document 01's listing, and the edges of a line, by computation. Assumes nothing.
-use Prim.Native.Nat.{ℕ}
+use Prim.Native.Nat.{ℕ, _+_}
 use mathlib.Core.Path.{_≡_, refl}
 use mathlib.Core.List.{List, [], _∷_}
 use mathlib.Core.Option.{none, some}
@@ -12,19 +12,20 @@ use Rattle.expression.specs.Checks.{recordNumber}
 use Rattle.disambiguation.specs.Rules.{L, R}
 use Rattle.disambiguation.specs.Below.{allBelow}
 use Rattle.disambiguation.specs.Verdict.{safe, total, within, level}
-use Rattle.sheet.specs.Relation.{bitOf, closesIn, closes}
+use Rattle.sheet.specs.Layout.{operatorsOf}
+use Rattle.sheet.specs.Relation.{bitOf, closesIn}
 use Rattle.sheet.specs.Marking.{marked, marksR, marksAll}
 use Rattle.sheet.specs.Loading.{sheetOf}
 use Rattle.parser.specs.Build.{step, progressOf, built}
 use Rattle.places.specs.Store.{held, imageOf, stored}
 use Rattle.places.specs.Store as store
-use Rattle.monitor.specs.Call.{load, putRow, putRecord, drop, fetchRecord, repair, judge}
+use Rattle.monitor.specs.Call.{load, putRow, putRecord, drop, ask, fetchRecord, repair, judge}
 use Rattle.monitor.specs.Panel.{Panel, usesBeyond, rebuiltTo}
 use Rattle.monitor.specs.Steps.{loadNumber, putRowNumber, dropNumber, fetchRecordNumber, sheetAfter, placesAfterLoad, placesAfterRow, placesAfterDrop}
 use Rattle.hexadecimal.specs.Digits.{isDigit, digitOf, allDigits, byteOf, characterOf}
 use Rattle.hexadecimal.specs.Text.{pairBytes, bytesOf, textOf}
 use Rattle.frame.specs.Frames.{room, callOf}
-use Rattle.frame.specs.Lines.{lineCall, lineBytes, lineReply, lineAfter}
+use Rattle.frame.specs.Lines.{mostCharacters, lineCall, lineBytes, lineReply, lineAfter}
 use Rattle.frame.specs.Runs.{panelAfterLines}
 
 -- ---- the listing
@@ -46,7 +47,7 @@ fifth = textOf (0x01 ∷ 0x02 ∷ 0x01 ∷ 0x00 ∷ 0x01 ∷ 0x02 ∷ 0x01 ∷ 0
 pub calls-of-listing :
     (lineCall first ≡ some (load 2 (0x01 ∷ 0x01 ∷ 0x00 ∷ 0x02 ∷ 0x01 ∷ 0x01 ∷ 0x02 ∷ 0x00 ∷ 0x00 ∷ [])))
     × (lineCall second ≡ some (putRow 3 (0x80 ∷ 0x00 ∷ 0x81 ∷ 0x01 ∷ 0x82 ∷ [])))
-    × (lineCall third ≡ some (fetchRecord 3 room))
+    × (lineCall third ≡ some (ask (fetchRecord 3 room)))
     × (lineCall fourth ≡ some (drop 4))
 unfolding lineCall callOf bytesOf allDigits pairBytes isDigit digitOf byteOf textOf characterOf
 calls-of-listing = (refl, refl, refl, refl)
@@ -59,7 +60,7 @@ pub replies-of-listing :
     × (lineReply (panelAfterLines (third ∷ second ∷ first ∷ [])) fourth ≡ textOf (empty ∷ []))
     × (lineReply (panelAfterLines (fourth ∷ third ∷ second ∷ first ∷ [])) fifth ≡ textOf (accepted ∷ []))
     × (lineReply (panelAfterLines (fifth ∷ fourth ∷ third ∷ second ∷ first ∷ [])) third ≡ textOf (accepted ∷ 0x01 ∷ 0x00 ∷ 0x80 ∷ 0x81 ∷ 0x82 ∷ []))
-unfolding panelAfterLines lineAfter lineReply lineBytes lineCall callOf room bytesOf allDigits pairBytes isDigit digitOf byteOf textOf characterOf loadNumber putRowNumber dropNumber fetchRecordNumber sheetAfter placesAfterLoad placesAfterRow placesAfterDrop usesBeyond rebuiltTo store.fresh held imageOf stored built progressOf step sheetOf marksAll marksR marked closes closesIn bitOf safe total within level allBelow L R recordNumber treeOf isRow class
+unfolding panelAfterLines lineAfter lineReply lineBytes lineCall callOf room bytesOf allDigits pairBytes isDigit digitOf byteOf textOf characterOf loadNumber putRowNumber dropNumber fetchRecordNumber sheetAfter placesAfterLoad placesAfterRow placesAfterDrop usesBeyond rebuiltTo store.fresh held imageOf stored built progressOf step sheetOf marksAll marksR marked operatorsOf closesIn bitOf safe total within level allBelow L R recordNumber treeOf isRow class
 replies-of-listing = (refl, refl, refl, refl, refl, refl)
 
 -- ---- edges
@@ -73,7 +74,7 @@ unfolding lineReply lineBytes callOf bytesOf allDigits pairBytes isDigit digitOf
 refused-lines p = (refl, refl, refl, refl)
 
 -- One character too many comes before 12.
-pub long-line-first : (p : Panel) → lineReply p (replicate 12293 0x0d) ≡ textOf (oversize ∷ [])
+pub long-line-first : (p : Panel) → lineReply p (replicate (mostCharacters + 1) 0x0d) ≡ textOf (oversize ∷ [])
 unfolding lineReply lineBytes
 long-line-first p = refl
 
@@ -86,14 +87,14 @@ pub bytes-after-kind :
     × (lineCall (textOf (0x03 ∷ [])) ≡ none)
     × (lineCall (textOf (0x03 ∷ 0x01 ∷ 0xff ∷ [])) ≡ none)
     × (lineCall (textOf (0x09 ∷ 0x01 ∷ 0xff ∷ [])) ≡ none)
-    × (lineCall (textOf (0x07 ∷ [])) ≡ some (judge []))
-    × (lineCall (textOf (0x08 ∷ [])) ≡ some (repair [] room))
+    × (lineCall (textOf (0x07 ∷ [])) ≡ some (ask (judge [])))
+    × (lineCall (textOf (0x08 ∷ [])) ≡ some (ask (repair [] room)))
 unfolding lineCall callOf bytesOf allDigits pairBytes isDigit digitOf byteOf textOf characterOf
 bytes-after-kind = (refl, refl, refl, refl, refl, refl, refl, refl, refl)
 
 -- Either letter case.
 pub either-case :
-    (lineCall (0x30 ∷ 0x37 ∷ 0x61 ∷ 0x42 ∷ []) ≡ some (judge (0xab ∷ [])))
-    × (lineCall (0x30 ∷ 0x37 ∷ 0x41 ∷ 0x62 ∷ []) ≡ some (judge (0xab ∷ [])))
+    (lineCall (0x30 ∷ 0x37 ∷ 0x61 ∷ 0x42 ∷ []) ≡ some (ask (judge (0xab ∷ []))))
+    × (lineCall (0x30 ∷ 0x37 ∷ 0x41 ∷ 0x62 ∷ []) ≡ some (ask (judge (0xab ∷ []))))
 unfolding lineCall callOf bytesOf allDigits pairBytes isDigit digitOf byteOf
 either-case = (refl, refl)

@@ -11,18 +11,16 @@ use lib.Seq.{take-all, set-split}
 use borrow.Author.Tests.{ne-eqb}
 use borrow.Author.Needs.{needs}
 use Rattle.expression.specs.Lent.{outputAfter, lengthAfter}
-use Rattle.sheet.specs.declared.Sheet.{Sheet}
-use Rattle.record.specs.Answers.{judgement}
+use Rattle.expression.specs.Checks.{repairNumber}
 use Rattle.record.specs.declared.Answer.{Answer}
 use Rattle.record.specs.declared.Judgement.{Judgement}
-use Rattle.monitor.specs.Call.{Call, putRow, putRecord, fetchRecord, fetchRow, image, repair}
+use Rattle.monitor.specs.Call.{Question, Call, load, putRow, putRecord, ask, fetchRecord, fetchRow, image, repair}
 use Rattle.monitor.specs.Call as call
-use Rattle.monitor.specs.Panel.{Panel}
-use Rattle.monitor.specs.Steps.{outcome}
-use Rattle.monitor.specs.Contracts.{panel, Answers, AnswersRepair, AnswersRecord, AnswersRow, AnswersImage, PutsRow, PutsRecord, Drops}
-use Rattle.frame.specs.Frames.{mostAnswer, room, isLoad, callOf, frameCall, answerOf, frameNumber, frameAnswer, frameAfter}
-use Rattle.frame.specs.Contracts.{told, Tells, Judges}
-use Rattle.frame.specs.declared.kinds.Told.{Told}
+use Rattle.monitor.specs.Panel.{Panel, panel}
+use Rattle.monitor.specs.Steps.{ops, fetchRecordNumber, fetchRowNumber, imageNumber, told}
+use Rattle.monitor.specs.Contracts.{Changes, Drops, Answers, AnswersUnder, AnswersFrom, Judges}
+use Rattle.frame.specs.Frames.{mostAnswer, room, callOf, frameCall, toldBytes, frameNumber, frameAnswer, frameAfter}
+use Rattle.frame.specs.Contracts.{Tells, TellsCount}
 
 -- ---- the call of a kind
 pub cond-same : {A : Type 0} (b : Bool) {x : A} → cond b x x ≡ x
@@ -50,70 +48,56 @@ module _ (kind : ℕ) where
   no-byte [] a b e = simp (ne-eqb kind 7 a, ne-eqb kind 8 b, cond-same {A = Option Call})
   no-byte (x ∷ xs) a b e = absurd (omega arith)
 
-  module _ (one : eqb kind 1 ≡ false) (two : kind ≡ 2 → ⊥) (six : kind ≡ 6 → ⊥) (seven : kind ≡ 7 → ⊥) (eight : kind ≡ 8 → ⊥) where
+  module _ (one : kind ≡ 1 → ⊥) (two : kind ≡ 2 → ⊥) (six : kind ≡ 6 → ⊥) (seven : kind ≡ 7 → ⊥) (eight : kind ≡ 8 → ⊥) where
     more-bytes : (rest : List ℕ) → (length rest ≡ 0 → ⊥) → (length rest ≡ 1 → ⊥) → callOf kind rest ≡ none
     unfolding callOf
     more-bytes [] z o = absurd (z refl)
     more-bytes (x ∷ []) z o = absurd (o refl)
-    more-bytes (x ∷ y ∷ l) z o = simp (one, ne-eqb kind 2 two, ne-eqb kind 6 six, ne-eqb kind 7 seven, ne-eqb kind 8 eight, cond-same {A = Option Call})
+    more-bytes (x ∷ y ∷ l) z o = simp (ne-eqb kind 1 one, ne-eqb kind 2 two, ne-eqb kind 6 six, ne-eqb kind 7 seven, ne-eqb kind 8 eight, cond-same {A = Option Call})
 
     no-kind : (rest : List ℕ) → (kind ≡ 3 → ⊥) → (kind ≡ 4 → ⊥) → (kind ≡ 5 → ⊥) → (kind ≡ 9 → ⊥) → callOf kind rest ≡ none
     unfolding callOf
     no-kind rest three four five nine =
-        simp (one, ne-eqb kind 2 two, ne-eqb kind 3 three, ne-eqb kind 4 four, ne-eqb kind 5 five, ne-eqb kind 6 six, ne-eqb kind 7 seven, ne-eqb kind 8 eight, ne-eqb kind 9 nine)
+        simp (ne-eqb kind 1 one, ne-eqb kind 2 two, ne-eqb kind 3 three, ne-eqb kind 4 four, ne-eqb kind 5 five, ne-eqb kind 6 six, ne-eqb kind 7 seven, ne-eqb kind 8 eight, ne-eqb kind 9 nine)
 
 -- a call's number alone
-module _ (p : Panel) (call : Option Call) {before places : List ℕ} {r : Told} where
-  alone : {c : Option Call} {number : ℕ} → call ≡ c → r ≡ told number 0 → number ≡ frameNumber p c → frameAnswer p c ≡ [] → frameAfter p c .sheet ≡ p .sheet
-      → places ≡ frameAfter p c .places → Tells p call before before places r
-  alone {c} q e n a s w =
-      rw (e, q) (record {
-        numbered = n;
-        measured = sym (ap (lengthAfter (frameNumber p c)) a ∙ cond-same (eqb (frameNumber p c) 0));
+module _ (p : Panel) (call : Option Call) {before : List ℕ} {r : Answer} where
+  alone : {c : Option Call} {number : ℕ} {later : Panel} → call ≡ c → (r .number ≡ number) × (r .length ≡ 0) → number ≡ frameNumber p c → frameAnswer p c ≡ [] → later ≡ frameAfter p c
+      → Tells p call before before later r
+  alone {c} q (n, l) e a w =
+      rw q (record {
+        numbered = n ∙ e;
+        measured = l ∙ sym (ap (lengthAfter (frameNumber p c)) a ∙ cond-same (eqb (frameNumber p c) 0));
         output = sym (ap (λ l. outputAfter (frameNumber p c) l before) a ∙ cond-same (eqb (frameNumber p c) 0));
-        same-sheet = s;
         stands = w;
       })
 
   -- a frame that is no call
-  no-call : call ≡ none → r ≡ told 12 0 → places ≡ p .places → Tells p call before before places r
-  no-call q e w = alone q e refl refl refl w
+  no-call : call ≡ none → (r .number ≡ 12) × (r .length ≡ 0) → Tells p call before before p r
+  no-call q e = alone q e refl refl refl
 
--- an answer
-with-answer : (p : Panel) (call : Option Call) {c : Call} {before after : List ℕ} {r : Told} {a : Answer} → call ≡ some c → r ≡ told (a .number) (a .length)
-    → Answers (outcome p c .number) (answerOf p c) before after a → frameAfter p (some c) ≡ p → Tells p call before after (p .places) r
-with-answer p call q e a s =
-    rw (e, q) (record { numbered = a .numbered; measured = a .measured; output = a .output; same-sheet = ap (λ (x : Panel). x .sheet) s; stands = ap (λ (x : Panel). x .places) (sym s) })
+  -- an answer: the number looks at the room alone, and both outputs have the same
+  with-answer : {q : Question} (number : ℕ → ℕ) (answer : List ℕ) {after : List ℕ} → call ≡ some (ask q) → told p q .number ≡ number (length room) → toldBytes p q ≡ answer
+      → length before ≡ mostAnswer → r .number ≡ number (length before) → r .length ≡ lengthAfter (number (length before)) answer
+      → after ≡ outputAfter (number (length before)) answer before → Tells p call before after p r
+  with-answer {q} number answer {after} e n a l numbered measured output =
+      let same : number (length before) ≡ told p q .number = ap number (l ∙ sym length-room) ∙ sym n in
+      rw e (record {
+        numbered = numbered ∙ same;
+        measured = measured ∙ ap₂ lengthAfter same (sym a);
+        output = output ∙ ap₂ (λ x y. outputAfter x y before) same (sym a);
+        stands = refl;
+      })
 
 -- ---- judged
 module _ (j : Judgement) (before : List ℕ) where
-  pub judged-refused : {r : Told} → r ≡ told (j .number) 0 → (j .number ≡ 0 → ⊥) → Judges j before before r
-  judged-refused q h = let z = ne-eqb (j .number) 0 h in rw q (record { numbered = refl; measured = rw z; output = rw z })
+  pub judged-refused : {r : Answer} → (r .number ≡ j .number) × (r .length ≡ 0) → (j .number ≡ 0 → ⊥) → TellsCount j before before r
+  judged-refused (n, l) h = let z = ne-eqb (j .number) 0 h in record { numbered = n; measured = l ∙ rw z; output = rw z }
 
-  pub judged-done : length before ≡ 256 → j .number ≡ 0 → Judges j before (set before 0 (j .count)) (told 0 1)
+  pub judged-done : length before ≡ mostAnswer → j .number ≡ 0 → TellsCount j before (set before 0 (j .count)) (record { number = 0; length = 1 })
   judged-done l z = record { numbered = sym z; measured = rw z; output = rw z (set-split before 0 (j .count) (omega arith)) }
 
 pub ruleset judged-ways = (judged-refused, judged-done, needs)
-
--- ---- is_load
-module _ (frame : List ℕ) where
-  pub none-is-load : length frame ≡ 0 → false ≡ isLoad frame
-  unfolding isLoad
-  none-is-load e = go frame e
-    where
-      go : (l : List ℕ) → length l ≡ 0 → false ≡ isLoad l
-      go [] e = refl
-      go (x ∷ xs) e = absurd (omega arith)
-
-  pub kind-is-load : (length frame ≡ 0 → ⊥) → eqb (getD frame 0 0) 1 ≡ isLoad frame
-  unfolding isLoad
-  kind-is-load h = go frame h
-    where
-      go : (l : List ℕ) → (length l ≡ 0 → ⊥) → eqb (getD l 0 0) 1 ≡ isLoad l
-      go [] h = absurd (h refl)
-      go (x ∷ xs) h = refl
-
-pub ruleset is-load-ways = (none-is-load, kind-is-load, needs)
 
 -- ---- run_kind
 module _ (kind : ℕ) (rest : List ℕ) where
@@ -123,64 +107,94 @@ module _ (kind : ℕ) (rest : List ℕ) where
   one-byte : {n : ℕ} → kind ≡ n → length rest ≡ 1 → callOf kind rest ≡ callOf n (getD rest 0 0 ∷ [])
   one-byte e l = ap₂ callOf e (one-part rest l)
 
-module _ (s : Sheet) (places : List ℕ) (kind : ℕ) (rest : List ℕ) {before : List ℕ} {r : Told} where
-  pub way-judge : {after : List ℕ} {j : Judgement} → kind ≡ 7 → j ≡ judgement (s .n) (s .closes) rest → Judges j before after r → Tells (panel s places) (callOf kind rest) before after places r
-  unfolding callOf judgement
+module _ (sheet places : List ℕ) (kind : ℕ) (rest : List ℕ) {before : List ℕ} {r : Answer} where
+  pub way-judge : {after : List ℕ} {j : Judgement} → kind ≡ 7 → Judges sheet rest j → TellsCount j before after r
+      → Tells (panel sheet places) (callOf kind rest) before after (panel sheet places) r
+  unfolding callOf
   way-judge {after} {j} e q w =
-      let v = subst (λ (x : Judgement). Judges x before after r) q w in
-      rw e (record { numbered = v .numbered; measured = v .measured; output = v .output; same-sheet = refl; stands = refl })
+      let n = q .numbered places in
+      let c = q .counted places in
+      rw e (record {
+        numbered = w .numbered ∙ n;
+        measured = w .measured ∙ ap₂ (λ x y. lengthAfter x (y ∷ [])) n c;
+        output = w .output ∙ ap₂ (λ x y. outputAfter x (y ∷ []) before) n c;
+        stands = refl;
+      })
 
-  pub way-repair : {after : List ℕ} {a : Answer} → kind ≡ 8 → r ≡ told (a .number) (a .length) → length before ≡ 256 → AnswersRepair s rest before after a
-      → Tells (panel s places) (callOf kind rest) before after places r
+  pub way-repair : {after : List ℕ} → kind ≡ 8 → length before ≡ mostAnswer → AnswersUnder sheet (repair rest before) r after
+      → Tells (panel sheet places) (callOf kind rest) before after (panel sheet places) r
   unfolding callOf
-  way-repair e q l a = with-answer (panel s places) (callOf kind rest) {c = repair rest room} (rw e) q (rw (length-room, ← l) a) refl
+  way-repair e l a =
+      let w = a .answers places in
+      with-answer (panel sheet places) (callOf kind rest) {q = repair rest room} (repairNumber (ops (panel sheet places)) rest) _ (rw e) refl refl l (w .numbered) (w .measured) (w .output)
 
-  pub way-no-byte : (kind ≡ 7 → ⊥) → (kind ≡ 8 → ⊥) → length rest ≡ 0 → r ≡ told 12 0 → Tells (panel s places) (callOf kind rest) before before places r
-  way-no-byte a b l q = no-call (panel s places) (callOf kind rest) (no-byte kind rest a b l) q refl
+  pub way-no-byte : (kind ≡ 7 → ⊥) → (kind ≡ 8 → ⊥) → length rest ≡ 0 → (r .number ≡ 12) × (r .length ≡ 0)
+      → Tells (panel sheet places) (callOf kind rest) before before (panel sheet places) r
+  way-no-byte a b l q = no-call (panel sheet places) (callOf kind rest) (no-byte kind rest a b l) q
 
-  pub way-put-row : {places′ : List ℕ} {n : ℕ} → kind ≡ 2 → (length rest ≡ 0 → ⊥) → r ≡ told n 0
-      → PutsRow (panel s places) (getD rest 0 0) (take (length rest - 1) (drop 1 rest)) n places′ → Tells (panel s places) (callOf kind rest) before before places′ r
-  unfolding callOf
-  way-put-row e h q w =
-      alone (panel s places) (callOf kind rest) {c = some (putRow (getD rest 0 0) (take (length rest - 1) (drop 1 rest)))} (named-byte kind rest e h) q (w .numbered) refl refl (w .stands)
-
-  pub way-put-record : {places′ : List ℕ} {n : ℕ} → kind ≡ 6 → (length rest ≡ 0 → ⊥) → r ≡ told n 0
-      → PutsRecord (panel s places) (getD rest 0 0) (take (length rest - 1) (drop 1 rest)) n places′ → Tells (panel s places) (callOf kind rest) before before places′ r
-  unfolding callOf
-  way-put-record e h q w =
-      alone (panel s places) (callOf kind rest) {c = some (putRecord (getD rest 0 0) (take (length rest - 1) (drop 1 rest)))} (named-byte kind rest e h) q (w .numbered) refl refl (w .stands)
-
-  pub way-drop : {places′ : List ℕ} {n : ℕ} → kind ≡ 3 → length rest ≡ 1 → r ≡ told n 0 → Drops places (getD rest 0 0) n places′
-      → Tells (panel s places) (callOf kind rest) before before places′ r
-  unfolding callOf
-  way-drop e l q d =
-      let w = d .leaves s in
-      alone (panel s places) (callOf kind rest) {c = some (call.drop (getD rest 0 0))} (one-byte kind rest e l) q (w .numbered) refl refl (w .stands)
-
-  module _ {after : List ℕ} {a : Answer} (one : length rest ≡ 1) (q : r ≡ told (a .number) (a .length)) (l : length before ≡ 256) where
-    pub way-fetch-record : kind ≡ 4 → AnswersRecord places (getD rest 0 0) before after a → Tells (panel s places) (callOf kind rest) before after places r
+  module _ {later : Panel} {n named : ℕ} (some-byte : length rest ≡ 0 → ⊥) (q : (r .number ≡ n) × (r .length ≡ 0)) (byte : named ≡ getD rest 0 0) where
+    pub way-load : kind ≡ 1 → Changes (panel sheet places) (load named (take (length rest - 1) (drop 1 rest))) n later
+        → Tells (panel sheet places) (callOf kind rest) before before later r
     unfolding callOf
-    way-fetch-record e a = with-answer (panel s places) (callOf kind rest) {c = fetchRecord (getD rest 0 0) room} (one-byte kind rest e one) q (rw (length-room, ← l) (a .answers s)) refl
+    way-load e w =
+        let v = subst (λ k. Changes (panel sheet places) (load k (take (length rest - 1) (drop 1 rest))) n later) byte w in
+        alone (panel sheet places) (callOf kind rest) {c = some (load (getD rest 0 0) (take (length rest - 1) (drop 1 rest)))} (named-byte kind rest e some-byte) q (v .numbered) refl (v .stands)
 
-    pub way-fetch-row : kind ≡ 5 → AnswersRow s places (getD rest 0 0) before after a → Tells (panel s places) (callOf kind rest) before after places r
+    pub way-put-row : kind ≡ 2 → Changes (panel sheet places) (putRow named (take (length rest - 1) (drop 1 rest))) n later
+        → Tells (panel sheet places) (callOf kind rest) before before later r
     unfolding callOf
-    way-fetch-row e a = with-answer (panel s places) (callOf kind rest) {c = fetchRow (getD rest 0 0) room} (one-byte kind rest e one) q (rw (length-room, ← l) a) refl
+    way-put-row e w =
+        let v = subst (λ k. Changes (panel sheet places) (putRow k (take (length rest - 1) (drop 1 rest))) n later) byte w in
+        alone (panel sheet places) (callOf kind rest) {c = some (putRow (getD rest 0 0) (take (length rest - 1) (drop 1 rest)))} (named-byte kind rest e some-byte) q (v .numbered) refl (v .stands)
 
-    pub way-image : kind ≡ 9 → AnswersImage places (getD rest 0 0) before after a → Tells (panel s places) (callOf kind rest) before after places r
+    pub way-put-record : kind ≡ 6 → Changes (panel sheet places) (putRecord named (take (length rest - 1) (drop 1 rest))) n later
+        → Tells (panel sheet places) (callOf kind rest) before before later r
     unfolding callOf
-    way-image e a = with-answer (panel s places) (callOf kind rest) {c = image (getD rest 0 0) room} (one-byte kind rest e one) q (rw (length-room, ← l) (a .answers s)) refl
+    way-put-record e w =
+        let v = subst (λ k. Changes (panel sheet places) (putRecord k (take (length rest - 1) (drop 1 rest))) n later) byte w in
+        alone (panel sheet places) (callOf kind rest) {c = some (putRecord (getD rest 0 0) (take (length rest - 1) (drop 1 rest)))} (named-byte kind rest e some-byte) q (v .numbered) refl (v .stands)
 
-  module _ (q : r ≡ told 12 0) (one : eqb kind 1 ≡ false) (two : kind ≡ 2 → ⊥) (six : kind ≡ 6 → ⊥) (seven : kind ≡ 7 → ⊥) (eight : kind ≡ 8 → ⊥) where
-    pub way-more-bytes : (length rest ≡ 0 → ⊥) → (length rest ≡ 1 → ⊥) → Tells (panel s places) (callOf kind rest) before before places r
-    way-more-bytes z o = no-call (panel s places) (callOf kind rest) (more-bytes kind one two six seven eight rest z o) q refl
+  pub way-drop : {places′ : List ℕ} {n named : ℕ} → kind ≡ 3 → length rest ≡ 1 → (r .number ≡ n) × (r .length ≡ 0) → named ≡ getD rest 0 0 → Drops places named n places′
+      → Tells (panel sheet places) (callOf kind rest) before before (panel sheet places′) r
+  unfolding callOf
+  way-drop {places′} {n} e l q byte d =
+      let w = subst (λ k. Drops places k n places′) byte d .changes sheet in
+      alone (panel sheet places) (callOf kind rest) {c = some (call.drop (getD rest 0 0))} (one-byte kind rest e l) q (w .numbered) refl (w .stands)
 
-    pub way-no-kind : (kind ≡ 3 → ⊥) → (kind ≡ 4 → ⊥) → (kind ≡ 5 → ⊥) → (kind ≡ 9 → ⊥) → Tells (panel s places) (callOf kind rest) before before places r
-    way-no-kind three four five nine = no-call (panel s places) (callOf kind rest) (no-kind kind one two six seven eight rest three four five nine) q refl
+  module _ {after : List ℕ} {named : ℕ} (one : length rest ≡ 1) (byte : named ≡ getD rest 0 0) (l : length before ≡ mostAnswer) where
+    pub way-fetch-record : kind ≡ 4 → AnswersFrom places (fetchRecord named before) r after → Tells (panel sheet places) (callOf kind rest) before after (panel sheet places) r
+    unfolding callOf
+    way-fetch-record e a =
+        let w = subst (λ k. AnswersFrom places (fetchRecord k before) r after) byte a .answers sheet in
+        with-answer (panel sheet places) (callOf kind rest) {q = fetchRecord (getD rest 0 0) room} (fetchRecordNumber (panel sheet places) (getD rest 0 0)) _ (one-byte kind rest e one) refl refl l
+        (w .numbered) (w .measured) (w .output)
+
+    pub way-fetch-row : kind ≡ 5 → Answers (panel sheet places) (fetchRow named before) r after → Tells (panel sheet places) (callOf kind rest) before after (panel sheet places) r
+    unfolding callOf
+    way-fetch-row e a =
+        let w = subst (λ k. Answers (panel sheet places) (fetchRow k before) r after) byte a in
+        with-answer (panel sheet places) (callOf kind rest) {q = fetchRow (getD rest 0 0) room} (fetchRowNumber (panel sheet places) (getD rest 0 0)) _ (one-byte kind rest e one) refl refl l
+        (w .numbered) (w .measured) (w .output)
+
+    pub way-image : kind ≡ 9 → AnswersFrom places (image named before) r after → Tells (panel sheet places) (callOf kind rest) before after (panel sheet places) r
+    unfolding callOf
+    way-image e a =
+        let w = subst (λ k. AnswersFrom places (image k before) r after) byte a .answers sheet in
+        with-answer (panel sheet places) (callOf kind rest) {q = image (getD rest 0 0) room} (imageNumber (panel sheet places) (getD rest 0 0)) _ (one-byte kind rest e one) refl refl l
+        (w .numbered) (w .measured) (w .output)
+
+  module _ (q : (r .number ≡ 12) × (r .length ≡ 0)) (one : kind ≡ 1 → ⊥) (two : kind ≡ 2 → ⊥) (six : kind ≡ 6 → ⊥) (seven : kind ≡ 7 → ⊥) (eight : kind ≡ 8 → ⊥) where
+    pub way-more-bytes : (length rest ≡ 0 → ⊥) → (length rest ≡ 1 → ⊥) → Tells (panel sheet places) (callOf kind rest) before before (panel sheet places) r
+    way-more-bytes z o = no-call (panel sheet places) (callOf kind rest) (more-bytes kind one two six seven eight rest z o) q
+
+    pub way-no-kind : (kind ≡ 3 → ⊥) → (kind ≡ 4 → ⊥) → (kind ≡ 5 → ⊥) → (kind ≡ 9 → ⊥) → Tells (panel sheet places) (callOf kind rest) before before (panel sheet places) r
+    way-no-kind three four five nine = no-call (panel sheet places) (callOf kind rest) (no-kind kind one two six seven eight rest three four five nine) q
 
 pub ruleset kind-ways = (
   way-judge,
   way-repair,
   way-no-byte,
+  way-load,
   way-put-row,
   way-put-record,
   way-more-bytes,
@@ -193,20 +207,16 @@ pub ruleset kind-ways = (
 )
 
 -- ---- run_frame
-module _ (p : Panel) (frame : List ℕ) {before : List ℕ} {r : Told} where
-  pub frame-none : length frame ≡ 0 → r ≡ told 12 0 → Tells p (frameCall frame) before before (p .places) r
-  frame-none l q = no-call p (frameCall frame) (empty frame l) q refl
+module _ (p : Panel) (frame : List ℕ) {before : List ℕ} {r : Answer} where
+  pub frame-none : length frame ≡ 0 → (r .number ≡ 12) × (r .length ≡ 0) → Tells p (frameCall frame) before before p r
+  frame-none l q = no-call p (frameCall frame) (empty frame l) q
     where
       empty : (l : List ℕ) → length l ≡ 0 → frameCall l ≡ none
       empty [] e = refl
       empty (x ∷ xs) e = absurd (omega arith)
 
-  pub frame-some : {after places′ : List ℕ} → (length frame ≡ 0 → ⊥) → Tells p (callOf (getD frame 0 0) (take (length frame - 1) (drop 1 frame))) before after places′ r
-      → Tells p (frameCall frame) before after places′ r
-  frame-some {after} {places′} h t = subst (λ l. Tells p (frameCall l) before after places′ r) (sym (parts frame h)) t
+  pub frame-some : {after : List ℕ} {later : Panel} → (length frame ≡ 0 → ⊥) → Tells p (callOf (getD frame 0 0) (take (length frame - 1) (drop 1 frame))) before after later r
+      → Tells p (frameCall frame) before after later r
+  frame-some {after} {later} h t = subst (λ l. Tells p (frameCall l) before after later r) (sym (parts frame h)) t
 
--- the kind of a frame that is no load
-pub no-load : (frame : List ℕ) → isLoad frame ≡ false → (length frame ≡ 0 → ⊥) → eqb (getD frame 0 0) 1 ≡ false
-no-load frame e h = kind-is-load frame h ∙ e
-
-pub ruleset frame-ways = (frame-none, frame-some, no-load, needs)
+pub ruleset frame-ways = (frame-none, frame-some, needs)

@@ -6,19 +6,29 @@ use mathlib.Core.List.{List, [], _∷_}
 use mathlib.Core.Option.{Option, none, some}
 use borrow.Author.Tests.{ne-eqb}
 use Rattle.expression.specs.Refusal.{accepted, oversize}
-use Rattle.monitor.specs.Call.{Call, load, loadList, putRow, putRecord, drop, fetchRecord, fetchRow, image, build, repair, judge, yield, operand}
+use Rattle.monitor.specs.Call.{Question, Call, load, loadList, putRow, putRecord, drop, ask, fetchRecord, fetchRow, image, build, repair, judge, yield, operand}
 use Rattle.monitor.specs.Panel.{Panel, ifAccepted}
 use Rattle.monitor.specs.Steps.{outcome, after}
-use Rattle.monitor.specs.Book.{Book, bookNumber}
+use Rattle.monitor.specs.Book.{Book, askedNumber, bookNumber}
 use Rattle.monitor.specs.Run.{panelAfter, bookAfter}
 use Rattle.monitor.proofs.Stands.{Stands, same-number}
-use Rattle.monitor.proofs.Replies.{told, answers}
+use Rattle.monitor.proofs.Replies.{tells, answered}
 use Rattle.monitor.proofs.Histories.{stands}
+use Rattle.monitor.proofs.Demand1.{demand-1}
 use Rattle.monitor.proofs.Demand3.{demand-3}
 use Rattle.hexadecimal.specs.Text.{bytesOf, textOf}
-use Rattle.frame.specs.Frames.{answerOf, frameAfter, frameReply}
+use Rattle.frame.specs.Frames.{toldBytes, answerOf, frameAfter, frameReply}
 use Rattle.frame.specs.Lines.{isLong, textCall, lineCall, lineBytes, lineReply, lineAfter}
-use Rattle.frame.specs.Runs.{panelAfterLines, withCall, callsOf, Said, SaysFrame, SaysLine, Says, Demand3OfLines}
+use Rattle.frame.specs.Runs.{panelAfterLines, withCall, callsOf, SaidTo, Said, SaysFrame, SaysLine, Says, Demand1OfLines, Demand3OfLines}
+
+-- the first byte of a reply, and the others
+abbrev head : List ℕ → ℕ
+head [] = 0
+head (x ∷ xs) = x
+
+abbrev rest : List ℕ → List ℕ
+rest [] = []
+rest (x ∷ xs) = xs
 
 -- The panel after the lines is the panel after their calls.
 pub panel-after-lines : (lines : List (List ℕ)) → panelAfterLines lines ≡ panelAfter (callsOf lines)
@@ -35,21 +45,42 @@ pub long-line : (p : Panel) (line : List ℕ) → isLong line ≡ true → (line
 unfolding lineReply lineBytes lineAfter lineCall
 long-line p line e = simp e (refl, refl)
 
+-- A refused line is answered by its number alone, and changes nothing.
+module _ (p : Panel) where
+  frame-unchanged : (call : Option Call) (number : ℕ) (answer : List ℕ) → frameReply p call ≡ number ∷ answer → (number ≡ accepted → ⊥) → (answer ≡ []) × (frameAfter p call ≡ p)
+  frame-unchanged none number answer e h = (sym (ap rest e), refl)
+  frame-unchanged (some c) number answer e h =
+      let first : outcome p c .number ≡ number = ap head e in
+      let refused : outcome p c .number ≡ accepted → ⊥ = λ z. h (sym first ∙ z) in
+      (sym (ap rest e) ∙ rw (ne-eqb (outcome p c .number) accepted refused), demand-1 p c .unchanged refused .0)
+
+  pub demand-1-of-lines : (line : List ℕ) → Demand1OfLines p line
+  unfolding lineBytes lineAfter lineCall
+  demand-1-of-lines line = record { unchanged = go (isLong line) }
+    where
+      go : (long : Bool) (number : ℕ) (answer : List ℕ) → cond long (oversize ∷ []) (frameReply p (textCall (bytesOf line))) ≡ number ∷ answer → (number ≡ accepted → ⊥)
+          → (answer ≡ []) × (frameAfter p (cond long none (textCall (bytesOf line))) ≡ p)
+      go true number answer e h = (sym (ap rest e), refl)
+      go false number answer e h = frame-unchanged (textCall (bytesOf line)) number answer e h
+
 module _ (p : Panel) (b : Book) (s : Stands p b) where
+  said-to : (q : Question) → askedNumber b q ≡ accepted → SaidTo b q (toldBytes p q)
+  said-to (judge bytes) z = let (t, r, e) = answered p b s (judge bytes) .count .0 z in (t, r, ap (λ n. n ∷ []) e)
+  said-to (fetchRecord k out) z = tells p b s (fetchRecord k out) z
+  said-to (fetchRow k out) z = tells p b s (fetchRow k out) z
+  said-to (image k out) z = tells p b s (image k out) z
+  said-to (build row out) z = tells p b s (build row out) z
+  said-to (repair bytes out) z = tells p b s (repair bytes out) z
+  said-to (yield bytes out) z = tells p b s (yield bytes out) z
+  said-to (operand right bytes) z = tells p b s (operand right bytes) z
+
   said : (c : Call) → bookNumber b c ≡ accepted → Said b c (answerOf p c)
-  said (judge bytes) z = let (t, r, e) = answers p b s (judge bytes) .count .0 z in (t, r, ap (λ n. n ∷ []) e)
-  said (load n rules) z = told p b s (load n rules) z
-  said (loadList n rules) z = told p b s (loadList n rules) z
-  said (putRow k row) z = told p b s (putRow k row) z
-  said (putRecord k bytes) z = told p b s (putRecord k bytes) z
-  said (drop k) z = told p b s (drop k) z
-  said (fetchRecord k out) z = told p b s (fetchRecord k out) z
-  said (fetchRow k out) z = told p b s (fetchRow k out) z
-  said (image k out) z = told p b s (image k out) z
-  said (build row out) z = told p b s (build row out) z
-  said (repair bytes out) z = told p b s (repair bytes out) z
-  said (yield bytes out) z = told p b s (yield bytes out) z
-  said (operand right bytes) z = told p b s (operand right bytes) z
+  said (load n rules) z = refl
+  said (loadList n rules) z = refl
+  said (putRow k row) z = refl
+  said (putRecord k bytes) z = refl
+  said (drop k) z = refl
+  said (ask q) z = said-to q z
 
   says-frame : (call : Option Call) → SaysFrame b call (frameReply p call)
   says-frame none = refl

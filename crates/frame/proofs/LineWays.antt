@@ -3,30 +3,24 @@ use mathlib.Core.Path.{_≡_, refl, sym, ap, ap₂, subst, _∙_}
 use mathlib.Core.Bool.{Bool, true, false, not, cond, true≢false}
 use mathlib.Core.List.{List, [], _∷_, _++_, append-nil, append-assoc}
 use mathlib.Core.Option.{Option, none, some}
-use Prim.Native.Nat.{ℕ, zero, suc, _+_, _*_, _-_, _<_, _≤_}
+use Prim.Native.Nat.{ℕ, _+_, _*_, _-_, _<_, _≤_}
 use native.Mathlib.Omega.{arith}
 use lib.Dec.{eqb, ltb}
-use lib.ListN.{length, getD, take, drop, length-append, length-drop, drop-of-length-le}
+use lib.ListN.{length, take, drop, length-append, length-drop, drop-of-length-le}
 use lib.Seq.{length-take-le, take-all, take-append-seam, drop-append-seam, drop-drop}
 use borrow.Author.Needs.{needs}
 use borrow.Author.Tests.{lt-ltb, le-ltb}
 use Rattle.expression.specs.Refusal.{accepted}
-use Rattle.sheet.specs.declared.Sheet.{Sheet}
-use Rattle.sheet.specs.declared.Loaded.{Loaded}
-use Rattle.monitor.specs.Call.{Call, load}
-use Rattle.monitor.specs.Panel.{Panel, ifAccepted}
-use Rattle.monitor.specs.Contracts.{panel, LoadsPanel}
+use Rattle.record.specs.declared.Answer.{Answer}
+use Rattle.monitor.specs.Call.{Call}
+use Rattle.monitor.specs.Panel.{Panel, panel, ifAccepted}
 use Rattle.hexadecimal.specs.Text.{bytesOf, textOf, withFront, bytesWithin, answerOf, outputOf, textWithin, Decodes, Encodes}
 use Rattle.hexadecimal.specs.declared.Decoded.{Decoded}
 use Rattle.hexadecimal.proofs.TextWays.{length-textOf}
 use Rattle.hexadecimal.proofs.Laws.{bytesWithin-room, textWithin-room}
-use Rattle.line_io.specs.Lines.{mostCharacters}
-use Rattle.frame.proofs.KindWays.{cond-same, parts}
-use Rattle.frame.specs.Frames.{named, isLoad, callOf, frameCall, frameReply, frameNumber, frameAnswer, frameAfter}
-use Rattle.frame.specs.Lines.{textCall, lineCall, lineBytes, lineReply, lineAfter}
-use Rattle.frame.specs.Contracts.{mostReply, Tells, Writes, Replies, RepliesLoad}
-use Rattle.frame.specs.declared.Replied.{Replied}
-use Rattle.frame.specs.declared.kinds.Told.{Told}
+use Rattle.frame.specs.Frames.{mostAnswer, frameCall, frameReply, frameNumber, frameAnswer, frameAfter}
+use Rattle.frame.specs.Lines.{mostCharacters, textCall, lineCall, lineBytes, lineReply, lineAfter}
+use Rattle.frame.specs.Contracts.{mostReply, Tells, Writes, Replies}
 
 -- ---- write_reply
 module _ (a b out : List ℕ) (h : length a ≤ length out) where
@@ -53,7 +47,7 @@ abbrev partOf : ℕ → List ℕ → List ℕ
 partOf from mid = take (length mid - from) (drop from mid)
 
 module _ (number : ℕ) (answer out : List ℕ) {mid part : List ℕ} {from more : ℕ} where
-  pub written : Encodes (number ∷ []) out mid from → Encodes answer (take (length mid - from) (drop from mid)) part more → 514 ≤ length out → length answer ≤ 256
+  pub written : Encodes (number ∷ []) out mid from → Encodes answer (take (length mid - from) (drop from mid)) part more → mostReply ≤ length out → length answer ≤ mostAnswer
       → Writes number answer out (take from mid ++ (part ++ drop (length mid - from) (drop from mid))) (from + more)
   unfolding textOf
   written e f h l =
@@ -79,28 +73,20 @@ pub ruleset write-ways = (written, needs)
 
 -- ---- reply_by
 -- a line's bytes written: what is replied, and the panel after it
-module _ (p : Panel) (line out : List ℕ) {after places : List ℕ} {r : Replied} where
-  replied : (number : ℕ) (answer : List ℕ) → 514 ≤ length out → lineBytes p line ≡ number ∷ answer → Writes number answer out after (r .length) → r .sheet ≡ lineAfter p line .sheet
-      → places ≡ lineAfter p line .places → Replies p line out after places r
+module _ (p : Panel) (line out : List ℕ) {after : List ℕ} {later : Panel} {r : ℕ} where
+  replied : (number : ℕ) (answer : List ℕ) → lineBytes p line ≡ number ∷ answer → Writes number answer out after r → later ≡ lineAfter p line → Replies p line out after later r
   unfolding lineReply
-  replied number answer h e w s q =
-      let long : ltb (length out) mostReply ≡ false = le-ltb (length out) mostReply h in
+  replied number answer e w q =
       let same : lineReply p line ≡ textOf (number ∷ answer) = ap textOf e in
-      record {
-        measured = rw long (w .measured ∙ ap length (sym same));
-        output = rw long (w .output ∙ ap (λ t. withFront t out) (sym same));
-        in-force = rw long s;
-        stands = rw long q;
-        inside = w .inside;
-      }
+      record { measured = w .measured ∙ ap length (sym same); output = w .output ∙ ap (λ t. withFront t out) (sym same); stands = q; inside = w .inside }
 
   -- a line within the limit
-  by-frame : (number : ℕ) (answer : List ℕ) (call : Option Call) → 514 ≤ length out → length line ≤ mostCharacters → textCall (bytesOf line) ≡ call → frameReply p call ≡ number ∷ answer
-      → Writes number answer out after (r .length) → r .sheet ≡ frameAfter p call .sheet → places ≡ frameAfter p call .places → Replies p line out after places r
+  by-frame : (number : ℕ) (answer : List ℕ) (call : Option Call) → length line ≤ mostCharacters → textCall (bytesOf line) ≡ call → frameReply p call ≡ number ∷ answer
+      → Writes number answer out after r → later ≡ frameAfter p call → Replies p line out after later r
   unfolding lineBytes lineAfter lineCall
-  by-frame number answer call h l e f w s q =
+  by-frame number answer call l e f w q =
       let fits : ltb mostCharacters (length line) ≡ false = le-ltb mostCharacters (length line) l in
-      replied number answer h (rw (fits, e) f) w (rw (fits, e) s) (rw (fits, e) q)
+      replied number answer (rw (fits, e) f) w (rw (fits, e) q)
 
 -- a line that was read into a buffer with room for its bytes, or not
 module _ (line room : List ℕ) {after : List ℕ} {d : Decoded} (reads : Decodes line room after d) (h : length line ≤ length room * 2) where
@@ -128,7 +114,7 @@ module _ (line room : List ℕ) {after : List ℕ} {d : Decoded} (reads : Decode
           ap some (sym (ap₂ take all f ∙ take-append-seam bytes (drop (length bytes) room)))
 
 -- what a call wrote of its answer
-module _ {p : Panel} {call : Option Call} {before after places : List ℕ} {t : Told} (tells : Tells p call before after places t) where
+module _ {p : Panel} {call : Option Call} {before after : List ℕ} {later : Panel} {t : Answer} (tells : Tells p call before after later t) where
   answer-front : take (t .length - 0) after ≡ ifAccepted (frameNumber p call) (frameAnswer p call) []
   answer-front = go (eqb (frameNumber p call) accepted) (frameAnswer p call) (tells .measured) (tells .output)
     where
@@ -143,89 +129,30 @@ module _ {p : Panel} {call : Option Call} {before after places : List ℕ} {t : 
       go true answer n e = let size : length after ≡ length answer + length (drop (length answer) before) = ap length e ∙ length-append answer (drop (length answer) before) in omega arith
       go false answer n e = omega arith
 
-  pub answer-fits : length before ≡ 256 → length after ≡ length before → length (take (t .length - 0) after) ≤ 256
+  pub answer-fits : length before ≡ mostAnswer → length after ≡ length before → length (take (t .length - 0) after) ≤ mostAnswer
   answer-fits l e = let h = answer-inside in omega (arith, length-take-le (t .length - 0) after (omega arith))
 
--- a frame that is a load, by the bytes after its kind
-module _ (n : ℕ) (bytes : List ℕ) where
-  pub load-starts : {b : Bool} → b ≡ isLoad (take (n - 0) bytes) → b ≡ true → 1 ≤ n
-  unfolding isLoad
-  load-starts {b} e t = go n refl
-    where
-      go : (m : ℕ) → n ≡ m → 1 ≤ n
-      go zero z = absurd (true≢false (sym t ∙ e ∙ ap (λ k. isLoad (take (k - 0) bytes)) z))
-      go (suc m) z = omega arith
+module _ (sheet places line room out : List ℕ) {room′ : List ℕ} {d : Decoded}
+    (reads : Decodes line room room′ d) (l : length line ≤ mostCharacters) (h : length line ≤ length room * 2) {written : List ℕ} {n : ℕ} where
+  pub line-refused : Writes 12 [] out written n → not (d .ok) ≡ true → Replies (panel sheet places) line out written (panel sheet places) n
+  line-refused w e = by-frame (panel sheet places) line out 12 [] none l (ap textCall (unread line room reads h e)) refl w refl
 
-  load-call : isLoad (take (n - 0) bytes) ≡ true → frameCall (take (n - 0) bytes) ≡ named load (take (n - 1) (drop 1 bytes))
-  unfolding isLoad callOf
-  load-call e = let whole : n - 0 ≡ n = omega arith in ap (λ k. frameCall (take k bytes)) whole ∙ go n bytes (ap (λ k. isLoad (take k bytes)) (sym whole) ∙ e)
-    where
-      go : (n : ℕ) (l : List ℕ) → isLoad (take n l) ≡ true → frameCall (take n l) ≡ named load (take (n - 1) (drop 1 l))
-      go zero l e = absurd (true≢false (sym e))
-      go (suc m) [] e = absurd (true≢false (sym e))
-      go (suc m) (x ∷ l) e = let less : m ≡ suc m - 1 = omega arith in rw e (ap (λ k. named load (take k l)) less)
-
-pub is-no-load : (frame : List ℕ) {b : Bool} → b ≡ false → b ≡ isLoad frame → isLoad frame ≡ false
-is-no-load frame f e = sym e ∙ f
-
--- a load has no answer
-load-alone : (p : Panel) (rest : List ℕ) → ifAccepted (frameNumber p (named load rest)) (frameAnswer p (named load rest)) [] ≡ []
-load-alone p [] = refl
-load-alone p (x ∷ rest) = cond-same (eqb (frameNumber p (named load (x ∷ rest))) accepted)
-
-module _ (s : Sheet) (places line room out : List ℕ) {room′ : List ℕ} {d : Decoded}
-    (reads : Decodes line room room′ d) (l : length line ≤ mostCharacters) (h : length line ≤ length room * 2) (long : 514 ≤ length out) {written : List ℕ} where
-  pub line-refused : {r : Replied} → Writes 12 [] out written (r .length) → r .sheet ≡ s → not (d .ok) ≡ true → Replies (panel s places) line out written places r
-  line-refused w e n = by-frame (panel s places) line out 12 [] none long l (ap textCall (unread line room reads h n)) refl w e refl
-
-  pub line-run : {before after places′ : List ℕ} {t : Told} {n : ℕ} → Tells (panel s places) (frameCall (take (d .length - 0) room′)) before after places′ t
-      → Writes (t .number) (take (t .length - 0) after) out written n → not (d .ok) ≡ false → Replies (panel s places) line out written places′ (record { sheet = s; length = n })
-  line-run {after = after} {t = t} tells w n =
-      by-frame (panel s places) line out (t .number) (take (t .length - 0) after) (frameCall (take (d .length - 0) room′)) long l (ap textCall (read line room reads h n))
+  pub line-run : {before after : List ℕ} {later : Panel} {t : Answer} → Tells (panel sheet places) (frameCall (take (d .length - 0) room′)) before after later t
+      → Writes (t .number) (take (t .length - 0) after) out written n → not (d .ok) ≡ false → Replies (panel sheet places) line out written later n
+  line-run {after = after} {t = t} tells w e =
+      by-frame (panel sheet places) line out (t .number) (take (t .length - 0) after) (frameCall (take (d .length - 0) room′)) l (ap textCall (read line room reads h e))
       (ap₂ _∷_ (sym (tells .numbered)) (sym (answer-front tells)))
       w
-      (sym (tells .same-sheet))
       (tells .stands)
 
-  pub line-load : {places′ : List ℕ} {r : Replied} {b : Bool} → RepliesLoad (panel s places) (take (d .length - 1) (drop 1 room′)) out written places′ r → b ≡ isLoad (take (d .length - 0) room′)
-      → b ≡ true → not (d .ok) ≡ false → Replies (panel s places) line out written places′ r
-  line-load w e t n =
-      let call = named load (take (d .length - 1) (drop 1 room′)) in
-      by-frame (panel s places) line out (frameNumber (panel s places) call) [] call long l (ap textCall (read line room reads h n) ∙ load-call (d .length) room′ (sym e ∙ t))
-      (ap (λ t. frameNumber (panel s places) call ∷ t) (load-alone (panel s places) (take (d .length - 1) (drop 1 room′))))
-      (w .writes)
-      (w .in-force)
-      (w .stands)
-
-pub ruleset reply-by-ways = (line-refused, line-run, line-load, load-starts, is-no-load, answer-inside, answer-fits, needs)
-
--- ---- reply_load
-module _ (s : Sheet) (places rest out : List ℕ) {after : List ℕ} {r : Replied} where
-  pub load-none : Writes 12 [] out after (r .length) → r .sheet ≡ s → length rest ≡ 0 → RepliesLoad (panel s places) rest out after places r
-  load-none w e z = go rest z
-    where
-      go : (l : List ℕ) → length l ≡ 0 → RepliesLoad (panel s places) l out after places r
-      go [] z = record { writes = w; in-force = e; stands = refl }
-      go (x ∷ xs) z = absurd (omega arith)
-
-  pub load-run : {places′ : List ℕ} {l : Loaded} → LoadsPanel (panel s places) (getD rest 0 0) (take (length rest - 1) (drop 1 rest)) l places′ → Writes (l .number) [] out after (r .length)
-      → r .sheet ≡ l .sheet → (length rest ≡ 0 → ⊥) → RepliesLoad (panel s places) rest out after places′ r
-  load-run {places′} {l} w v e h =
-      subst (λ t. RepliesLoad (panel s places) t out after places′ r) (sym (parts rest h))
-      (record { writes = subst (λ n. Writes n [] out after (r .length)) (w .numbered) v; in-force = e ∙ w .in-force; stands = w .stands })
-
-pub ruleset reply-load-ways = (load-none, load-run, needs)
+pub ruleset reply-by-ways = (line-refused, line-run, answer-inside, answer-fits, needs)
 
 -- ---- reply
-module _ (s : Sheet) (places line out : List ℕ) where
-  pub output-short : length out < 514 → Replies (panel s places) line out out places (record { sheet = s; length = 0 })
-  output-short h = let e = lt-ltb (length out) mostReply h in record { measured = rw e; output = rw e; in-force = rw e; stands = rw e; inside = omega arith }
+pub line-long : (sheet places line out : List ℕ) {after : List ℕ} {r : ℕ} → Writes 1 [] out after r → mostCharacters < length line
+    → Replies (panel sheet places) line out after (panel sheet places) r
+unfolding lineBytes lineAfter lineCall
+line-long sheet places line out w l =
+    let long : ltb mostCharacters (length line) ≡ true = lt-ltb mostCharacters (length line) l in
+    replied (panel sheet places) line out 1 [] (rw long) w (rw long)
 
-  pub line-long : {after : List ℕ} {r : Replied} → Writes 1 [] out after (r .length) → r .sheet ≡ s → 514 ≤ length out → mostCharacters < length line
-      → Replies (panel s places) line out after places r
-  unfolding lineBytes lineAfter lineCall
-  line-long w e h l =
-      let long : ltb mostCharacters (length line) ≡ true = lt-ltb mostCharacters (length line) l in
-      replied (panel s places) line out 1 [] h (rw long) w (rw long e) (rw long)
-
-pub ruleset reply-ways = (output-short, line-long, needs)
+pub ruleset reply-ways = (line-long, needs)

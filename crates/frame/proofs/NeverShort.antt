@@ -10,22 +10,22 @@ use lib.ListN.{length}
 use borrow.Author.Tests.{le-ltb, ltb-false, eq-eqb}
 use Rattle.expression.specs.Refusal.{Check, first, accepted, short}
 use Rattle.expression.specs.Limits.{mostTokens, mostRecordBytes}
-use Rattle.expression.specs.Token.{class}
+use Rattle.expression.specs.Token.{Operators, operators, class}
 use Rattle.expression.specs.Decode.{treeOf}
 use Rattle.expression.specs.Checks.{shortCheck, rowTokens, rowChecks, recordChecks, recordNumber, repairNumber}
 use Rattle.expression.proofs.Cond.{by-cond}
 use Rattle.expression.proofs.Numbers.{passed-first, record-numbered}
 use Rattle.places.specs.Store.{slotBytes, held}
 use Rattle.places.proofs.Laws.{held-length}
-use Rattle.monitor.specs.Call.{Call, load, putRow, putRecord, drop, fetchRecord, fetchRow, image, repair}
+use Rattle.monitor.specs.Call.{Call, load, putRow, putRecord, drop, ask, fetchRecord, fetchRow, image, repair}
 use Rattle.monitor.specs.Panel.{Panel, placeCheck, emptyCheck, inUseCheck, sheetChecks}
-use Rattle.monitor.specs.Steps.{operators, outcome, loadNumber, putRowNumber, putRecordNumber, dropNumber, fetchRecordNumber, fetchRowNumber, imageNumber}
+use Rattle.monitor.specs.Steps.{ops, outcome, loadNumber, putRowNumber, putRecordNumber, dropNumber, fetchRecordNumber, fetchRowNumber, imageNumber}
 use Rattle.monitor.specs.Book.{bookNumber}
 use Rattle.monitor.specs.Run.{panelAfter, bookAfter}
 use Rattle.monitor.proofs.Stands.{same-number}
 use Rattle.monitor.proofs.Histories.{stands}
 use Rattle.hexadecimal.specs.Text.{bytesOf}
-use Rattle.frame.specs.Frames.{room, named, alone, callOf}
+use Rattle.frame.specs.Frames.{mostAnswer, room, named, alone, callOf}
 use Rattle.frame.specs.Lines.{isLong, textCall, lineCall}
 use Rattle.frame.specs.Runs.{callsOf}
 use Rattle.frame.proofs.KindWays.{length-room}
@@ -50,10 +50,10 @@ plain-only : (cs : List Check) → plain cs ≡ true → first (cs ++ []) ≡ sh
 plain-only cs h = no-short cs [] h (λ z e. omega arith)
 
 -- 10 comes last, and not where the answer has room.
-roomy : (cs : List Check) (answer : ℕ) → plain cs ≡ true → (first cs ≡ accepted → answer ≤ 256) → first (cs ++ (shortCheck answer (length room) ∷ [])) ≡ short → ⊥
+roomy : (cs : List Check) (answer : ℕ) → plain cs ≡ true → (first cs ≡ accepted → answer ≤ mostAnswer) → first (cs ++ (shortCheck answer (length room) ∷ [])) ≡ short → ⊥
 roomy cs answer h f = no-short cs (shortCheck answer (length room) ∷ []) h (λ z e. fits (f z) e)
   where
-    fits : answer ≤ 256 → cond (ltb (length room) answer) short accepted ≡ short → ⊥
+    fits : answer ≤ mostAnswer → cond (ltb (length room) answer) short accepted ≡ short → ⊥
     fits l e = let z : _≡_ {A = ℕ} 0 10 = ap (λ b. cond b 10 0) (sym (le-ltb (length room) answer (omega (arith, length-room)))) ∙ e in omega arith
 
 module _ (p : Panel) where
@@ -73,35 +73,35 @@ module _ (p : Panel) where
   kind-fits : (kind : ℕ) (rest : List ℕ) → Fits (callOf kind rest)
   unfolding callOf loadNumber putRowNumber putRecordNumber dropNumber fetchRecordNumber fetchRowNumber imageNumber recordNumber repairNumber
   kind-fits kind rest =
-      by-cond Fits (eqb kind 1) (λ _. named-fits load rest (λ m l. plain-only (sheetChecks m l ++ (inUseCheck m at ∷ [])) refl)) (λ _.
-      by-cond Fits (eqb kind 2) (λ _. named-fits putRow rest (λ k l. plain-only (placeCheck k ∷ rowChecks n l) refl)) (λ _.
+      by-cond Fits (eqb kind 1) (λ _. named-fits load rest (λ m l. plain-only (sheetChecks m l ++ (inUseCheck (operators m) at ∷ [])) refl)) (λ _.
+      by-cond Fits (eqb kind 2) (λ _. named-fits putRow rest (λ k l. plain-only (placeCheck k ∷ rowChecks o l) refl)) (λ _.
       by-cond Fits (eqb kind 3) (λ _. alone-fits drop rest (λ k. plain-only (placeCheck k ∷ emptyCheck (at k) ∷ []) refl)) (λ _.
-      by-cond Fits (eqb kind 4) (λ _. alone-fits (λ k. fetchRecord k room) rest record-fits) (λ _.
-      by-cond Fits (eqb kind 5) (λ _. alone-fits (λ k. fetchRow k room) rest row-fits) (λ _.
-      by-cond Fits (eqb kind 6) (λ _. named-fits putRecord rest (λ k l. plain-only (placeCheck k ∷ recordChecks n l) refl)) (λ _.
-      by-cond Fits (eqb kind 7) (λ _. plain-only (recordChecks n rest) refl) (λ _.
+      by-cond Fits (eqb kind 4) (λ _. alone-fits (λ k. ask (fetchRecord k room)) rest record-fits) (λ _.
+      by-cond Fits (eqb kind 5) (λ _. alone-fits (λ k. ask (fetchRow k room)) rest row-fits) (λ _.
+      by-cond Fits (eqb kind 6) (λ _. named-fits putRecord rest (λ k l. plain-only (placeCheck k ∷ recordChecks o l) refl)) (λ _.
+      by-cond Fits (eqb kind 7) (λ _. plain-only (recordChecks o rest) refl) (λ _.
       by-cond Fits (eqb kind 8) (λ _. repair-fits) (λ _.
-      by-cond Fits (eqb kind 9) (λ _. alone-fits (λ k. image k room) rest (λ k. roomy (placeCheck k ∷ []) slotBytes refl (λ z. omega arith))) (λ _. tt)))))))))
+      by-cond Fits (eqb kind 9) (λ _. alone-fits (λ k. ask (image k room)) rest (λ k. roomy (placeCheck k ∷ []) slotBytes refl (λ z. omega arith))) (λ _. tt)))))))))
     where
-      n : ℕ
-      n = operators p
+      o : Operators
+      o = ops p
 
       at : ℕ → List ℕ
       at k = held (p .places) k
 
-      record-fits : (k : ℕ) → Fits (some (fetchRecord k room))
+      record-fits : (k : ℕ) → Fits (some (ask (fetchRecord k room)))
       record-fits k = roomy (placeCheck k ∷ emptyCheck (at k) ∷ []) (length (at k)) refl (λ z. omega (arith, held-length (p .places) k))
 
-      row-fits : (k : ℕ) → Fits (some (fetchRow k room))
+      row-fits : (k : ℕ) → Fits (some (ask (fetchRow k room)))
       row-fits k =
-          let cs = placeCheck k ∷ emptyCheck (at k) ∷ recordChecks n (at k) in
-          let tokens = rowTokens (treeOf (class n) (at k)) in
-          roomy cs tokens refl (λ z. omega (arith, ltb-false mostTokens tokens (passed-first cs (λ e. omega arith, (λ e. omega arith, record-numbered n (at k))) z .1 .1 .1 .1 .1 .0)))
+          let cs = placeCheck k ∷ emptyCheck (at k) ∷ recordChecks o (at k) in
+          let tokens = rowTokens (treeOf (class o) (at k)) in
+          roomy cs tokens refl (λ z. omega (arith, ltb-false mostTokens tokens (passed-first cs (λ e. omega arith, (λ e. omega arith, record-numbered o (at k))) z .1 .1 .1 .1 .1 .0)))
 
-      repair-fits : Fits (some (repair rest room))
+      repair-fits : Fits (some (ask (repair rest room)))
       repair-fits =
-          roomy (recordChecks n rest) (length rest) refl
-          (λ z. omega (arith, ltb-false mostRecordBytes (length rest) (passed-first (recordChecks n rest) (record-numbered n rest) z .0)))
+          roomy (recordChecks o rest) (length rest) refl
+          (λ z. omega (arith, ltb-false mostRecordBytes (length rest) (passed-first (recordChecks o rest) (record-numbered o rest) z .0)))
 
   line-fits : (line : List ℕ) → Fits (lineCall line)
   unfolding lineCall

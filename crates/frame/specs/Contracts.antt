@@ -1,39 +1,38 @@
 -- What answering a frame and a line promise. Assumes nothing.
-use Prim.Native.Nat.{ℕ, _≤_}
+use Prim.Native.Nat.{ℕ, _+_, _*_, _≤_}
 use mathlib.Core.Path.{_≡_}
-use mathlib.Core.Bool.{Bool, cond}
 use mathlib.Core.List.{List, [], _∷_}
 use mathlib.Core.Option.{Option}
-use lib.Dec.{ltb}
 use lib.ListN.{length}
 use Rattle.expression.specs.Lent.{outputAfter, lengthAfter}
+use Rattle.record.specs.declared.Answer.{Answer}
 use Rattle.record.specs.declared.Judgement.{Judgement}
-use Rattle.monitor.specs.Call.{Call, load}
+use Rattle.monitor.specs.Call.{Call}
 use Rattle.monitor.specs.Panel.{Panel}
 use Rattle.hexadecimal.specs.Text.{textOf, withFront}
-use Rattle.frame.specs.Frames.{named, frameNumber, frameAnswer, frameAfter}
+use Rattle.frame.specs.Frames.{mostAnswer, frameNumber, frameAnswer, frameAfter}
 use Rattle.frame.specs.Lines.{lineReply, lineAfter}
-use Rattle.frame.specs.declared.kinds.Told.{Told}
-use Rattle.frame.specs.declared.Replied.{Replied}
 
--- a call's number, and how many answer bytes it gave
-abbrev pub told : (number length : ℕ) → Told
-told number length = record { number = number; length = length }
-
--- The call of a frame that is no load was run: the output was `before` and became `after`, and the places became `places`.
-pub record Tells (p : Panel) (call : Option Call) (before after places : List ℕ) (r : Told) : Type 0 where
+-- The call of a frame was run: the output was `before` and became `after`, and the panel became `later`.
+pub record Tells (p : Panel) (call : Option Call) (before after : List ℕ) (later : Panel) (r : Answer) : Type 0 where
   pub numbered : r .number ≡ frameNumber p call
   pub measured : r .length ≡ lengthAfter (frameNumber p call) (frameAnswer p call)
   pub output : after ≡ outputAfter (frameNumber p call) (frameAnswer p call) before
-  pub same-sheet : frameAfter p call .sheet ≡ p .sheet
-  pub stands : places ≡ frameAfter p call .places
+  pub stands : later ≡ frameAfter p call
 
--- characters of the longest reply
+-- characters of the longest reply: the number and the longest answer, two a byte
 abbrev pub mostReply : ℕ
-mostReply = 514
+mostReply = 2 * (1 + mostAnswer)
+
+-- bytes of a frame that is read into the small buffer: kind, place and as many as the longest answer has; and characters of its line
+abbrev pub shortFrame : ℕ
+shortFrame = 2 + mostAnswer
+
+abbrev pub shortLine : ℕ
+shortLine = 2 * shortFrame
 
 -- The answer to a judgement: its count, where it is accepted.
-pub record Judges (j : Judgement) (before after : List ℕ) (r : Told) : Type 0 where
+pub record TellsCount (j : Judgement) (before after : List ℕ) (r : Answer) : Type 0 where
   pub numbered : r .number ≡ j .number
   pub measured : r .length ≡ lengthAfter (j .number) (j .count ∷ [])
   pub output : after ≡ outputAfter (j .number) (j .count ∷ []) before
@@ -44,26 +43,9 @@ pub record Writes (number : ℕ) (answer before after : List ℕ) (r : ℕ) : Ty
   pub output : after ≡ withFront (textOf (number ∷ answer)) before
   pub inside : r ≤ mostReply
 
--- an output without room for the longest reply: nothing is written, and the line is not run
-abbrev pub isShort : List ℕ → Bool
-isShort out = ltb (length out) mostReply
-
-abbrev pub text : Panel → (line out : List ℕ) → List ℕ
-text p line out = cond (isShort out) [] (lineReply p line)
-
-abbrev pub panelAfter : Panel → (line out : List ℕ) → Panel
-panelAfter p line out = cond (isShort out) p (lineAfter p line)
-
--- A line was answered: the output was `before` and became `after`, and the places became `places`.
-pub record Replies (p : Panel) (line before after places : List ℕ) (r : Replied) : Type 0 where
-  pub measured : r .length ≡ length (text p line before)
-  pub output : after ≡ withFront (text p line before) before
-  pub in-force : r .sheet ≡ panelAfter p line before .sheet
-  pub stands : places ≡ panelAfter p line before .places
-  pub inside : r .length ≤ mostReply
-
--- A load was answered, by the bytes after its kind: a number alone.
-pub record RepliesLoad (p : Panel) (rest before after places : List ℕ) (r : Replied) : Type 0 where
-  pub writes : Writes (frameNumber p (named load rest)) [] before after (r .length)
-  pub in-force : r .sheet ≡ frameAfter p (named load rest) .sheet
-  pub stands : places ≡ frameAfter p (named load rest) .places
+-- A line was answered: the output was `before` and became `after`, the panel became `later`, and r is the reply's length.
+pub record Replies (p : Panel) (line before after : List ℕ) (later : Panel) (r : ℕ) : Type 0 where
+  pub measured : r ≡ length (lineReply p line)
+  pub output : after ≡ withFront (lineReply p line) before
+  pub stands : later ≡ lineAfter p line
+  pub inside : r ≤ mostReply

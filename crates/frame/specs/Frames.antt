@@ -1,18 +1,19 @@
 -- Frames: the call that the bytes of a line stand for, and what is replied to it. Assumes nothing.
 use Prim.Native.Nat.{ℕ}
-use mathlib.Core.Bool.{Bool, false, cond}
+use mathlib.Core.Bool.{cond}
 use mathlib.Core.List.{List, [], _∷_}
 use mathlib.Core.Option.{Option, none, some}
 use lib.Dec.{eqb}
 use lib.ListN.{replicate}
 use Rattle.expression.specs.Refusal.{frame}
-use Rattle.monitor.specs.Call.{Call, load, loadList, putRow, putRecord, drop, fetchRecord, fetchRow, image, build, repair, judge, yield, operand}
+use Rattle.places.specs.Store.{slotBytes}
+use Rattle.monitor.specs.Call.{Question, Call, load, loadList, putRow, putRecord, drop, ask, fetchRecord, fetchRow, image, build, repair, judge, yield, operand}
 use Rattle.monitor.specs.Panel.{Panel, ifAccepted}
-use Rattle.monitor.specs.Steps.{outcome, after}
+use Rattle.monitor.specs.Steps.{told, outcome, after}
 
--- no answer of a line is longer
+-- no answer of a line is longer: an image is the longest
 abbrev pub mostAnswer : ℕ
-mostAnswer = 256
+mostAnswer = slotBytes
 
 -- the output that a line's call gets has room for every answer
 unfoldable pub room : List ℕ
@@ -35,17 +36,12 @@ callOf kind rest =
     cond (eqb kind 1) (named load rest)
     (cond (eqb kind 2) (named putRow rest)
     (cond (eqb kind 3) (alone drop rest)
-    (cond (eqb kind 4) (alone (λ k. fetchRecord k room) rest)
-    (cond (eqb kind 5) (alone (λ k. fetchRow k room) rest)
+    (cond (eqb kind 4) (alone (λ k. ask (fetchRecord k room)) rest)
+    (cond (eqb kind 5) (alone (λ k. ask (fetchRow k room)) rest)
     (cond (eqb kind 6) (named putRecord rest)
-    (cond (eqb kind 7) (some (judge rest))
-    (cond (eqb kind 8) (some (repair rest room))
-    (cond (eqb kind 9) (alone (λ k. image k room) rest) none))))))))
-
--- a frame of kind 1
-unfoldable pub isLoad : List ℕ → Bool
-isLoad [] = false
-isLoad (kind ∷ rest) = eqb kind 1
+    (cond (eqb kind 7) (some (ask (judge rest)))
+    (cond (eqb kind 8) (some (ask (repair rest room)))
+    (cond (eqb kind 9) (alone (λ k. ask (image k room)) rest) none))))))))
 
 -- the call of a frame
 abbrev pub frameCall : List ℕ → Option Call
@@ -54,20 +50,23 @@ frameCall (kind ∷ rest) = callOf kind rest
 
 module _ (p : Panel) where
   -- the answer's bytes: a judge's is the count
+  abbrev pub toldBytes : Question → List ℕ
+  toldBytes (judge bytes) = told p (judge bytes) .count ∷ []
+  toldBytes (fetchRecord k out) = told p (fetchRecord k out) .answer
+  toldBytes (fetchRow k out) = told p (fetchRow k out) .answer
+  toldBytes (image k out) = told p (image k out) .answer
+  toldBytes (build row out) = told p (build row out) .answer
+  toldBytes (repair bytes out) = told p (repair bytes out) .answer
+  toldBytes (yield bytes out) = told p (yield bytes out) .answer
+  toldBytes (operand right bytes) = told p (operand right bytes) .answer
+
   abbrev pub answerOf : Call → List ℕ
-  answerOf (judge bytes) = outcome p (judge bytes) .count ∷ []
-  answerOf (load n rules) = outcome p (load n rules) .answer
-  answerOf (loadList n rules) = outcome p (loadList n rules) .answer
-  answerOf (putRow k row) = outcome p (putRow k row) .answer
-  answerOf (putRecord k bytes) = outcome p (putRecord k bytes) .answer
-  answerOf (drop k) = outcome p (drop k) .answer
-  answerOf (fetchRecord k out) = outcome p (fetchRecord k out) .answer
-  answerOf (fetchRow k out) = outcome p (fetchRow k out) .answer
-  answerOf (image k out) = outcome p (image k out) .answer
-  answerOf (build row out) = outcome p (build row out) .answer
-  answerOf (repair bytes out) = outcome p (repair bytes out) .answer
-  answerOf (yield bytes out) = outcome p (yield bytes out) .answer
-  answerOf (operand right bytes) = outcome p (operand right bytes) .answer
+  answerOf (load n rules) = []
+  answerOf (loadList n rules) = []
+  answerOf (putRow k row) = []
+  answerOf (putRecord k bytes) = []
+  answerOf (drop k) = []
+  answerOf (ask q) = toldBytes q
 
   -- a frame that is no call is 12 and changes nothing
   abbrev pub frameNumber : Option Call → ℕ

@@ -1,18 +1,24 @@
 -- Lines: the call that a line makes, the reply to it and the panel after it. Assumes nothing.
-use Prim.Native.Nat.{ℕ}
+use Prim.Native.Nat.{ℕ, _+_, _*_}
 use mathlib.Core.Bool.{Bool, cond}
 use mathlib.Core.List.{List, [], _∷_}
 use mathlib.Core.Option.{Option, none, some}
 use lib.Dec.{ltb}
 use lib.ListN.{length}
+use Rattle.expression.specs.Limits.{mostRuleBytes}
 use Rattle.expression.specs.Refusal.{oversize}
 use Rattle.monitor.specs.Call.{Call}
 use Rattle.monitor.specs.Panel.{Panel}
 use Rattle.hexadecimal.specs.Text.{bytesOf, textOf}
-use Rattle.line_io.specs.Lines.{mostCharacters}
 use Rattle.frame.specs.Frames.{frameCall, frameAfter, frameReply}
 
--- a line over 12,292 characters
+-- The longest frame is a sheet's: its kind, n, and the most rule bytes. A line of more than its characters, two a byte, is too long.
+abbrev pub mostFrame : ℕ
+mostFrame = 2 + mostRuleBytes
+
+abbrev pub mostCharacters : ℕ
+mostCharacters = 2 * mostFrame
+
 abbrev pub isLong : List ℕ → Bool
 isLong line = ltb mostCharacters (length line)
 

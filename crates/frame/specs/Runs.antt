@@ -4,17 +4,17 @@ use mathlib.Core.Path.{_≡_}
 use mathlib.Core.Bool.{Bool, true, false}
 use mathlib.Core.List.{List, [], _∷_}
 use mathlib.Core.Option.{Option, none, some}
-use Rattle.expression.specs.Refusal.{oversize, frame}
+use Rattle.expression.specs.Refusal.{accepted, oversize, frame}
 use Rattle.expression.specs.Tree.{Tree}
 use Rattle.disambiguation.specs.Conflicts.{conflictCount}
-use Rattle.monitor.specs.Call.{Call, load, loadList, putRow, putRecord, drop, fetchRecord, fetchRow, image, build, repair, judge, yield, operand}
+use Rattle.monitor.specs.Call.{Question, Call, load, loadList, putRow, putRecord, drop, ask, fetchRecord, fetchRow, image, build, repair, judge, yield, operand}
 use Rattle.monitor.specs.Panel.{Panel, fresh}
 use Rattle.monitor.specs.Book.{Book, bookNumber}
 use Rattle.monitor.specs.Run.{bookAfter}
 use Rattle.monitor.specs.Promises.{Demand3}
 use Rattle.monitor.specs.Answers.{Records, Told, Valued}
 use Rattle.hexadecimal.specs.Text.{bytesOf, textOf}
-use Rattle.frame.specs.Lines.{isLong, textCall, lineCall, lineReply, lineAfter}
+use Rattle.frame.specs.Lines.{isLong, textCall, lineCall, lineBytes, lineReply, lineAfter}
 
 -- each line gets the panel that the one before it left
 unfoldable pub panelAfterLines : List (List ℕ) → Panel
@@ -31,21 +31,25 @@ callsOf [] = []
 callsOf (line ∷ lines) = withCall (lineCall line) (callsOf lines)
 
 module _ (b : Book) where
-  -- the bytes that the book answers to an accepted call in a line
+  -- the bytes that the book answers to an accepted question in a line,
+  abbrev pub SaidTo : Question → List ℕ → Type 0
+  SaidTo (judge bytes) answer = (t : Tree) × Records b bytes t × (answer ≡ conflictCount (b .rules) t ∷ [])
+  SaidTo (fetchRecord k out) answer = Told b (fetchRecord k out) answer
+  SaidTo (fetchRow k out) answer = Told b (fetchRow k out) answer
+  SaidTo (image k out) answer = Told b (image k out) answer
+  SaidTo (build row out) answer = Told b (build row out) answer
+  SaidTo (repair bytes out) answer = Told b (repair bytes out) answer
+  SaidTo (yield bytes out) answer = Told b (yield bytes out) answer
+  SaidTo (operand right bytes) answer = Told b (operand right bytes) answer
+
+  -- and to any call
   abbrev pub Said : Call → List ℕ → Type 0
-  Said (judge bytes) answer = (t : Tree) × Records b bytes t × (answer ≡ conflictCount (b .rules) t ∷ [])
-  Said (load n rules) answer = Told b (load n rules) answer
-  Said (loadList n rules) answer = Told b (loadList n rules) answer
-  Said (putRow k row) answer = Told b (putRow k row) answer
-  Said (putRecord k bytes) answer = Told b (putRecord k bytes) answer
-  Said (drop k) answer = Told b (drop k) answer
-  Said (fetchRecord k out) answer = Told b (fetchRecord k out) answer
-  Said (fetchRow k out) answer = Told b (fetchRow k out) answer
-  Said (image k out) answer = Told b (image k out) answer
-  Said (build row out) answer = Told b (build row out) answer
-  Said (repair bytes out) answer = Told b (repair bytes out) answer
-  Said (yield bytes out) answer = Told b (yield bytes out) answer
-  Said (operand right bytes) answer = Told b (operand right bytes) answer
+  Said (load n rules) answer = answer ≡ []
+  Said (loadList n rules) answer = answer ≡ []
+  Said (putRow k row) answer = answer ≡ []
+  Said (putRecord k bytes) answer = answer ≡ []
+  Said (drop k) answer = answer ≡ []
+  Said (ask q) answer = SaidTo q answer
 
   -- the call's number, then on success those bytes
   abbrev pub SaysFrame : Option Call → List ℕ → Type 0
@@ -59,6 +63,10 @@ module _ (b : Book) where
   -- The reply to a line is the book's.
   abbrev pub Says : List ℕ → List ℕ → Type 0
   Says line reply = (bytes : List ℕ) × SaysLine (isLong line) line bytes × (reply ≡ textOf bytes)
+
+-- Demand 1 of lines, for every panel value: a line that is refused, with whatever number, is answered by it alone and changes nothing.
+pub record Demand1OfLines (p : Panel) (line : List ℕ) : Type 0 where
+  pub unchanged : (number : ℕ) (answer : List ℕ) → lineBytes p line ≡ number ∷ answer → (number ≡ accepted → ⊥) → (answer ≡ []) × (lineAfter p line ≡ p)
 
 -- After a run of lines, the last one first, from a fresh panel:
 pub record Demand3OfLines (lines : List (List ℕ)) : Type 0 where

@@ -1,15 +1,14 @@
 // Frames: the call of a kind and of the bytes after it, run.
 ghost use mathlib.Core.Path.{_≡_};
-ghost use mathlib.Core.Bool.{false};
-ghost use lib.Dec.{eqb};
 ghost use lib.ListN.{length};
-ghost use Rattle.monitor.specs.Contracts.{panel};
-ghost use Rattle.frame.specs.Frames.{mostAnswer, isLoad, callOf, frameCall};
-ghost use Rattle.frame.specs.Contracts.{told, Tells, Judges};
+ghost use Rattle.monitor.specs.Panel.{panel};
+ghost use Rattle.frame.specs.Frames.{mostAnswer, callOf, frameCall};
+ghost use Rattle.frame.specs.Contracts.{Tells, TellsCount};
+use expression::refusal;
+use places::limits::STORE_BYTES;
 use record::Answer;
 use record::Judgement;
-use sheet::Sheet;
-use sheet::refusal;
+use sheet::layout::SHEET_WORDS;
 
 // The kinds of frames.
 const LOAD: u8 = 1;
@@ -30,76 +29,66 @@ const REPAIR: u8 = 8;
 
 const IMAGE: u8 = 9;
 
-// A call's number, and how many answer bytes it gave. The calls here leave the sheet as it is: a load is not run here.
-pub struct Told {
-    pub number: u8,
-    pub length: usize,
-}
-
 // A number without an answer.
-fn numbered(number: u8) -> Told
-    ensures { λ r. ⌜ r ≡ told number 0 ⌝ }
+fn numbered(number: u8) -> Answer
+    ensures { λ r. ⌜ (r .number ≡ number) × (r .length ≡ 0) ⌝ }
 {
-    Told {
+    Answer {
         number: number,
         length: 0,
     }
 }
 
-// An answer of the monitor.
-fn answered(a: Answer) -> Told
-    ensures { λ r. ⌜ r ≡ told (a .number) (a .length) ⌝ }
-{
-    Told {
-        number: a.number,
-        length: a.length,
-    }
-}
-
 // A judgement: the count is the answer's one byte.
-fn judged(j: Judgement, answer: &mut [u8]) -> Told
+fn judged(j: Judgement, answer: &mut [u8]) -> Answer
     requires { ⌜ length (now answer) ≡ mostAnswer ⌝ }
-    ensures { λ r. ⌜ Judges j (now (answer .entry)) (now (answer .exit)) r ⌝ }
+    ensures { λ r. ⌜ TellsCount j (now (answer .entry)) (now (answer .exit)) r ⌝ }
 {
     let number = j.number;
     if number != refusal::ACCEPTED {
         return numbered(number);
     }
     answer[0] = j.count;
-    Told {
+    Answer {
         number: refusal::ACCEPTED,
         length: 1,
     }
 }
 
-// Is the frame a load?
-pub fn is_load(frame: &[u8]) -> bool
-    ensures { λ r. ⌜ r ≡ isLoad (now (frame .entry)) ⌝ }
+// A byte that names a place, or a count of operators.
+fn wide(byte: u8) -> u32
+    ensures { λ r. ⌜ r ≡ byte ⌝ }
 {
-    if frame.len() == 0 {
-        return false;
-    }
-    frame[0] == LOAD
+    byte as u32
 }
 
 // The call of a kind and of the bytes after it.
-fn run_kind(sheet: Sheet, places: &mut [u8; 4096], kind: u8, rest: &[u8], answer: &mut [u8]) -> Told
-    requires { ⌜ (eqb kind 1 ≡ false) × (length (now answer) ≡ mostAnswer) ⌝ }
-    ensures { λ r. ⌜ Tells (panel sheet (now (places .entry))) (callOf kind (now (rest .entry))) (now (answer .entry)) (now (answer .exit)) (now (places .exit)) r ⌝ }
+fn run_kind(
+    sheet: &mut [u32; SHEET_WORDS],
+    places: &mut [u8; STORE_BYTES],
+    kind: u8,
+    rest: &[u8],
+    answer: &mut [u8],
+) -> Answer
+    requires { ⌜ length (now answer) ≡ mostAnswer ⌝ }
+    ensures { λ r. ⌜ Tells (panel (now (sheet .entry)) (now (places .entry))) (callOf kind (now (rest .entry))) (now (answer .entry)) (now (answer .exit)) (panel (now (sheet .exit)) (now (places .exit))) r ⌝ }
 {
     if kind == JUDGE {
         let j = monitor::judge(sheet, rest);
         return judged(j, answer);
     }
     if kind == REPAIR {
-        let a = monitor::repair(sheet, rest, answer);
-        return answered(a);
+        return monitor::repair(sheet, rest, answer);
     }
     let length = rest.len();
     if length == 0 {
         return numbered(refusal::FRAME);
     }
-    let named = rest[0];
+    let named = wide(rest[0]);
+    if kind == LOAD {
+        let number = monitor::load(sheet, places, named, &rest[1..length]);
+        return numbered(number);
+    }
     if kind == PUT_ROW {
         let number = monitor::put_row(sheet, places, named, &rest[1..length]);
         return numbered(number);
@@ -116,24 +105,26 @@ fn run_kind(sheet: Sheet, places: &mut [u8; 4096], kind: u8, rest: &[u8], answer
         return numbered(number);
     }
     if kind == FETCH_RECORD {
-        let a = monitor::fetch_record(places, named, answer);
-        return answered(a);
+        return monitor::fetch_record(places, named, answer);
     }
     if kind == FETCH_ROW {
-        let a = monitor::fetch_row(sheet, places, named, answer);
-        return answered(a);
+        return monitor::fetch_row(sheet, places, named, answer);
     }
     if kind == IMAGE {
-        let a = monitor::image(places, named, answer);
-        return answered(a);
+        return monitor::image(places, named, answer);
     }
     numbered(refusal::FRAME)
 }
 
-// The call of a frame that is no load: its first byte is the kind.
-pub fn run_frame(sheet: Sheet, places: &mut [u8; 4096], frame: &[u8], answer: &mut [u8]) -> Told
-    requires { ⌜ (isLoad (now frame) ≡ false) × (length (now answer) ≡ mostAnswer) ⌝ }
-    ensures { λ r. ⌜ Tells (panel sheet (now (places .entry))) (frameCall (now (frame .entry))) (now (answer .entry)) (now (answer .exit)) (now (places .exit)) r ⌝ }
+// The call of a frame: its first byte is the kind.
+pub fn run_frame(
+    sheet: &mut [u32; SHEET_WORDS],
+    places: &mut [u8; STORE_BYTES],
+    frame: &[u8],
+    answer: &mut [u8],
+) -> Answer
+    requires { ⌜ length (now answer) ≡ mostAnswer ⌝ }
+    ensures { λ r. ⌜ Tells (panel (now (sheet .entry)) (now (places .entry))) (frameCall (now (frame .entry))) (now (answer .entry)) (now (answer .exit)) (panel (now (sheet .exit)) (now (places .exit))) r ⌝ }
 {
     let length = frame.len();
     if length == 0 {

@@ -1,4 +1,4 @@
--- Lines of characters: where one ends, and which are too long. Assumes nothing.
+-- Lines of characters: where one ends. Assumes nothing.
 use Prim.Native.Nat.{ℕ, suc, _+_, _-_, _≤_}
 use mathlib.Core.Path.{_≡_}
 use mathlib.Core.Bool.{Bool, false, cond}
@@ -8,10 +8,6 @@ use lib.ListN.{length, drop}
 
 abbrev pub lineFeed : ℕ
 lineFeed = 10
-
--- a line of more characters is an oversize line
-abbrev pub mostCharacters : ℕ
-mostCharacters = 12292
 
 -- how many characters stand before the first line end; all of them where there is none
 unfoldable pub beforeEnd : List ℕ → ℕ

@@ -7,9 +7,6 @@ ghost use Rattle.line_io.specs.Moves.{movedToFront};
 
 pub const LINE_FEED: u8 = 10;
 
-// A line of more characters is an oversize line.
-pub const MOST_CHARACTERS: usize = 12292;
-
 // How many bytes are tested at a time.
 const STEP: usize = 32;
 

@@ -1,16 +1,20 @@
 -- What the panel's calls promise: the number and the panel after each, and what each question answers, are those of the run. Assumes nothing.
-use Prim.Native.Nat.{ℕ}
+use Prim.Native.Nat.{ℕ, _-_}
 use mathlib.Core.Path.{_≡_}
 use mathlib.Core.Bool.{Bool}
 use mathlib.Core.List.{List}
+use lib.ListN.{take, drop}
 use Rattle.expression.specs.Checks.{rowNumber, recordNumber}
 use Rattle.sheet.specs.Layout.{operatorsOf}
 use Rattle.sheet.specs.Relation.{closesIn}
+use Rattle.record.specs.Operands.{OperandAt}
 use Rattle.record.specs.declared.Answer.{Answer}
 use Rattle.record.specs.declared.Judgement.{Judgement}
+use Rattle.record.specs.declared.operands.Part.{Part}
 use Rattle.parser.specs.Build.{built}
 use Rattle.places.specs.Store.{stored}
-use Rattle.monitor.specs.Call.{Question, Call, drop, ask, judge, operand}
+use Rattle.monitor.specs.Call.{Question, Call, ask, judge, operand}
+use Rattle.monitor.specs.Call as call
 use Rattle.monitor.specs.Panel.{Panel, panel, ifAccepted, rebuilt}
 use Rattle.monitor.specs.Steps.{after, reply}
 
@@ -22,7 +26,7 @@ pub record Changes (p : Panel) (c : Call) (r : ℕ) (later : Panel) : Type 0 whe
 
 -- A drop looks at no sheet: it does so whatever sheet is in force.
 pub record Drops (places : List ℕ) (k r : ℕ) (later : List ℕ) : Type 0 where
-  pub changes : (sheet : List ℕ) → Changes (panel sheet places) (drop k) r (panel sheet later)
+  pub changes : (sheet : List ℕ) → Changes (panel sheet places) (call.drop k) r (panel sheet later)
 
 -- ---- questions with a lent output
 -- The question answered r, and the output became `later`.
@@ -50,6 +54,11 @@ pub record NumbersOperand (sheet bytes : List ℕ) (r : ℕ) : Type 0 where
 
 pub record FindsOperand (sheet : List ℕ) (right : Bool) (bytes part : List ℕ) : Type 0 where
   pub found : (places : List ℕ) → part ≡ reply (panel sheet places) (ask (operand right bytes)) .part
+
+-- The same by its place in the record: the operand's own, and not one with the same bytes.
+pub record PlacesOperand (sheet : List ℕ) (right : Bool) (bytes : List ℕ) (r : Part) : Type 0 where
+  pub placed : OperandAt (operatorsOf sheet) right bytes r
+  pub found : FindsOperand sheet right bytes (take (r .to - r .from) (drop (r .from) bytes))
 
 -- ---- inside the puts and the load
 -- What is built of a row, or of a record's row, is stored at a place; the places are as they were where it is refused.

@@ -2,13 +2,14 @@
 ghost use mathlib.Core.Bool.{Bool};
 ghost use Rattle.monitor.specs.Call.{load, putRow, putRecord, fetchRecord, fetchRow, image, build, repair, yield};
 ghost use Rattle.monitor.specs.Panel.{panel};
-ghost use Rattle.monitor.specs.Contracts.{Changes, Drops, Answers, AnswersUnder, AnswersFrom, Judges, NumbersOperand, FindsOperand};
+ghost use Rattle.monitor.specs.Contracts.{Changes, Drops, Answers, AnswersUnder, AnswersFrom, Judges, NumbersOperand, FindsOperand, PlacesOperand};
 use expression::limits::MOST_RECORD_BYTES;
 use expression::refusal;
 use places::limits;
 use places::limits::STORE_BYTES;
 use record::Answer;
 use record::Judgement;
+use record::operands::Part;
 use sheet::layout::SHEET_WORDS;
 
 mod in_use;
@@ -205,4 +206,11 @@ pub fn operand<'a, 'b>(sheet: &'a [u32; SHEET_WORDS], bytes: &'b [u8], right: bo
     ensures { λ r. ⌜ FindsOperand (now (sheet .entry)) right (now (bytes .entry)) (now r) ⌝ }
 {
     record::operand(sheet, bytes, right)
+}
+
+// Where that operand stands in the record, for callers that are handed no part of it.
+pub fn operand_part(sheet: &[u32; SHEET_WORDS], bytes: &[u8], right: bool) -> Part
+    ensures { λ r. ⌜ PlacesOperand (now (sheet .entry)) right (now (bytes .entry)) r ⌝ }
+{
+    record::operands::operand_part(sheet, bytes, right)
 }

@@ -8,14 +8,12 @@ use borrow.Author.Needs.{needs}
 use borrow.Author.Tests.{le-leb}
 use lib.ListN.{length, take, drop, length-drop}
 use lib.Seq.{take-at, length-take-le}
-use Rattle.sheet.specs.declared.Sheet.{Sheet}
 use Rattle.monitor.specs.Panel.{Panel}
-use Rattle.monitor.specs.Contracts.{panel}
 use Rattle.line_io.specs.Lines.{lineFeed}
 use Rattle.line_io.specs.Moves.{movedToFront}
 use Rattle.frame.specs.Lines.{lineAfter}
 use Rattle.panel.specs.Lines.{withEnds, AllPlain, panelAfter}
-use Rattle.panel.specs.Contracts.{block, Reads, Answers, Covers, Keeps}
+use Rattle.panel.specs.Contracts.{block, mostKept, mostFilled, Reads, Answers, Covers, Keeps}
 use Rattle.panel.proofs.LinesWays.{between, between-add}
 
 -- ---- lines after lines
@@ -36,24 +34,24 @@ panel-after-append p (line ∷ b) a = ap (λ q. lineAfter q line) (panel-after-a
 
 -- ---- answer_block
 -- Some lines before a place are read.
-pub record Reached (p : Panel) (s out : List ℕ) (rest : ℕ) (sheet : Sheet) (places : List ℕ) : Type 0 where
+pub record Reached (p : Panel) (s out : List ℕ) (rest : ℕ) (later : Panel) : Type 0 where
   pub lines : List (List ℕ)
-  pub reads : Reads p s 0 rest lines sheet places
+  pub reads : Reads p s 0 rest lines later
   pub long : length out ≡ block
 
-pub reached-none : (s out places : List ℕ) (sheet : Sheet) → length out ≡ block → Reached (panel sheet places) s out 0 sheet places
+pub reached-none : (s out : List ℕ) (later : Panel) → length out ≡ block → Reached later s out 0 later
 unfolding withEnds AllPlain panelAfter
-reached-none s out places sheet l = record { lines = []; reads = record { read = refl; plain = tt; stands = refl; after = omega arith; inside = omega arith }; long = l }
+reached-none s out later l = record { lines = []; reads = record { read = refl; plain = tt; stands = refl; after = omega arith; inside = omega arith }; long = l }
 
-module _ {p : Panel} {s out : List ℕ} {rest : ℕ} {sheet : Sheet} {places : List ℕ} (t : Reached p s out rest sheet places) where
+module _ {p : Panel} {s out : List ℕ} {rest : ℕ} {later : Panel} (t : Reached p s out rest later) where
   pub begins-inside : rest ≤ length s
   begins-inside = t .reads .inside
 
   pub has-block : length out ≡ block
   has-block = t .long
 
-  module _ {out' : List ℕ} {rest' filled : ℕ} {sheet' : Sheet} {places' : List ℕ} (a : Answers (panel sheet places) s rest out' rest' filled sheet' places') where
-    reads-after : Reads p s 0 rest' (a .lines ++ t .lines) sheet' places'
+  module _ {out' : List ℕ} {rest' filled : ℕ} {later' : Panel} (a : Answers later s rest out' rest' filled later') where
+    reads-after : Reads p s 0 rest' (a .lines ++ t .lines) later'
     reads-after = record {
       read =
           between-add s 0 rest rest' (omega arith) (a .reads .after) ∙ ap (λ l. l ++ between rest rest' s) (t .reads .read)
@@ -64,16 +62,16 @@ module _ {p : Panel} {s out : List ℕ} {rest : ℕ} {sheet : Sheet} {places : L
       inside = a .reads .inside;
     }
 
-    pub reached-more : length out' ≡ length out → Reached p s out' rest' sheet' places'
+    pub reached-more : length out' ≡ length out → Reached p s out' rest' later'
     reached-more l = record { lines = a .lines ++ t .lines; reads = reads-after; long = l ∙ t .long }
 
-    pub block-done : filled ≤ 65021 → Covers p s rest' sheet' places' true
+    pub block-done : filled ≤ mostFilled → Covers p s rest' later' true
     block-done h = record { lines = a .lines ++ t .lines; reads = reads-after; all = λ e. a .all (omega arith) }
 
-    pub block-broken : Covers p s rest' sheet' places' false
+    pub block-broken : Covers p s rest' later' false
     block-broken = record { lines = a .lines ++ t .lines; reads = reads-after; all = λ e. absurd (true≢false (sym e)) }
 
-    pub block-less : 65021 < filled → length s - rest' < length s - rest
+    pub block-less : mostFilled < filled → length s - rest' < length s - rest
     block-less h = omega (arith, a .shares, a .reads .inside)
 
 pub ruleset block-ways = (reached-none, begins-inside, has-block, reached-more, block-done, block-broken, block-less, needs)
@@ -87,10 +85,10 @@ moved-front s from to k h e =
     rw (le-leb to (length s) h) (take-at (take (to - from) (drop from s)) (drop (to - from) s) k (l ∙ sym e) ∙ ap (λ n. take n (drop from s)) (sym e))
 
 module _ {before after : List ℕ} (rest n : ℕ) where
-  pub kept-part : after ≡ movedToFront rest (rest + 12293) before → 12293 < n - rest → n ≤ length before → Keeps before rest n after 12293
-  kept-part e h i = record { kept = omega arith; front = ap (take 12293) e ∙ moved-front before rest (rest + 12293) 12293 (omega arith) (omega arith) }
+  pub kept-part : after ≡ movedToFront rest (rest + mostKept) before → mostKept < n - rest → n ≤ length before → Keeps before rest n after mostKept
+  kept-part e h i = record { kept = omega arith; front = ap (take mostKept) e ∙ moved-front before rest (rest + mostKept) mostKept (omega arith) (omega arith) }
 
-  pub kept-all : after ≡ movedToFront rest n before → n - rest ≤ 12293 → n ≤ length before → Keeps before rest n after (n - rest)
+  pub kept-all : after ≡ movedToFront rest n before → n - rest ≤ mostKept → n ≤ length before → Keeps before rest n after (n - rest)
   kept-all e h i = record { kept = omega arith; front = ap (take (n - rest)) e ∙ moved-front before rest n (n - rest) i refl }
 
 pub ruleset keep-ways = (kept-part, kept-all, needs)

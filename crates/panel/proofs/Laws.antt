@@ -8,8 +8,7 @@ use borrow.Author.Tests.{lt-ltb}
 use lib.ListN.{length, take, length-append}
 use lib.Seq.{length-take-le}
 use Rattle.monitor.specs.Panel.{Panel}
-use Rattle.line_io.specs.Lines.{mostCharacters}
-use Rattle.frame.specs.Lines.{isLong, lineCall, lineBytes, lineReply, lineAfter}
+use Rattle.frame.specs.Lines.{mostCharacters, isLong, lineCall, lineBytes, lineReply, lineAfter}
 use Rattle.panel.specs.Contracts.{mostKept}
 
 long-line : (l more : List ℕ) → mostCharacters < length l → isLong (l ++ more) ≡ true

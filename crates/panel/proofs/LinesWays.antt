@@ -6,14 +6,12 @@ use native.Mathlib.Omega.{arith}
 use borrow.Author.Needs.{needs}
 use lib.ListN.{length, getD, take, drop, length-drop}
 use lib.Seq.{take-add, take-suc, drop-drop, getD-take, getD-drop, length-take-le}
-use Rattle.sheet.specs.declared.Sheet.{Sheet}
 use Rattle.monitor.specs.Panel.{Panel}
-use Rattle.monitor.specs.Contracts.{panel}
 use Rattle.line_io.specs.Lines.{lineFeed, Ends}
 use Rattle.line_io.proofs.Laws.{line-end-here, none-before-line-end}
 use Rattle.frame.specs.Lines.{lineReply, lineAfter}
 use Rattle.panel.specs.Lines.{withEnds, Plain, AllPlain, panelAfter, replies}
-use Rattle.panel.specs.Contracts.{block, mostReplyLine, Puts, Reads, Answers}
+use Rattle.panel.specs.Contracts.{block, mostReplyLine, mostFilled, Puts, Reads, Answers}
 
 -- the bytes from one place up to another
 abbrev pub between : ℕ → ℕ → List ℕ → List ℕ
@@ -43,7 +41,7 @@ between-add s from rest to a b =
     ap (λ i. take i (drop from s)) n ∙ take-add (rest - from) (to - rest) (drop from s)
     ∙ ap (λ l. between from rest s ++ take (to - rest) l) (drop-drop (rest - from) from s ∙ ap (λ i. drop i s) k)
 
-reads-more : {p : Panel} {s : List ℕ} {from rest end : ℕ} {lines : List (List ℕ)} {sheet sheet' : Sheet} {places places' : List ℕ} → Reads p s from rest lines sheet places → Ends s rest end → end < length s → panel sheet' places' ≡ lineAfter (panel sheet places) (between rest end s) → Reads p s from (end + 1) (between rest end s ∷ lines) sheet' places'
+reads-more : {p : Panel} {s : List ℕ} {from rest end : ℕ} {lines : List (List ℕ)} {later later' : Panel} → Reads p s from rest lines later → Ends s rest end → end < length s → later' ≡ lineAfter later (between rest end s) → Reads p s from (end + 1) (between rest end s ∷ lines) later'
 unfolding withEnds AllPlain panelAfter
 reads-more {p} {s} {from} {rest} {end} {lines} t f h e = record {
   read = between-add s from rest (end + 1) (t .after) (omega (arith, f .after)) ∙ ap (λ l. l ++ between rest (end + 1) s) (t .read) ∙ ap (λ l. withEnds lines ++ l) (line-with-end f h);
@@ -55,18 +53,18 @@ reads-more {p} {s} {from} {rest} {end} {lines} t f h e = record {
 
 -- ---- the loop
 -- The lines before a place are answered, and the next line end stands at `end`.
-pub record Answering (p : Panel) (s : List ℕ) (from : ℕ) (out : List ℕ) (rest filled end : ℕ) (sheet : Sheet) (places : List ℕ) : Type 0 where
+pub record Answering (p : Panel) (s : List ℕ) (from : ℕ) (out : List ℕ) (rest filled end : ℕ) (later : Panel) : Type 0 where
   pub lines : List (List ℕ)
-  pub reads : Reads p s from rest lines sheet places
+  pub reads : Reads p s from rest lines later
   pub written : take filled out ≡ withEnds (replies p lines)
   pub room : filled ≤ block
   pub shares : filled + mostReplyLine * from ≤ mostReplyLine * rest
   pub ends : Ends s rest end
   pub long : length out ≡ block
 
-pub answering-starts : {s : List ℕ} {from end : ℕ} → Ends s from end → (out : List ℕ) (sheet : Sheet) (places : List ℕ) → from ≤ length s → length out ≡ block → Answering (panel sheet places) s from out from 0 end sheet places
+pub answering-starts : {s : List ℕ} {from end : ℕ} → Ends s from end → (out : List ℕ) (later : Panel) → from ≤ length s → length out ≡ block → Answering later s from out from 0 end later
 unfolding withEnds AllPlain panelAfter replies
-answering-starts {s} {from} f out sheet places h l = record {
+answering-starts {s} {from} f out later h l = record {
   lines = [];
   reads = record { read = let n : from - from ≡ 0 = omega arith in ap (λ i. take i (drop from s)) n; plain = tt; stands = refl; after = omega arith; inside = h };
   written = refl;
@@ -76,14 +74,14 @@ answering-starts {s} {from} f out sheet places h l = record {
   long = l;
 }
 
-module _ {p : Panel} {s : List ℕ} {from : ℕ} {out : List ℕ} {rest filled end : ℕ} {sheet : Sheet} {places : List ℕ} (t : Answering p s from out rest filled end sheet places) where
-  pub answering-more : {out' : List ℕ} {filled' end' : ℕ} {sheet' : Sheet} {places' : List ℕ} → Puts (panel sheet places) (take (end - rest) (drop rest s)) out out' filled filled' sheet' places' → end < length s → filled ≤ 65021 → Ends s (end + 1) end' → length out' ≡ length out → Answering p s from out' (end + 1) filled' end' sheet' places'
+module _ {p : Panel} {s : List ℕ} {from : ℕ} {out : List ℕ} {rest filled end : ℕ} {later : Panel} (t : Answering p s from out rest filled end later) where
+  pub answering-more : {out' : List ℕ} {filled' end' : ℕ} {later' : Panel} → Puts later (take (end - rest) (drop rest s)) out out' filled filled' later' → end < length s → filled ≤ mostFilled → Ends s (end + 1) end' → length out' ≡ length out → Answering p s from out' (end + 1) filled' end' later'
   unfolding withEnds replies
   answering-more w h m f l = record {
     lines = between rest end s ∷ t .lines;
     reads = reads-more (t .reads) (t .ends) h (w .stands);
     written =
-        w .written ∙ ap (λ a. a ++ (lineReply (panel sheet places) (between rest end s) ++ lineFeed ∷ [])) (t .written)
+        w .written ∙ ap (λ a. a ++ (lineReply later (between rest end s) ++ lineFeed ∷ [])) (t .written)
         ∙ ap (λ q. withEnds (replies p (t .lines)) ++ (lineReply q (between rest end s) ++ lineFeed ∷ [])) (t .reads .stands);
     room = omega (arith, w .inside);
     shares = omega (arith, w .inside, t .shares, t .ends .after);
@@ -91,13 +89,13 @@ module _ {p : Panel} {s : List ℕ} {from : ℕ} {out : List ℕ} {rest filled e
     long = l ∙ t .long;
   }
 
-  pub answering-all : length s ≤ end → Answers p s from out rest filled sheet places
+  pub answering-all : length s ≤ end → Answers p s from out rest filled later
   answering-all h = record { lines = t .lines; reads = t .reads; written = t .written; room = t .room; shares = t .shares; all = λ e. omega (arith, t .ends .place) }
 
-  pub answering-full : 65021 < filled → Answers p s from out rest filled sheet places
+  pub answering-full : mostFilled < filled → Answers p s from out rest filled later
   answering-full h = record { lines = t .lines; reads = t .reads; written = t .written; room = t .room; shares = t .shares; all = λ e. absurd (omega arith) }
 
-  pub room-left : filled ≤ 65021 → filled + mostReplyLine ≤ block
+  pub room-left : filled ≤ mostFilled → filled + mostReplyLine ≤ block
   room-left h = omega arith
 
   pub line-begins : end < length s → rest ≤ end

@@ -8,19 +8,17 @@ use borrow.Author.Needs.{needs}
 use borrow.Rule.Slice.PartMut.{putMid, take-put}
 use lib.ListN.{length, take, drop, length-take}
 use lib.Seq.{take-take, take-nil, length-take-le}
-use Rattle.sheet.specs.declared.Sheet.{Sheet}
 use Rattle.monitor.specs.Panel.{Panel}
-use Rattle.monitor.specs.Contracts.{panel}
 use Rattle.frame.specs.Lines.{lineAfter}
 use Rattle.panel.specs.Lines.{panelAtEnd}
-use Rattle.panel.specs.Contracts.{block, mostKept, Puts, Covers, Keeps, Fetches, Finishes, Turns, ended, went-on}
+use Rattle.panel.specs.Contracts.{block, mostKept, bufferBytes, Puts, Covers, Keeps, Fetches, Finishes, Turns, ended, went-on}
 
 -- ---- read_block
 module _ (before part xs : List ℕ) (kept count : ℕ) where
-  pub fetched : count ≤ length (take (kept + 65536 - kept) xs) → kept ≤ mostKept → length before ≡ mostKept + block → Fetches before kept (putMid kept (kept + 65536 - kept) before part) (kept + count)
+  pub fetched : count ≤ length (take (kept + block - kept) xs) → kept ≤ mostKept → length before ≡ bufferBytes → Fetches before kept (putMid kept (kept + block - kept) before part) (kept + count)
   fetched c m l =
-      let n = length-take (kept + 65536 - kept) xs in
-      record { front = take-put kept (kept + 65536 - kept) before part (omega arith); from = omega arith; inside = omega arith }
+      let n = length-take (kept + block - kept) xs in
+      record { front = take-put kept (kept + block - kept) before part (omega arith); from = omega arith; inside = omega arith }
 
 pub ruleset fetch-ways = (fetched, needs)
 
@@ -35,12 +33,12 @@ unfolding panelAtEnd
 line-at-end p [] h = absurd (h refl)
 line-at-end p (c ∷ line) h = refl
 
-module _ {sheet sheet' : Sheet} {kept : ℕ} {go : Bool} (e : (sheet' ≡ sheet) × (kept ≡ 0) × (go ≡ false)) where
-  pub finished-none : (line places : List ℕ) → length line ≡ 0 → Finishes (panel sheet places) line sheet' places kept go
-  finished-none line places h = record { stands = ap (λ s. panel s places) (e .0) ∙ none-at-end (panel sheet places) line h; nothing-left = e .1; stops = e .2 }
+module _ {kept : ℕ} {go : Bool} (e : (kept ≡ 0) × (go ≡ false)) where
+  pub finished-none : (p : Panel) (line : List ℕ) → length line ≡ 0 → Finishes p line p kept go
+  finished-none p line h = record { stands = none-at-end p line h; nothing-left = e .0; stops = e .1 }
 
-  pub finished-line : {p : Panel} {line before after places : List ℕ} {at filled : ℕ} → Puts p line before after at filled sheet places → (length line ≡ 0 → ⊥) → Finishes p line sheet' places kept go
-  finished-line {p} {line} {places = places} w h = record { stands = ap (λ s. panel s places) (e .0) ∙ w .stands ∙ line-at-end p line h; nothing-left = e .1; stops = e .2 }
+  pub finished-line : {p : Panel} {line before after : List ℕ} {at filled : ℕ} {later : Panel} → Puts p line before after at filled later → (length line ≡ 0 → ⊥) → Finishes p line later kept go
+  finished-line {p} {line} w h = record { stands = w .stands ∙ line-at-end p line h; nothing-left = e .0; stops = e .1 }
 
 pub ruleset finish-ways = (finished-none, finished-line, needs)
 
@@ -53,10 +51,10 @@ part-of-front (c ∷ l) (suc from) k zero h = absurd (omega arith)
 part-of-front (c ∷ l) (suc from) k (suc n) h = part-of-front l from k n (omega arith)
 
 module _ {p : Panel} {before buf : List ℕ} {kept n : ℕ} (f : Fetches before kept buf n) where
-  pub turn-ends : {after : List ℕ} {sheet : Sheet} {places : List ℕ} {kept' : ℕ} {go : Bool} → Finishes p (take (kept - 0) buf) sheet places kept' go → Turns p before kept after sheet places kept' go
+  pub turn-ends : {after : List ℕ} {later : Panel} {kept' : ℕ} {go : Bool} → Finishes p (take (kept - 0) buf) later kept' go → Turns p before kept after later kept' go
   turn-ends e = let z : kept - 0 ≡ kept = omega arith in ended (rw (z, f .front) at e)
 
-  pub turn-goes-on : {after : List ℕ} {rest : ℕ} {sheet : Sheet} {places : List ℕ} {kept' : ℕ} {go : Bool} → Covers p (take (n - 0) buf) rest sheet places go → Keeps buf rest n after kept' → (n ≡ kept → ⊥) → length buf ≡ length before → length before ≡ mostKept + block → Turns p before kept after sheet places kept' go
+  pub turn-goes-on : {after : List ℕ} {rest : ℕ} {later : Panel} {kept' : ℕ} {go : Bool} → Covers p (take (n - 0) buf) rest later go → Keeps buf rest n after kept' → (n ≡ kept → ⊥) → length buf ≡ length before → length before ≡ bufferBytes → Turns p before kept after later kept' go
   turn-goes-on {rest = rest} {kept' = kept'} a k h l b =
       let z : n - 0 ≡ n = omega arith in
       let m : length (take n buf) ≡ n = length-take-le n buf (omega (arith, f .inside)) in
@@ -71,7 +69,7 @@ module _ {p : Panel} {before buf : List ℕ} {kept n : ℕ} (f : Fetches before 
         };
       })
 
-pub turn-kept : {p : Panel} {before after places : List ℕ} {kept kept' : ℕ} {sheet : Sheet} {go : Bool} → Turns p before kept after sheet places kept' go → kept' ≤ mostKept
+pub turn-kept : {p : Panel} {before after : List ℕ} {kept kept' : ℕ} {later : Panel} {go : Bool} → Turns p before kept after later kept' go → kept' ≤ mostKept
 turn-kept (ended e) = omega (arith, e .nothing-left)
 turn-kept (went-on s e h a) = omega (arith, a .keeps .kept)
 

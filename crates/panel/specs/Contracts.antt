@@ -4,11 +4,10 @@ use mathlib.Core.Path.{_≡_}
 use mathlib.Core.Bool.{Bool, true, false}
 use mathlib.Core.List.{List, [], _∷_, _++_}
 use lib.ListN.{length, take, drop}
-use Rattle.sheet.specs.declared.Sheet.{Sheet}
 use Rattle.monitor.specs.Panel.{Panel}
-use Rattle.monitor.specs.Contracts.{panel}
 use Rattle.line_io.specs.Lines.{lineFeed, lineEnd}
-use Rattle.frame.specs.Lines.{lineReply, lineAfter}
+use Rattle.frame.specs.Lines.{mostCharacters, lineReply, lineAfter}
+use Rattle.frame.specs.Contracts.{mostReply}
 use Rattle.panel.specs.Lines.{withEnds, AllPlain, panelAfter, panelAtEnd, replies}
 
 -- bytes of a block of input or output
@@ -17,41 +16,49 @@ block = 65536
 
 -- of an unfinished line so many characters are kept: one more than a line may have
 abbrev pub mostKept : ℕ
-mostKept = 12293
+mostKept = mostCharacters + 1
+
+-- what is read into: an unfinished line and a block behind it
+abbrev pub bufferBytes : ℕ
+bufferBytes = mostKept + block
 
 -- the reply to a line and its line end are no longer
 abbrev pub mostReplyLine : ℕ
-mostReplyLine = 515
+mostReplyLine = mostReply + 1
+
+-- with so much of the output filled there is room for one more reply and its line end
+abbrev pub mostFilled : ℕ
+mostFilled = block - mostReplyLine
 
 -- A line was answered: the output was `before` and became `after`, of which `filled` bytes are filled, `at` of them from earlier.
-pub record Puts (p : Panel) (line before after : List ℕ) (at filled : ℕ) (sheet : Sheet) (places : List ℕ) : Type 0 where
+pub record Puts (p : Panel) (line before after : List ℕ) (at filled : ℕ) (later : Panel) : Type 0 where
   pub written : take filled after ≡ take at before ++ (lineReply p line ++ lineFeed ∷ [])
-  pub stands : panel sheet places ≡ lineAfter p line
+  pub stands : later ≡ lineAfter p line
   pub inside : filled ≤ at + mostReplyLine
   pub more : at < filled
 
 -- The lines from one place of a buffer up to another are read, and the panel is the one after them.
-pub record Reads (p : Panel) (s : List ℕ) (from rest : ℕ) (lines : List (List ℕ)) (sheet : Sheet) (places : List ℕ) : Type 0 where
+pub record Reads (p : Panel) (s : List ℕ) (from rest : ℕ) (lines : List (List ℕ)) (later : Panel) : Type 0 where
   pub read : take (rest - from) (drop from s) ≡ withEnds lines
   pub plain : AllPlain lines
-  pub stands : panel sheet places ≡ panelAfter p lines
+  pub stands : later ≡ panelAfter p lines
   pub after : from ≤ rest
   pub inside : rest ≤ length s
 
 -- Lines were answered: their replies fill the front of the output. None is left, but where the output has no room for one more reply.
-pub record Answers (p : Panel) (s : List ℕ) (from : ℕ) (out : List ℕ) (rest filled : ℕ) (sheet : Sheet) (places : List ℕ) : Type 0 where
+pub record Answers (p : Panel) (s : List ℕ) (from : ℕ) (out : List ℕ) (rest filled : ℕ) (later : Panel) : Type 0 where
   pub lines : List (List ℕ)
-  pub reads : Reads p s from rest lines sheet places
+  pub reads : Reads p s from rest lines later
   pub written : take filled out ≡ withEnds (replies p lines)
   pub room : filled ≤ block
-  -- each line takes at least a byte of the buffer and at most 515 of the output
+  -- each line takes at least a byte of the buffer and at most so much of the output as the longest reply
   pub shares : filled + mostReplyLine * from ≤ mostReplyLine * rest
   pub all : filled + mostReplyLine ≤ block → length s ≤ lineEnd s rest
 
 -- A block was answered: all its complete lines, but where a write failed.
-pub record Covers (p : Panel) (s : List ℕ) (rest : ℕ) (sheet : Sheet) (places : List ℕ) (ok : Bool) : Type 0 where
+pub record Covers (p : Panel) (s : List ℕ) (rest : ℕ) (later : Panel) (ok : Bool) : Type 0 where
   pub lines : List (List ℕ)
-  pub reads : Reads p s 0 rest lines sheet places
+  pub reads : Reads p s 0 rest lines later
   pub all : ok ≡ true → length s ≤ lineEnd s rest
 
 -- The unfinished line, from `rest` up to n, was kept: its first r characters stand at the front of the buffer.
@@ -63,21 +70,21 @@ pub record Keeps (before : List ℕ) (rest n : ℕ) (after : List ℕ) (r : ℕ)
 pub record Fetches (before : List ℕ) (kept : ℕ) (after : List ℕ) (r : ℕ) : Type 0 where
   pub front : take kept after ≡ take kept before
   pub from : kept ≤ r
-  pub inside : r ≤ mostKept + block
+  pub inside : r ≤ bufferBytes
 
 -- At the end of the input, what is kept was answered as a last line.
-pub record Finishes (p : Panel) (line : List ℕ) (sheet : Sheet) (places : List ℕ) (kept : ℕ) (go : Bool) : Type 0 where
-  pub stands : panel sheet places ≡ panelAtEnd p line
+pub record Finishes (p : Panel) (line : List ℕ) (later : Panel) (kept : ℕ) (go : Bool) : Type 0 where
+  pub stands : later ≡ panelAtEnd p line
   pub nothing-left : kept ≡ 0
   pub stops : go ≡ false
 
 -- What was kept and what was read after it, s, was answered: all its complete lines, but where a write failed. The rest is kept.
-pub record Passes (p : Panel) (s after : List ℕ) (sheet : Sheet) (places : List ℕ) (kept : ℕ) (go : Bool) : Type 0 where
+pub record Passes (p : Panel) (s after : List ℕ) (later : Panel) (kept : ℕ) (go : Bool) : Type 0 where
   pub rest : ℕ
-  pub covers : Covers p s rest sheet places go
+  pub covers : Covers p s rest later go
   pub keeps : Keeps s rest (length s) after kept
 
 -- A turn: the input ended, or some bytes were read.
-pub data Turns (p : Panel) (before : List ℕ) (kept : ℕ) (after : List ℕ) (sheet : Sheet) (places : List ℕ) (kept' : ℕ) (go : Bool) : Type 0 where
-  ended : Finishes p (take kept before) sheet places kept' go → Turns p before kept after sheet places kept' go
-  went-on : (s : List ℕ) → take kept s ≡ take kept before → kept < length s → Passes p s after sheet places kept' go → Turns p before kept after sheet places kept' go
+pub data Turns (p : Panel) (before : List ℕ) (kept : ℕ) (after : List ℕ) (later : Panel) (kept' : ℕ) (go : Bool) : Type 0 where
+  ended : Finishes p (take kept before) later kept' go → Turns p before kept after later kept' go
+  went-on : (s : List ℕ) → take kept s ≡ take kept before → kept < length s → Passes p s after later kept' go → Turns p before kept after later kept' go

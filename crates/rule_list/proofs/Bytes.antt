@@ -1,10 +1,9 @@
 -- What the buffer holds after all records is their rules' bytes, so the load of what is written is the load of the list. Assumes nothing.
 use Prim.Native.Nat.{ℕ, zero, suc, _+_, _*_, _<_, _≤_}
 use native.Mathlib.Nat.{le-refl}
-use native.Mathlib.Decide.{decLt}
 use native.Mathlib.Omega.{arith}
 use mathlib.Core.Path.{_≡_, refl, sym, ap, subst, _∙_}
-use mathlib.Core.Bool.{Bool, true, false, cond, or-true}
+use mathlib.Core.Bool.{or-true}
 use mathlib.Core.List.{List, [], _∷_, _++_}
 use lib.Dec.{ltb}
 use lib.ListN.{length, getD, set, take, length-set}
@@ -14,27 +13,28 @@ use Rattle.expression.specs.Limits.{mostOperators, mostRules, mostRuleBytes}
 use Rattle.expression.specs.Refusal.{oversize}
 use Rattle.disambiguation.specs.SheetChecks.{ruleBytes}
 use Rattle.disambiguation.proofs.RuleBytes.{length-ruleBytes}
-use Rattle.sheet.specs.declared.Loaded.{Loaded}
+use Rattle.monitor.specs.Call.{load, loadList}
 use Rattle.monitor.specs.Panel.{Panel}
 use Rattle.monitor.specs.Steps.{loadNumber, sheetAfter, placesAfterLoad}
-use Rattle.monitor.specs.Contracts.{LoadsPanel}
-use Rattle.rule_list.specs.Records.{rulesIn, none, putAt, writtenTo}
-use Rattle.rule_list.specs.Contracts.{LoadsWritten, LoadsList}
+use Rattle.monitor.specs.Contracts.{Changes}
+use Rattle.rule_list.specs.Records.{rulesIn, putAt}
 use Rattle.rule_list.specs.declared.Rule.{Rule}
 
+-- what is read past a list's end: no walk does
+abbrev pub none : Rule
+none = record { kind = 0; first = 0; second = 0 }
+
+-- the buffer after the first k records
+abbrev pub writtenTo : List Rule → ℕ → List ℕ → List ℕ
+writtenTo list zero bytes = bytes
+writtenTo list (suc k) bytes = putAt (writtenTo list k bytes) k (getD list k none)
+
 -- ---- lengths
-length-putAt : (bytes : List ℕ) (i : ℕ) (r : Rule) → length (putAt bytes i r) ≡ length bytes
-length-putAt bytes i r = go (ltb i mostRules)
-  where
-    go : (b : Bool) → length (cond b (set (set (set bytes (i * 3) (r .kind)) (i * 3 + 1) (r .first)) (i * 3 + 2) (r .second)) bytes) ≡ length bytes
-    go true = simp length-set
-    go false = refl
-
-pub length-writtenTo : (list : List Rule) (k : ℕ) (bytes : List ℕ) → length (writtenTo list k bytes) ≡ length bytes
+length-writtenTo : (list : List Rule) (k : ℕ) (bytes : List ℕ) → length (writtenTo list k bytes) ≡ length bytes
 length-writtenTo list zero bytes = refl
-length-writtenTo list (suc k) bytes = length-putAt (writtenTo list k bytes) k (getD list k none) ∙ length-writtenTo list k bytes
+length-writtenTo list (suc k) bytes = simp (length-set, length-writtenTo list k bytes)
 
-pub length-rulesIn : (list : List Rule) → length (rulesIn list) ≡ length list
+length-rulesIn : (list : List Rule) → length (rulesIn list) ≡ length list
 unfolding rulesIn
 length-rulesIn [] = refl
 length-rulesIn (r ∷ rs) = ap suc (length-rulesIn rs)
@@ -65,8 +65,7 @@ module _ (list : List Rule) (bytes : List ℕ) (size : length bytes ≡ mostRule
   written-to (suc k) h =
       let r : Rule = getD list k none in
       let before : List ℕ = writtenTo list k bytes in
-      ap (take (suc k * 3)) (ap (λ (b : Bool). cond b (set (set (set before (k * 3) (r .kind)) (k * 3 + 1) (r .first)) (k * 3 + 2) (r .second)) before) (lt-ltb k mostRules (omega arith)))
-      ∙ ap (λ (m : ℕ). take m (set (set (set before (k * 3) (r .kind)) (k * 3 + 1) (r .first)) (k * 3 + 2) (r .second))) three-more
+      ap (λ (m : ℕ). take m (putAt before k r)) three-more
       ∙ ends-in before (k * 3) (r .kind) (r .first) (r .second) (omega (arith, length-writtenTo list k bytes))
       ∙ ap (λ (s : List ℕ). ((s ++ (r .kind ∷ [])) ++ (r .first ∷ [])) ++ (r .second ∷ [])) (written-to k (omega arith))
       ∙ sym (last-rule (take k list) r)
@@ -76,31 +75,26 @@ module _ (list : List Rule) (bytes : List ℕ) (size : length bytes ≡ mostRule
       three-more = omega arith
 
   -- All records written: the buffer begins with their rules' bytes.
-  pub written-bytes : take (length list * 3) (writtenTo list (length list) bytes) ≡ ruleBytes (rulesIn list)
+  written-bytes : take (length list * 3) (writtenTo list (length list) bytes) ≡ ruleBytes (rulesIn list)
   written-bytes = written-to (length list) (le-refl (length list)) ∙ ap (λ (l : List Rule). ruleBytes (rulesIn l)) (take-length list)
 
--- ---- over the most records, the bytes too are over theirs
-module _ (p : Panel) (n : ℕ) (list : List Rule) (many : mostRules < length list) where
-  over-bytes : mostRuleBytes < length (ruleBytes (rulesIn list))
-  over-bytes = omega (arith, length-ruleBytes (rulesIn list), length-rulesIn list)
-
-  pub list-over : loadNumber p n (ruleBytes (rulesIn list)) ≡ oversize
+-- ---- the load
+module _ (p : Panel) (n : ℕ) (list : List Rule) where
+  refused : mostRules < length list → loadNumber p n (ruleBytes (rulesIn list)) ≡ oversize
   unfolding loadNumber
-  list-over = rw (lt-ltb mostRuleBytes (length (ruleBytes (rulesIn list))) over-bytes, or-true (ltb mostOperators n))
+  refused many =
+      rw (lt-ltb mostRuleBytes (length (ruleBytes (rulesIn list))) (omega (arith, length-ruleBytes (rulesIn list), length-rulesIn list)), or-true (ltb mostOperators n))
 
-  pub over-loads : {r : Loaded} {after : List ℕ} → (r .number ≡ oversize) × (r .sheet ≡ p .sheet) × (after ≡ p .places) → LoadsList p n (rulesIn list) r after
+  -- Over the most records is refused as too large, and nothing changes.
+  pub list-over : mostRules < length list → Changes p (loadList n (rulesIn list)) oversize p
   unfolding sheetAfter placesAfterLoad
-  over-loads (a, b, c) =
-      let z = ne-eqb (loadNumber p n (ruleBytes (rulesIn list))) 0 (λ f. absurd (omega (arith, f, list-over))) in
-      record { numbered = a ∙ sym list-over; in-force = b ∙ rw z; stands = c ∙ rw z }
+  list-over many =
+      let kept = ne-eqb (loadNumber p n (ruleBytes (rulesIn list))) 0 (λ f. absurd (omega (arith, f, refused many))) in
+      record { numbered = sym (refused many); stands = rw kept }
 
--- The load of the records written is the load with the list.
-pub list-loads : (p : Panel) (n : ℕ) (list : List Rule) (bytes : List ℕ) (r : Loaded) (after : List ℕ)
-    → LoadsWritten p n (writtenTo list (length list) bytes) (length list) r after → LoadsList p n (rulesIn list) r after
-list-loads p n list bytes r after w = go (decLt mostRules (length list))
-  where
-    go : Dec (mostRules < length list) → LoadsList p n (rulesIn list) r after
-    go (yes many) = over-loads p n list many (w .beyond many)
-    go (no g) =
-        let few : length list ≤ mostRules = omega arith in
-        subst (λ (s : List ℕ). LoadsPanel p n s r after) (written-bytes list bytes (sym (length-writtenTo list (length list) bytes) ∙ w .sized few) few) (w .within few)
+  -- The load of the records written is the load with the list.
+  pub list-loads : (bytes : List ℕ) {r : ℕ} {later : Panel} → length bytes ≡ mostRuleBytes → length list ≤ mostRules
+      → Changes p (load n (take (length list * 3) (writtenTo list (length list) bytes))) r later → Changes p (loadList n (rulesIn list)) r later
+  list-loads bytes {r} {later} size few c =
+      let d : Changes p (load n (ruleBytes (rulesIn list))) r later = subst (λ (s : List ℕ). Changes p (load n s) r later) (written-bytes list bytes size few) c in
+      record { numbered = d .numbered; stands = d .stands }

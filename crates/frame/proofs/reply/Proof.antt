@@ -7,13 +7,9 @@ pub reply-spec : {M : Type 1} → statement M
 reply-spec =
     tie.close
     (tie.spec
+    (λ c κs. search reply-ways)
     (λ c. search reply-ways)
     (λ c κs. search reply-ways)
     (λ c. search reply-ways)
-    (λ c. search reply-ways)
     (λ c κs. search reply-ways)
-    (λ c. search reply-ways)
-    (λ c. search reply-ways)
-    (λ c κs. search reply-ways)
-    (λ c. search reply-ways)
     (λ c. search reply-ways))

@@ -1,16 +1,16 @@
 -- `panel::answer_block` meets its contract; in its loop, the lines before the place are answered. Assumes nothing.
 use Prim.Native.Nat.{_-_}
 use lib.ListN.{length}
-use Rattle.monitor.specs.Contracts.{panel}
+use Rattle.monitor.specs.Panel.{panel}
 use Rattle.panel.proofs.BlockWays.{Reached, block-ways}
 use Rattle.panel.proofs.answer_block.Statement.{statement}
 use Rattle.panel.proofs.answer_block.Tie as tie
 
 abbrev Inv-loop : tie.InvT-loop
-Inv-loop places₀ buf out₀ sheet₀ rest₀ places out sheet rest = Reached (panel sheet₀ places₀) buf out rest sheet places
+Inv-loop sheet₀ places₀ buf out₀ rest₀ sheet places out rest = Reached (panel sheet₀ places₀) buf out rest (panel sheet places)
 
 abbrev μ-loop : tie.MeasureT-loop
-μ-loop places₀ buf out₀ sheet₀ rest₀ places out sheet rest = length buf - rest
+μ-loop sheet₀ places₀ buf out₀ rest₀ sheet places out rest = length buf - rest
 
 pub answer-block-spec : {M : Type 1} → statement M
 answer-block-spec =

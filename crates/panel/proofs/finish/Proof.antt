@@ -13,7 +13,6 @@ finish-spec =
     (λ c. search finish-ways)
     (λ c. search finish-ways)
     (λ c. search finish-ways)
-    (λ c. search finish-ways)
     (λ c κs. search finish-ways)
     (λ c κs. search finish-ways)
     (λ c. search finish-ways)

@@ -2,17 +2,17 @@
 use Prim.Native.Nat.{_+_, _≤_}
 use mathlib.Core.Path.{_≡_}
 use lib.ListN.{length}
-use Rattle.panel.specs.Contracts.{block, mostKept}
+use Rattle.panel.specs.Contracts.{block, mostKept, bufferBytes}
 use Rattle.panel.proofs.TurnWays.{run-ways}
 use Rattle.panel.proofs.run.Statement.{statement}
 use Rattle.panel.proofs.run.Tie as tie
 
 abbrev Inv-loop : tie.InvT-loop
-Inv-loop places₀ buf₀ out₀ turns₀ s₀ places buf out turns s =
-    (s .kept ≤ mostKept) × (length buf ≡ mostKept + block) × (length out ≡ block) × (length buf₀ ≡ mostKept + block) × (length out₀ ≡ block)
+Inv-loop sheet₀ places₀ buf₀ out₀ turns₀ s₀ sheet places buf out turns s =
+    (s .kept ≤ mostKept) × (length buf ≡ bufferBytes) × (length out ≡ block) × (length buf₀ ≡ bufferBytes) × (length out₀ ≡ block)
 
 abbrev μ-loop : tie.MeasureT-loop
-μ-loop places₀ buf₀ out₀ turns₀ s₀ places buf out turns s = turns
+μ-loop sheet₀ places₀ buf₀ out₀ turns₀ s₀ sheet places buf out turns s = turns
 
 pub run-spec : {M : Type 1} → statement M
 run-spec =
@@ -20,7 +20,6 @@ run-spec =
     (tie.spec
     Inv-loop
     μ-loop
-    (λ c κs. search run-ways)
     (λ c. search run-ways)
     (λ c κs. search run-ways)
     (λ c. search run-ways)

@@ -11,6 +11,5 @@ load-written-spec =
     (λ c. search load-written-ways)
     (λ c. search load-written-ways)
     (λ c. search load-written-ways)
-    (λ c. search load-written-ways)
     (λ c κs. search load-written-ways)
     (λ c. search load-written-ways))

@@ -7,11 +7,16 @@ pub answer-spec : {M : Type 1} → statement M
 answer-spec =
     tie.close
     (tie.spec
+    (λ c κs. search answer-ways)
+    (λ c. search answer-ways)
+    (λ c. search answer-ways)
+    (λ c. search answer-ways)
     (λ c. search answer-ways)
     (λ c. search answer-ways)
     (λ c. search answer-ways)
     (λ c. search answer-ways)
     (λ c κs. search answer-ways)
+    (λ c. search answer-ways)
     (λ c. search answer-ways)
     (λ c. search answer-ways)
     (λ c. search answer-ways)

@@ -2,16 +2,16 @@
 use Prim.Native.Nat.{_-_}
 use lib.ListN.{length}
 use native.Mathlib.Omega.{arith}
-use Rattle.monitor.specs.Contracts.{panel}
+use Rattle.monitor.specs.Panel.{panel}
 use Rattle.panel.proofs.LinesWays.{Answering, lines-ways}
 use Rattle.panel.proofs.lines.answer_lines.Statement.{statement}
 use Rattle.panel.proofs.lines.answer_lines.Tie as tie
 
 abbrev Inv-loop : tie.InvT-loop
-Inv-loop places₀ buf from out₀ last₀ rest₀ filled₀ end₀ places out last rest filled end = Answering (panel (last₀ .sheet) places₀) buf from out rest filled end (last .sheet) places
+Inv-loop sheet₀ places₀ buf from out₀ reply₀ rest₀ filled₀ end₀ sheet places out reply rest filled end = Answering (panel sheet₀ places₀) buf from out rest filled end (panel sheet places)
 
 abbrev μ-loop : tie.MeasureT-loop
-μ-loop places₀ buf from out₀ last₀ rest₀ filled₀ end₀ places out last rest filled end = length buf - end
+μ-loop sheet₀ places₀ buf from out₀ reply₀ rest₀ filled₀ end₀ sheet places out reply rest filled end = length buf - end
 
 pub answer-lines-spec : {M : Type 1} → statement M
 answer-lines-spec =
@@ -25,8 +25,6 @@ answer-lines-spec =
     (λ c. search lines-ways)
     (λ c. search lines-ways)
     (λ c κs. search lines-ways)
-    (λ c. search lines-ways)
-    (λ c. search lines-ways)
     (λ c. search lines-ways)
     (λ c κs. search lines-ways)
     (λ c. search lines-ways)
