@@ -120,6 +120,47 @@ static void check_places(struct panel *p, uint8_t *out) {
     CHECK(untouched(panel_fetch_row(p, 0, out, 300), PANEL_EMPTY, out, 300));
 }
 
+/* A panel of bytes that no run of calls makes. */
+static void scramble(struct panel *p, uint32_t seed) {
+    for (size_t i = 0; i < sizeof *p; i++) {
+        seed = seed * 1664525u + 1013904223u;
+        ((uint8_t *)p)[i] = (uint8_t)(seed >> 24);
+    }
+}
+
+/*
+ * Such a panel "also gets one fixed answer, and the call still ends": a copy of it gets the same one. What is built of a row has
+ * that row.
+ */
+static void check_any_panel(void) {
+    static const uint8_t tokens[] = {0x80, 0x1F, 0x81, 0x00, 0x82, 0x07, 0x83, 0x1E, 0x84, 0x00, 0x85, 0x1F, 0x86};
+    int built_rows = 0;
+    for (uint32_t seed = 0; seed < 500; seed++) {
+        struct panel p, copy;
+        uint8_t one[300] = {0}, other[300] = {0}, back[300];
+        scramble(&p, seed);
+        memcpy(&copy, &p, sizeof p);
+        struct panel_answer built = panel_build(&p, tokens, sizeof tokens, one, sizeof one);
+        CHECK(panel_build(&copy, tokens, sizeof tokens, other, sizeof other).number == built.number);
+        CHECK(memcmp(one, other, sizeof one) == 0);
+        if (built.number == PANEL_ACCEPTED) {
+            struct panel_answer yielded = panel_yield(&p, one, built.length, back, sizeof back);
+            CHECK(yielded.length == sizeof tokens && memcmp(back, tokens, sizeof tokens) == 0);
+            CHECK(panel_judge(&p, one, built.length).count == panel_judge(&copy, one, built.length).count);
+            built_rows++;
+        }
+        for (uint8_t place = 0; place < PANEL_PLACES; place++) {
+            CHECK(panel_fetch_record(&p, place, one, 300).number == panel_fetch_record(&copy, place, other, 300).number);
+            CHECK(panel_fetch_row(&p, place, one, 300).number == panel_fetch_row(&copy, place, other, 300).number);
+            CHECK(memcmp(one, other, sizeof one) == 0);
+        }
+        CHECK(panel_load(&p, 2, sheet_a, sizeof sheet_a) == panel_load(&copy, 2, sheet_a, sizeof sheet_a));
+        CHECK(panel_put_row(&p, 3, row, sizeof row) == panel_put_row(&copy, 3, row, sizeof row));
+        CHECK(memcmp(p.places, copy.places, sizeof p.places) == 0);
+    }
+    CHECK(built_rows > 0);
+}
+
 int main(void) {
     struct panel p;
     uint8_t out[300];
@@ -131,6 +172,7 @@ int main(void) {
     CHECK(panel_load(&p, 2, sheet_a, sizeof sheet_a) == PANEL_ACCEPTED);
     check_rules(&p);
     check_lines();
+    check_any_panel();
     check_trees(&p, out);
     check_operands(&p);
     check_places(&p, out);

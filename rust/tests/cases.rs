@@ -59,6 +59,20 @@ fn sheets_9_to_14() {
     assert_eq!(panel.build(&long), Err(Refusal::Oversize));
 }
 
+/// "over 6,144 rule bytes": more than a line can bring. 1 comes before 2, so it does not matter that 6,145 is no multiple of three.
+#[test]
+fn rule_bytes_at_the_limit() {
+    let rules = SHEET_A.repeat(683);
+    let mut panel = Panel::new();
+    assert_eq!(panel.load(2, &rules[..6144]), Ok(()));
+    let before = panel.clone();
+    for length in [6145, 6146, 6147] {
+        assert_eq!(panel.load(2, &rules[..length]), Err(Refusal::Oversize));
+    }
+    assert_eq!(panel.load(2, &rules[..6143]), Err(Refusal::Torn));
+    assert!(panel == before);
+}
+
 #[test]
 fn operands_are_parts_of_the_record() {
     let panel = panel_with_sheet_a();

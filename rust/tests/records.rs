@@ -1,0 +1,85 @@
+//! Records under sheet A: what yield, judge and operand answer of each, and the records that all calls turn down.
+//!
+//! The answers are document 01's: "The yield of a tree is its row", "The conflict count is the number of pairs of a node and a
+//! side", "An operand of a node is handed back as that part of the caller's record", "a node's only tree counts as its left".
+use tihvomen::{Panel, Refusal, Side};
+
+/// Sheet A, which excludes L(1,0), R(1,0), R(0,0) and R(1,1).
+fn panel_with_sheet_a() -> Panel {
+    let mut panel = Panel::new();
+    panel.load(2, &[1, 1, 0, 2, 1, 1, 2, 0, 0]).unwrap();
+    panel
+}
+
+/// The record's row, count, and operands; each operand is a part of the record itself.
+fn answers(record: &[u8], row: &[u8], count: u8, left: &[u8], right: &[u8]) {
+    let panel = panel_with_sheet_a();
+    assert_eq!(panel.yield_row(record).unwrap(), row, "the row of {record:02x?}");
+    assert_eq!(panel.judge(record), Ok(count), "the count of {record:02x?}");
+    for (side, expected) in [(Side::Left, left), (Side::Right, right)] {
+        let part = panel.operand(record, side).unwrap();
+        assert_eq!(part, expected, "the {side:?} operand of {record:02x?}");
+        assert!(part.is_empty() || record.as_ptr_range().contains(&part.as_ptr()), "a copy was handed back");
+    }
+}
+
+/// Every call that is given the record answers this.
+fn refused(panel: &Panel, record: &[u8], refusal: Refusal) {
+    assert_eq!(panel.yield_row(record), Err(refusal), "the row of {record:02x?}");
+    assert_eq!(panel.judge(record), Err(refusal), "the count of {record:02x?}");
+    assert_eq!(panel.repair(record), Err(refusal), "the repair of {record:02x?}");
+    assert_eq!(panel.operand(record, Side::Left), Err(refusal), "the left operand of {record:02x?}");
+    assert_eq!(panel.operand(record, Side::Right), Err(refusal), "the right operand of {record:02x?}");
+    assert_eq!(panel.clone().put_record(0, record), Err(refusal), "the put of {record:02x?}");
+}
+
+#[test]
+fn short_records() {
+    // Cases 2 and 6: two trees of one row.
+    let row = [0x80, 0, 0x81, 1, 0x82];
+    answers(&[0, 0x80, 1, 0x81, 0x82], &row, 0, &[0x80], &[1, 0x81, 0x82]);
+    answers(&[1, 0, 0x80, 0x81, 0x82], &row, 1, &[0, 0x80, 0x81], &[0x82]);
+    // 00 below 01 on both sides.
+    let both = [1, 0, 0x80, 0x81, 0, 0x82, 0x83];
+    answers(&both, &[0x80, 0, 0x81, 1, 0x82, 0, 0x83], 2, &both[1..4], &both[4..]);
+    // A reading has no operand, a bracket only a left one, and it is never the operator inside it.
+    answers(&[0x80], &[0x80], 0, &[], &[]);
+    answers(&[0x20, 0, 0x80, 0x81], &[0x20, 0x80, 0, 0x81, 0x21], 0, &[0, 0x80, 0x81], &[]);
+    let bracketed = [1, 0x20, 0, 0x80, 0x81, 0x82];
+    answers(&bracketed, &[0x20, 0x80, 0, 0x81, 0x21, 1, 0x82], 0, &bracketed[1..5], &[0x82]);
+}
+
+/// 255 bytes and 255 tokens at most: combs of 127 operators, and 127 brackets.
+#[test]
+fn longest_records() {
+    let row = [&[0x80], &[0, 0x80].repeat(127)[..]].concat();
+    let left = [[0].repeat(127), [0x80].repeat(128)].concat();
+    answers(&left, &row, 0, &left[1..254], &[0x80]);
+    // Each of the 127 nodes but the last has 00 at the top of its right operand.
+    let right = [[0, 0x80].repeat(127), vec![0x80]].concat();
+    answers(&right, &row, 126, &[0x80], &right[2..]);
+    let nested = [[0x20].repeat(127), vec![0x80]].concat();
+    let nested_row = [nested.clone(), [0x21].repeat(127)].concat();
+    answers(&nested, &nested_row, 0, &nested[1..], &[]);
+}
+
+/// "Record 1 (its bytes), 3, 7, 1 (its row)": the first that applies.
+#[test]
+fn refused_records() {
+    let panel = panel_with_sheet_a();
+    for record in [&[][..], &[0, 0x80], &[0x80, 0x81]] {
+        refused(&panel, record, Refusal::NoTree);
+    }
+    // 21; bytes without meaning; an operator not below n. All but the first stand in what is no tree either.
+    for record in [&[0x20, 0x80, 0x21][..], &[0x80, 0x7f], &[0x80, 2], &[0, 0x80, 0x22]] {
+        refused(&panel, record, Refusal::Stranger);
+    }
+    refused(&Panel::new(), &[0, 0x80, 0x81], Refusal::Stranger);
+    let comb = [[0].repeat(127), [0x80].repeat(128)].concat();
+    refused(&panel, &comb[..254], Refusal::NoTree);
+    refused(&panel, &[&comb[..], &[0x80]].concat(), Refusal::Oversize);
+    refused(&panel, &[0x7f; 256], Refusal::Oversize);
+    // Rows of 257 tokens: 128 brackets, and two brackets around 126 operators.
+    refused(&panel, &[[0x20].repeat(128), vec![0x80]].concat(), Refusal::Oversize);
+    refused(&panel, &[[0x20].repeat(2), [0].repeat(126), [0x80].repeat(127)].concat(), Refusal::Oversize);
+}
