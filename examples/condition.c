@@ -21,7 +21,7 @@ static const char *name(uint8_t byte) {
 static void print_tree(const struct panel *p, const uint8_t *record, size_t length, int column) {
     printf("%*s%s\n", column, "", name(record[0]));
     for (int side = PANEL_LEFT_SIDE; side <= PANEL_RIGHT_SIDE; side++) {
-        struct panel_operand operand = panel_operand(p, record, length, (enum panel_side)side);
+        struct panel_part operand = panel_operand(p, record, length, (enum panel_side)side);
         if (operand.length != 0)
             print_tree(p, record + operand.offset, operand.length, column + 2);
     }

@@ -7,6 +7,7 @@
  * What holds of every call:
  *  - It takes any bytes and ends. It has no state but the panel, and allocates nothing.
  *  - It answers a number: 0, or the first refusal that applies, in the order named with the call.
+ *  - A place that is no place is refused with 8 and a count of operators over 32 with 1, however large it is.
  *  - After a refusal the panel and the lent output are as they were.
  *  - After success the output past the answer's length is as it was.
  *  - A pointer of length 0 may be NULL. The parts lent to one call must not overlap each other or the panel.
@@ -24,11 +25,13 @@
 #include <string.h>
 
 enum {
-    PANEL_PLACES = 16,       /* places 0 to 15 */
-    PANEL_MOST_TOKENS = 255, /* room for every row and every record */
-    PANEL_IMAGE_BYTES = 256, /* the length of an image */
-    PANEL_MOST_RULES = 2048, /* rules of a sheet */
-    PANEL_MOST_REPLY = 514   /* room for every reply to a line */
+    PANEL_PLACES = 16,                                     /* places 0 to 15 */
+    PANEL_MOST_RULES = 2048,                               /* rules of a sheet */
+    PANEL_MOST_TOKENS = 255,                               /* room for every row and every record */
+    PANEL_IMAGE_BYTES = 1 + PANEL_MOST_TOKENS,             /* the length of an image: a record's length and the record */
+    PANEL_MOST_REPLY = 2 * (1 + PANEL_IMAGE_BYTES),        /* room for every reply to a line: number and answer in digits */
+    PANEL_STORE_BYTES = PANEL_PLACES * PANEL_IMAGE_BYTES,  /* what the places take */
+    PANEL_SHEET_WORDS = 36                                 /* what a sheet takes, in words of 32 bits */
 };
 
 /* The kind of a rule, its first byte; the operators a and b are its second and third. */
@@ -44,17 +47,22 @@ enum panel_side {
     PANEL_RIGHT_SIDE = 1
 };
 
+/* The sheet in force. What its words mean is known to the library alone. */
+struct panel_sheet {
+    uint32_t words[PANEL_SHEET_WORDS];
+};
+
 /*
  * A panel: the sheet in force and the sixteen places. All zero bytes are a fresh panel. It may be copied like any struct.
  * Only the calls write it. Bytes that no call made also get one fixed answer, and the call still ends.
  */
 struct panel {
     struct panel_sheet sheet;
-    uint8_t places[4096];
+    uint8_t places[PANEL_STORE_BYTES];
 };
 
 /* A fresh panel, as in `struct panel p = PANEL_FRESH;` */
-#define PANEL_FRESH {{0, {0}}, {0}}
+#define PANEL_FRESH {{{0}}, {0}}
 
 /* The number of a call that writes an answer, and the answer's length; 0 after a refusal. */
 struct panel_answer {
@@ -69,7 +77,7 @@ struct panel_judgement {
 };
 
 /* The number of a record, and where an operand stands in it. The length is 0 after a refusal and where there is none. */
-struct panel_operand {
+struct panel_part {
     enum panel_number number;
     size_t offset;
     size_t length;
@@ -102,10 +110,8 @@ static inline void panel_fresh(struct panel *p) {
  * conflict-free tree of its row under the new one. Then every row of any length over the n operators has exactly one
  * conflict-free tree. Numbers: 1, 2, 3, 4, 5, 11.
  */
-static inline enum panel_number panel_load(struct panel *p, uint8_t n, const uint8_t *rules, size_t length) {
-    struct panel_raw_loaded loaded = tihvomen_load(p->sheet, p->places, n, panel_from(rules, length), length);
-    p->sheet = loaded.sheet;
-    return (enum panel_number)loaded.number;
+static inline enum panel_number panel_load(struct panel *p, unsigned n, const uint8_t *rules, size_t length) {
+    return (enum panel_number)tihvomen_load(p->sheet.words, p->places, n, panel_from(rules, length), length);
 }
 
 /*
@@ -113,44 +119,41 @@ static inline enum panel_number panel_load(struct panel *p, uint8_t n, const uin
  * 5, 11.
  */
 static inline enum panel_number panel_load_rules(
-    struct panel *p, uint8_t n, const struct panel_rule *rules, size_t count) {
-    uint8_t bytes[3 * PANEL_MOST_RULES];
+    struct panel *p, unsigned n, const struct panel_rule *rules, size_t count) {
     struct panel_rule none = {0, 0, 0};
     const struct panel_rule *from = count == 0 ? &none : rules;
-    struct panel_raw_loaded loaded = tihvomen_load_rules(p->sheet, p->places, n, from, count, bytes);
-    p->sheet = loaded.sheet;
-    return (enum panel_number)loaded.number;
+    return (enum panel_number)tihvomen_load_rules(p->sheet.words, p->places, n, from, count);
 }
 
 /* The place holds the conflict-free tree of the row. Numbers: 8, 1, 3, 6. */
-static inline enum panel_number panel_put_row(struct panel *p, uint8_t place, const uint8_t *row, size_t length) {
-    return (enum panel_number)tihvomen_put_row(p->sheet, p->places, place, panel_from(row, length), length);
+static inline enum panel_number panel_put_row(struct panel *p, unsigned place, const uint8_t *row, size_t length) {
+    return (enum panel_number)tihvomen_put_row(p->sheet.words, p->places, place, panel_from(row, length), length);
 }
 
 /* The place holds the conflict-free tree of the record's row. Numbers: 8, 1, 3, 7, 1. */
-static inline enum panel_number panel_put_record(struct panel *p, uint8_t place, const uint8_t *record, size_t length) {
-    return (enum panel_number)tihvomen_put_record(p->sheet, p->places, place, panel_from(record, length), length);
+static inline enum panel_number panel_put_record(struct panel *p, unsigned place, const uint8_t *record, size_t length) {
+    return (enum panel_number)tihvomen_put_record(p->sheet.words, p->places, place, panel_from(record, length), length);
 }
 
 /* The place is empty afterwards. Numbers: 8, 9. */
-static inline enum panel_number panel_drop(struct panel *p, uint8_t place) {
+static inline enum panel_number panel_drop(struct panel *p, unsigned place) {
     return (enum panel_number)tihvomen_drop(p->places, place);
 }
 
 /* Writes the record of the tree that the place holds. Numbers: 8, 9, 10. */
-static inline struct panel_answer panel_fetch_record(const struct panel *p, uint8_t place, uint8_t *out, size_t room) {
+static inline struct panel_answer panel_fetch_record(const struct panel *p, unsigned place, uint8_t *out, size_t room) {
     uint8_t spare = 0;
     return panel_answered(tihvomen_fetch_record(p->places, place, panel_into(out, room, &spare), room));
 }
 
 /* Writes the row of the tree that the place holds: the row last put there. Numbers: 8, 9, 10. */
-static inline struct panel_answer panel_fetch_row(const struct panel *p, uint8_t place, uint8_t *out, size_t room) {
+static inline struct panel_answer panel_fetch_row(const struct panel *p, unsigned place, uint8_t *out, size_t room) {
     uint8_t spare = 0;
-    return panel_answered(tihvomen_fetch_row(p->sheet, p->places, place, panel_into(out, room, &spare), room));
+    return panel_answered(tihvomen_fetch_row(p->sheet.words, p->places, place, panel_into(out, room, &spare), room));
 }
 
 /* Writes 256 bytes: record length, record, then 00; all 00 when the place is empty. Numbers: 8, 10. */
-static inline struct panel_answer panel_image(const struct panel *p, uint8_t place, uint8_t *out, size_t room) {
+static inline struct panel_answer panel_image(const struct panel *p, unsigned place, uint8_t *out, size_t room) {
     uint8_t spare = 0;
     return panel_answered(tihvomen_image(p->places, place, panel_into(out, room, &spare), room));
 }
@@ -160,7 +163,7 @@ static inline struct panel_answer panel_build(
     const struct panel *p, const uint8_t *row, size_t length, uint8_t *out, size_t room) {
     uint8_t spare = 0;
     const uint8_t *from = panel_from(row, length);
-    return panel_answered(tihvomen_build(p->sheet, from, length, panel_into(out, room, &spare), room));
+    return panel_answered(tihvomen_build(p->sheet.words, from, length, panel_into(out, room, &spare), room));
 }
 
 /*
@@ -171,7 +174,7 @@ static inline struct panel_answer panel_repair(
     const struct panel *p, const uint8_t *record, size_t length, uint8_t *out, size_t room) {
     uint8_t spare = 0;
     const uint8_t *from = panel_from(record, length);
-    return panel_answered(tihvomen_repair(p->sheet, from, length, panel_into(out, room, &spare), room));
+    return panel_answered(tihvomen_repair(p->sheet.words, from, length, panel_into(out, room, &spare), room));
 }
 
 /* Writes the row of the record's tree. Numbers: 1, 3, 7, 1, 10. */
@@ -179,12 +182,12 @@ static inline struct panel_answer panel_yield(
     const struct panel *p, const uint8_t *record, size_t length, uint8_t *out, size_t room) {
     uint8_t spare = 0;
     const uint8_t *from = panel_from(record, length);
-    return panel_answered(tihvomen_yield(p->sheet, from, length, panel_into(out, room, &spare), room));
+    return panel_answered(tihvomen_yield(p->sheet.words, from, length, panel_into(out, room, &spare), room));
 }
 
 /* Counts the pairs of a node and a side in the record's tree that show an excluded pattern. Numbers: 1, 3, 7, 1. */
 static inline struct panel_judgement panel_judge(const struct panel *p, const uint8_t *record, size_t length) {
-    struct panel_raw_judgement raw = tihvomen_judge(p->sheet, panel_from(record, length), length);
+    struct panel_raw_judgement raw = tihvomen_judge(p->sheet.words, panel_from(record, length), length);
     struct panel_judgement judgement;
     judgement.number = (enum panel_number)raw.number;
     judgement.count = raw.count;
@@ -195,12 +198,12 @@ static inline struct panel_judgement panel_judge(const struct panel *p, const ui
  * Finds the record of an operand of the top node: that part of the caller's record, not copied. A bracket's tree counts
  * as its left operand. Numbers: 1, 3, 7, 1.
  */
-static inline struct panel_operand panel_operand(
+static inline struct panel_part panel_operand(
     const struct panel *p, const uint8_t *record, size_t length, enum panel_side side) {
     const uint8_t *from = panel_from(record, length);
-    struct panel_raw_part part = tihvomen_operand(p->sheet, from, length, side == PANEL_RIGHT_SIDE);
-    struct panel_operand operand;
-    operand.number = (enum panel_number)tihvomen_operand_number(p->sheet, from, length);
+    struct panel_raw_part part = tihvomen_operand(p->sheet.words, from, length, side == PANEL_RIGHT_SIDE);
+    struct panel_part operand;
+    operand.number = (enum panel_number)tihvomen_operand_number(p->sheet.words, from, length);
     operand.offset = part.from;
     operand.length = part.to - part.from;
     return operand;
@@ -208,16 +211,12 @@ static inline struct panel_operand panel_operand(
 
 /*
  * Runs one line of hexadecimal, without its line end, as the program `panel` does, and writes the reply: the number and on
- * success the answer, in digits, without a line end. Answers the reply's length. An output of less than PANEL_MOST_REPLY
- * characters gets nothing: the line is not run, and the answer is 0.
+ * success the answer, in digits, without a line end. Answers the reply's length. The output must have room for
+ * PANEL_MOST_REPLY characters.
  */
-static inline size_t panel_reply(struct panel *p, const char *line, size_t length, char *out, size_t room) {
-    uint8_t spare = 0;
+static inline size_t panel_reply(struct panel *p, const char *line, size_t length, char out[PANEL_MOST_REPLY]) {
     const uint8_t *from = panel_from((const uint8_t *)line, length);
-    struct panel_raw_replied replied =
-        tihvomen_reply(p->sheet, p->places, from, length, panel_into((uint8_t *)out, room, &spare), room);
-    p->sheet = replied.sheet;
-    return replied.length;
+    return tihvomen_reply(p->sheet.words, p->places, from, length, (uint8_t *)out);
 }
 
 #endif

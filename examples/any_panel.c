@@ -1,0 +1,72 @@
+/*
+ * Panels that no run of calls makes: each "also gets one fixed answer, and the call still ends". Silent if all is well.
+ */
+#include "check.h"
+#include "panel.h"
+
+static uint8_t next_byte(uint32_t *state) {
+    *state = *state * 1664525u + 1013904223u;
+    return (uint8_t)(*state >> 24);
+}
+
+/* A panel that no run of calls makes: a sheet of 32 operators with some bytes changed, and places of any bytes. */
+static void scramble(struct panel *p, uint32_t state) {
+    uint8_t rules[3 * 32 * 32];
+    uint8_t *sheet = (uint8_t *)&p->sheet;
+    for (int pair = 0; pair < 32 * 32; pair++) {
+        rules[3 * pair] = PANEL_LEFT;
+        rules[3 * pair + 1] = (uint8_t)(pair / 32);
+        rules[3 * pair + 2] = (uint8_t)(pair % 32);
+    }
+    panel_fresh(p);
+    CHECK(panel_load(p, 32, rules, sizeof rules) == PANEL_ACCEPTED);
+    for (uint32_t changes = state % 40; changes > 0; changes--) {
+        uint8_t at = (uint8_t)(next_byte(&state) % sizeof p->sheet);
+        sheet[at] = next_byte(&state);
+    }
+    for (size_t i = 0; i < sizeof p->places; i++)
+        p->places[i] = next_byte(&state);
+}
+
+/* What such a panel builds of a row, and repairs of a record, has that row. Answers whether it takes the operators. */
+static bool check_rows_of(const struct panel *p) {
+    static const uint8_t tokens[] = {0x80, 0x07, 0x81, 0x00, 0x82, 0x1F, 0x83, 0x00, 0x84, 0x1E, 0x85};
+    static const uint8_t tree[] = {0x1F, 0x00, 0x07, 0x80, 0x81, 0x82, 0x1E, 0x00, 0x83, 0x84, 0x85};
+    static const uint8_t strange[] = {0x80, 0x22, 0x81};
+    uint8_t out[300], back[300];
+    struct panel_answer built = panel_build(p, tokens, sizeof tokens, out, sizeof out);
+    CHECK(panel_build(p, strange, sizeof strange, out, sizeof out).number == PANEL_STRANGER);
+    CHECK(panel_repair(p, tree, sizeof tree, out, sizeof out).number == built.number);
+    if (built.number != PANEL_ACCEPTED)
+        return false;
+    CHECK(panel_yield(p, out, sizeof tree, back, sizeof back).length == sizeof tokens);
+    CHECK(memcmp(back, tokens, sizeof tokens) == 0);
+    CHECK(panel_build(p, tokens, sizeof tokens, out, sizeof out).length == sizeof tree);
+    CHECK(panel_yield(p, out, sizeof tree, back, sizeof back).length == sizeof tokens);
+    CHECK(memcmp(back, tokens, sizeof tokens) == 0);
+    return true;
+}
+
+/* A copy of such a panel gets the same answers. */
+int main(void) {
+    static const uint8_t sheet_a[] = {1, 1, 0, 2, 1, 1, 2, 0, 0};
+    static const uint8_t row[] = {0x20, 0x80, 0x00, 0x81, 0x21, 0x01, 0x82};
+    int taken = 0;
+    for (uint32_t seed = 0; seed < 500; seed++) {
+        struct panel p, copy;
+        uint8_t one[300] = {0}, other[300] = {0};
+        scramble(&p, seed);
+        memcpy(&copy, &p, sizeof p);
+        taken += check_rows_of(&p);
+        for (unsigned place = 0; place < PANEL_PLACES; place++) {
+            CHECK(panel_fetch_record(&p, place, one, 300).number == panel_fetch_record(&copy, place, other, 300).number);
+            CHECK(panel_fetch_row(&p, place, one, 300).number == panel_fetch_row(&copy, place, other, 300).number);
+            CHECK(memcmp(one, other, sizeof one) == 0);
+        }
+        CHECK(panel_load(&p, 2, sheet_a, sizeof sheet_a) == panel_load(&copy, 2, sheet_a, sizeof sheet_a));
+        CHECK(panel_put_row(&p, 3, row, sizeof row) == panel_put_row(&copy, 3, row, sizeof row));
+        CHECK(memcmp(&p, &copy, sizeof p) == 0);
+    }
+    CHECK(taken > 0);
+    return failures != 0;
+}
