@@ -21,7 +21,9 @@ mod linked;
 mod panel;
 mod refusal;
 mod rule;
+mod sizes;
 
-pub use panel::{Panel, Side, IMAGE_BYTES, MOST_REPLY, MOST_TOKENS, PLACES};
+pub use panel::{Panel, Side};
 pub use refusal::Refusal;
 pub use rule::Rule;
+pub use sizes::{IMAGE_BYTES, MOST_REPLY, MOST_TOKENS, PLACES};

@@ -1,24 +1,16 @@
 //! The linked functions. Unsafe code stands here and nowhere else.
 //!
-//! A slice goes over as address and length; a Rust slice's address is never null. The structs are laid out as in C.
+//! A slice goes over as address and length; a Rust slice's address is never null. Sheet, places and the output of a reply have fixed
+//! lengths and go over by address alone. The structs are laid out as in C.
 #![allow(unsafe_code)]
 use crate::rule::Rule;
+use crate::sizes::{MOST_REPLY, SHEET_WORDS, STORE_BYTES};
 
-/// The sheet in force. All zero is the fresh panel's.
-#[derive(Clone, Copy, PartialEq, Eq)]
-#[repr(C)]
-pub struct Sheet {
-    pub n: u8,
-    pub closes: [u32; 32],
-}
+/// The sheet in force. All zero is the fresh panel's; what the words mean is known to the library alone.
+pub type Sheet = [u32; SHEET_WORDS];
 
-pub type Places = [u8; 4096];
-
-#[repr(C)]
-pub struct Loaded {
-    pub number: u8,
-    pub sheet: Sheet,
-}
+/// The sixteen places. All zero is the fresh panel's.
+pub type Places = [u8; STORE_BYTES];
 
 #[repr(C)]
 pub struct Answer {
@@ -38,143 +30,135 @@ pub struct Part {
     pub to: usize,
 }
 
-#[repr(C)]
-pub struct Replied {
-    pub sheet: Sheet,
-    pub length: usize,
-}
-
-pub type RuleBytes = [u8; 6144];
-
 mod exports {
-    use super::{Answer, Judgement, Loaded, Part, Places, Replied, RuleBytes, Sheet};
+    use super::{Answer, Judgement, Part, Places, Sheet};
     use crate::rule::Rule;
+    use crate::sizes::MOST_REPLY;
 
     extern "C" {
-        pub fn tihvomen_load(sheet: Sheet, places: &mut Places, n: u8, rules: *const u8, length: usize) -> Loaded;
+        pub fn tihvomen_load(sheet: &mut Sheet, places: &mut Places, n: u32, rules: *const u8, length: usize) -> u8;
         pub fn tihvomen_load_rules(
-            sheet: Sheet,
+            sheet: &mut Sheet,
             places: &mut Places,
-            n: u8,
+            n: u32,
             rules: *const Rule,
             count: usize,
-            bytes: &mut RuleBytes,
-        ) -> Loaded;
-        pub fn tihvomen_put_row(sheet: Sheet, places: &mut Places, place: u8, row: *const u8, length: usize) -> u8;
+        ) -> u8;
+        pub fn tihvomen_put_row(sheet: &Sheet, places: &mut Places, place: u32, row: *const u8, length: usize) -> u8;
         pub fn tihvomen_put_record(
-            sheet: Sheet,
+            sheet: &Sheet,
             places: &mut Places,
-            place: u8,
+            place: u32,
             record: *const u8,
             length: usize,
         ) -> u8;
-        pub fn tihvomen_drop(places: &mut Places, place: u8) -> u8;
-        pub fn tihvomen_fetch_record(places: &Places, place: u8, out: *mut u8, room: usize) -> Answer;
-        pub fn tihvomen_fetch_row(sheet: Sheet, places: &Places, place: u8, out: *mut u8, room: usize) -> Answer;
-        pub fn tihvomen_image(places: &Places, place: u8, out: *mut u8, room: usize) -> Answer;
-        pub fn tihvomen_build(sheet: Sheet, row: *const u8, length: usize, out: *mut u8, room: usize) -> Answer;
-        pub fn tihvomen_repair(sheet: Sheet, record: *const u8, length: usize, out: *mut u8, room: usize) -> Answer;
-        pub fn tihvomen_judge(sheet: Sheet, record: *const u8, length: usize) -> Judgement;
-        pub fn tihvomen_yield(sheet: Sheet, record: *const u8, length: usize, out: *mut u8, room: usize) -> Answer;
-        pub fn tihvomen_operand_number(sheet: Sheet, record: *const u8, length: usize) -> u8;
-        pub fn tihvomen_operand(sheet: Sheet, record: *const u8, length: usize, right: bool) -> Part;
+        pub fn tihvomen_drop(places: &mut Places, place: u32) -> u8;
+        pub fn tihvomen_fetch_record(places: &Places, place: u32, out: *mut u8, room: usize) -> Answer;
+        pub fn tihvomen_fetch_row(sheet: &Sheet, places: &Places, place: u32, out: *mut u8, room: usize) -> Answer;
+        pub fn tihvomen_image(places: &Places, place: u32, out: *mut u8, room: usize) -> Answer;
+        pub fn tihvomen_build(sheet: &Sheet, row: *const u8, length: usize, out: *mut u8, room: usize) -> Answer;
+        pub fn tihvomen_repair(sheet: &Sheet, record: *const u8, length: usize, out: *mut u8, room: usize) -> Answer;
+        pub fn tihvomen_judge(sheet: &Sheet, record: *const u8, length: usize) -> Judgement;
+        pub fn tihvomen_yield(sheet: &Sheet, record: *const u8, length: usize, out: *mut u8, room: usize) -> Answer;
+        pub fn tihvomen_operand_number(sheet: &Sheet, record: *const u8, length: usize) -> u8;
+        pub fn tihvomen_operand(sheet: &Sheet, record: *const u8, length: usize, right: bool) -> Part;
         pub fn tihvomen_reply(
-            sheet: Sheet,
+            sheet: &mut Sheet,
             places: &mut Places,
             line: *const u8,
             length: usize,
-            out: *mut u8,
-            room: usize,
-        ) -> Replied;
+            out: &mut [u8; MOST_REPLY],
+        ) -> usize;
     }
 }
 
 #[inline]
-pub fn load(sheet: Sheet, places: &mut Places, n: u8, rules: &[u8]) -> Loaded {
-    // SAFETY: `rules` is read within its length; `places` is ours alone meanwhile.
-    unsafe { exports::tihvomen_load(sheet, places, n, rules.as_ptr(), rules.len()) }
+pub fn load(sheet: &mut Sheet, places: &mut Places, n: u8, rules: &[u8]) -> u8 {
+    // SAFETY: `rules` is read within its length; `sheet` and `places` are ours alone meanwhile.
+    unsafe { exports::tihvomen_load(sheet, places, n.into(), rules.as_ptr(), rules.len()) }
 }
 
 #[inline]
-pub fn load_rules(sheet: Sheet, places: &mut Places, n: u8, rules: &[Rule], bytes: &mut RuleBytes) -> Loaded {
-    // SAFETY: `rules` is read within its length; `places` and `bytes` are ours alone meanwhile.
-    unsafe { exports::tihvomen_load_rules(sheet, places, n, rules.as_ptr(), rules.len(), bytes) }
+pub fn load_rules(sheet: &mut Sheet, places: &mut Places, n: u8, rules: &[Rule]) -> u8 {
+    // SAFETY: `rules` is read within its length; `sheet` and `places` are ours alone meanwhile.
+    unsafe { exports::tihvomen_load_rules(sheet, places, n.into(), rules.as_ptr(), rules.len()) }
 }
 
 #[inline]
-pub fn put_row(sheet: Sheet, places: &mut Places, place: u8, row: &[u8]) -> u8 {
+pub fn put_row(sheet: &Sheet, places: &mut Places, place: u8, row: &[u8]) -> u8 {
     // SAFETY: `row` is read within its length; `places` is ours alone meanwhile.
-    unsafe { exports::tihvomen_put_row(sheet, places, place, row.as_ptr(), row.len()) }
+    unsafe { exports::tihvomen_put_row(sheet, places, place.into(), row.as_ptr(), row.len()) }
 }
 
 #[inline]
-pub fn put_record(sheet: Sheet, places: &mut Places, place: u8, record: &[u8]) -> u8 {
+pub fn put_record(sheet: &Sheet, places: &mut Places, place: u8, record: &[u8]) -> u8 {
     // SAFETY: `record` is read within its length; `places` is ours alone meanwhile.
-    unsafe { exports::tihvomen_put_record(sheet, places, place, record.as_ptr(), record.len()) }
+    unsafe { exports::tihvomen_put_record(sheet, places, place.into(), record.as_ptr(), record.len()) }
 }
 
 #[inline]
 pub fn drop_place(places: &mut Places, place: u8) -> u8 {
     // SAFETY: `places` is ours alone meanwhile.
-    unsafe { exports::tihvomen_drop(places, place) }
+    unsafe { exports::tihvomen_drop(places, place.into()) }
 }
 
 #[inline]
 pub fn fetch_record(places: &Places, place: u8, out: &mut [u8]) -> Answer {
     // SAFETY: `out` is written within its length.
-    unsafe { exports::tihvomen_fetch_record(places, place, out.as_mut_ptr(), out.len()) }
+    unsafe { exports::tihvomen_fetch_record(places, place.into(), out.as_mut_ptr(), out.len()) }
 }
 
 #[inline]
-pub fn fetch_row(sheet: Sheet, places: &Places, place: u8, out: &mut [u8]) -> Answer {
+pub fn fetch_row(sheet: &Sheet, places: &Places, place: u8, out: &mut [u8]) -> Answer {
     // SAFETY: `out` is written within its length.
-    unsafe { exports::tihvomen_fetch_row(sheet, places, place, out.as_mut_ptr(), out.len()) }
+    unsafe { exports::tihvomen_fetch_row(sheet, places, place.into(), out.as_mut_ptr(), out.len()) }
 }
 
 #[inline]
 pub fn image(places: &Places, place: u8, out: &mut [u8]) -> Answer {
     // SAFETY: `out` is written within its length.
-    unsafe { exports::tihvomen_image(places, place, out.as_mut_ptr(), out.len()) }
+    unsafe { exports::tihvomen_image(places, place.into(), out.as_mut_ptr(), out.len()) }
 }
 
 #[inline]
-pub fn build(sheet: Sheet, row: &[u8], out: &mut [u8]) -> Answer {
+pub fn build(sheet: &Sheet, row: &[u8], out: &mut [u8]) -> Answer {
     // SAFETY: `row` is read and `out` written within their lengths; they do not overlap.
     unsafe { exports::tihvomen_build(sheet, row.as_ptr(), row.len(), out.as_mut_ptr(), out.len()) }
 }
 
 #[inline]
-pub fn repair(sheet: Sheet, record: &[u8], out: &mut [u8]) -> Answer {
+pub fn repair(sheet: &Sheet, record: &[u8], out: &mut [u8]) -> Answer {
     // SAFETY: `record` is read and `out` written within their lengths; they do not overlap.
     unsafe { exports::tihvomen_repair(sheet, record.as_ptr(), record.len(), out.as_mut_ptr(), out.len()) }
 }
 
 #[inline]
-pub fn judge(sheet: Sheet, record: &[u8]) -> Judgement {
+pub fn judge(sheet: &Sheet, record: &[u8]) -> Judgement {
     // SAFETY: `record` is read within its length.
     unsafe { exports::tihvomen_judge(sheet, record.as_ptr(), record.len()) }
 }
 
 #[inline]
-pub fn yield_row(sheet: Sheet, record: &[u8], out: &mut [u8]) -> Answer {
+pub fn yield_row(sheet: &Sheet, record: &[u8], out: &mut [u8]) -> Answer {
     // SAFETY: `record` is read and `out` written within their lengths; they do not overlap.
     unsafe { exports::tihvomen_yield(sheet, record.as_ptr(), record.len(), out.as_mut_ptr(), out.len()) }
 }
 
 #[inline]
-pub fn operand_number(sheet: Sheet, record: &[u8]) -> u8 {
+pub fn operand_number(sheet: &Sheet, record: &[u8]) -> u8 {
     // SAFETY: `record` is read within its length.
     unsafe { exports::tihvomen_operand_number(sheet, record.as_ptr(), record.len()) }
 }
 
 #[inline]
-pub fn operand(sheet: Sheet, record: &[u8], right: bool) -> Part {
+pub fn operand(sheet: &Sheet, record: &[u8], right: bool) -> Part {
     // SAFETY: `record` is read within its length.
     unsafe { exports::tihvomen_operand(sheet, record.as_ptr(), record.len(), right) }
 }
 
 #[inline]
-pub fn reply(sheet: Sheet, places: &mut Places, line: &[u8], out: &mut [u8]) -> Replied {
-    // SAFETY: `line` is read and `out` written within their lengths; they do not overlap, and `places` is ours alone meanwhile.
-    unsafe { exports::tihvomen_reply(sheet, places, line.as_ptr(), line.len(), out.as_mut_ptr(), out.len()) }
+pub fn reply(sheet: &mut Sheet, places: &mut Places, line: &[u8], out: &mut [u8; MOST_REPLY]) -> usize {
+    // SAFETY: `line` is read within its length; `sheet`, `places` and `out` are ours alone meanwhile, and `out` has room for
+    // every reply.
+    unsafe { exports::tihvomen_reply(sheet, places, line.as_ptr(), line.len(), out) }
 }

@@ -2,19 +2,8 @@
 use crate::linked::{self, Answer, Places, Sheet};
 use crate::refusal::Refusal;
 use crate::rule::Rule;
+use crate::sizes::{IMAGE_BYTES, MOST_OPERATORS, MOST_REPLY, MOST_TOKENS, PLACES, SHEET_WORDS, STORE_BYTES};
 use std::fmt;
-
-/// Places are numbered from 0 up to this.
-pub const PLACES: u8 = 16;
-
-/// Room for every row and every record.
-pub const MOST_TOKENS: usize = 255;
-
-/// The length of an image.
-pub const IMAGE_BYTES: usize = 256;
-
-/// Room for every reply to a line.
-pub const MOST_REPLY: usize = 514;
 
 /// The operand that is asked for.
 #[derive(Clone, Copy, Debug, PartialEq, Eq)]
@@ -35,42 +24,39 @@ pub struct Panel {
 impl Panel {
     /// A fresh panel: no operators, no rules, sixteen empty places.
     pub const fn new() -> Panel {
-        Panel { sheet: Sheet { n: 0, closes: [0; 32] }, places: [0; 4096] }
+        Panel { sheet: [0; SHEET_WORDS], places: [0; STORE_BYTES] }
     }
 
     /// How many operators the sheet in force has.
-    #[inline]
     pub fn operators(&self) -> u8 {
-        self.sheet.n
+        // The library alone reads the sheet's words. It takes a record with an operator exactly if the sheet has that one.
+        let lacks = |operator: &u8| self.judge(&[*operator, 0x80, 0x80]).is_err();
+        (0..MOST_OPERATORS).find(lacks).unwrap_or(MOST_OPERATORS)
     }
 
     /// The sheet of `n` operators and the rules, three bytes each, replaces the old one, and every held tree becomes the
     /// conflict-free tree of its row under the new one. Refusals, the first that applies: 1, 2, 3, 4, 5, 11.
     #[inline]
     pub fn load(&mut self, n: u8, rules: &[u8]) -> Result<(), Refusal> {
-        let loaded = linked::load(self.sheet, &mut self.places, n, rules);
-        self.sheet = loaded.sheet;
-        Refusal::check(loaded.number)
+        Refusal::check(linked::load(&mut self.sheet, &mut self.places, n, rules))
     }
 
     /// The same with the rules as a list: the same result and the same panel as with their bytes. Refusals: 1, 3, 4, 5, 11.
+    #[inline]
     pub fn load_rules(&mut self, n: u8, rules: &[Rule]) -> Result<(), Refusal> {
-        let mut bytes = [0; 6144];
-        let loaded = linked::load_rules(self.sheet, &mut self.places, n, rules, &mut bytes);
-        self.sheet = loaded.sheet;
-        Refusal::check(loaded.number)
+        Refusal::check(linked::load_rules(&mut self.sheet, &mut self.places, n, rules))
     }
 
     /// The place holds the conflict-free tree of the row. Refusals: 8, 1, 3, 6.
     #[inline]
     pub fn put_row(&mut self, place: u8, row: &[u8]) -> Result<(), Refusal> {
-        Refusal::check(linked::put_row(self.sheet, &mut self.places, place, row))
+        Refusal::check(linked::put_row(&self.sheet, &mut self.places, place, row))
     }
 
     /// The place holds the conflict-free tree of the record's row. Refusals: 8, 1, 3, 7, 1.
     #[inline]
     pub fn put_record(&mut self, place: u8, record: &[u8]) -> Result<(), Refusal> {
-        Refusal::check(linked::put_record(self.sheet, &mut self.places, place, record))
+        Refusal::check(linked::put_record(&self.sheet, &mut self.places, place, record))
     }
 
     /// The place is empty afterwards. Refusals: 8, 9.
@@ -98,7 +84,7 @@ impl Panel {
     /// The same at the front of a lent output; answers its length. Refusals: 8, 9, 10.
     #[inline]
     pub fn fetch_row_into(&self, place: u8, out: &mut [u8]) -> Result<usize, Refusal> {
-        length(linked::fetch_row(self.sheet, &self.places, place, out))
+        length(linked::fetch_row(&self.sheet, &self.places, place, out))
     }
 
     /// The image of the place: record length, record, then 00; all 00 when empty. Refusal: 8.
@@ -121,7 +107,7 @@ impl Panel {
     /// The same at the front of a lent output; answers its length. Refusals: 1, 3, 6, 10.
     #[inline]
     pub fn build_into(&self, row: &[u8], out: &mut [u8]) -> Result<usize, Refusal> {
-        length(linked::build(self.sheet, row, out))
+        length(linked::build(&self.sheet, row, out))
     }
 
     /// The record of the conflict-free tree of the record's row. Refusals: 1, 3, 7, 1.
@@ -132,13 +118,13 @@ impl Panel {
     /// The same at the front of a lent output; answers its length. Refusals: 1, 3, 7, 1, 10.
     #[inline]
     pub fn repair_into(&self, record: &[u8], out: &mut [u8]) -> Result<usize, Refusal> {
-        length(linked::repair(self.sheet, record, out))
+        length(linked::repair(&self.sheet, record, out))
     }
 
     /// The conflict count: how many pairs of a node and a side show an excluded pattern. Refusals: 1, 3, 7, 1.
     #[inline]
     pub fn judge(&self, record: &[u8]) -> Result<u8, Refusal> {
-        let judgement = linked::judge(self.sheet, record);
+        let judgement = linked::judge(&self.sheet, record);
         Refusal::check(judgement.number).map(|()| judgement.count)
     }
 
@@ -150,15 +136,15 @@ impl Panel {
     /// The same at the front of a lent output; answers its length. Refusals: 1, 3, 7, 1, 10.
     #[inline]
     pub fn yield_row_into(&self, record: &[u8], out: &mut [u8]) -> Result<usize, Refusal> {
-        length(linked::yield_row(self.sheet, record, out))
+        length(linked::yield_row(&self.sheet, record, out))
     }
 
     /// The record of an operand of the top node, as that part of `record`; empty where the top node has no such operand.
     /// Refusals: 1, 3, 7, 1.
     #[inline]
     pub fn operand<'a>(&self, record: &'a [u8], side: Side) -> Result<&'a [u8], Refusal> {
-        Refusal::check(linked::operand_number(self.sheet, record))?;
-        let part = linked::operand(self.sheet, record, side == Side::Right);
+        Refusal::check(linked::operand_number(&self.sheet, record))?;
+        let part = linked::operand(&self.sheet, record, side == Side::Right);
         Ok(&record[part.from..part.to])
     }
 
@@ -166,9 +152,8 @@ impl Panel {
     /// success the answer, in lower-case digits, without a line end.
     pub fn reply(&mut self, line: &[u8]) -> String {
         let mut out = [0; MOST_REPLY];
-        let replied = linked::reply(self.sheet, &mut self.places, line, &mut out);
-        self.sheet = replied.sheet;
-        out[..replied.length].iter().map(|&digit| char::from(digit)).collect()
+        let length = linked::reply(&mut self.sheet, &mut self.places, line, &mut out);
+        out[..length].iter().map(|&digit| char::from(digit)).collect()
     }
 }
 
