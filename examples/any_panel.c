@@ -30,12 +30,14 @@ static void scramble(struct panel *p, uint32_t state) {
 
 /* What such a panel builds of a row, and repairs of a record, has that row. Answers whether it takes the operators. */
 static bool check_rows_of(const struct panel *p) {
-    static const uint8_t tokens[] = {0x80, 0x07, 0x81, 0x00, 0x82, 0x1F, 0x83, 0x00, 0x84, 0x1E, 0x85};
-    static const uint8_t tree[] = {0x1F, 0x00, 0x07, 0x80, 0x81, 0x82, 0x1E, 0x00, 0x83, 0x84, 0x85};
-    static const uint8_t strange[] = {0x80, 0x22, 0x81};
+    static const uint8_t tokens[] = {
+        0x80, 0x07, 0x20, 0x81, 0x00, 0x82, 0x21, 0x00, 0x83, 0x1F, 0x84, 0x00, 0x85, 0x1E, 0x86};
+    static const uint8_t tree[] = {0x1F, 0x00, 0x07, 0x80, 0x20, 0x00, 0x81, 0x82, 0x83, 0x1E, 0x00, 0x84, 0x85, 0x86};
+    static const uint8_t strange_row[] = {0x80, 0x22, 0x81}, strange_record[] = {0x22, 0x80, 0x81};
     uint8_t out[300], back[300];
     struct panel_answer built = panel_build(p, tokens, sizeof tokens, out, sizeof out);
-    CHECK(panel_build(p, strange, sizeof strange, out, sizeof out).number == PANEL_STRANGER);
+    CHECK(panel_build(p, strange_row, sizeof strange_row, out, sizeof out).number == PANEL_STRANGER);
+    CHECK(panel_repair(p, strange_record, sizeof strange_record, out, sizeof out).number == PANEL_STRANGER);
     CHECK(panel_repair(p, tree, sizeof tree, out, sizeof out).number == built.number);
     if (built.number != PANEL_ACCEPTED)
         return false;
