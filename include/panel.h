@@ -105,6 +105,11 @@ static inline void panel_fresh(struct panel *p) {
     memset(p, 0, sizeof *p);
 }
 
+/* How many operators the sheet in force has. */
+static inline unsigned panel_operators(const struct panel *p) {
+    return tihvomen_operators(p->sheet.words);
+}
+
 /*
  * The sheet of n operators and the rules, three bytes each, replaces the old one, and every held tree becomes the
  * conflict-free tree of its row under the new one. Then every row of any length over the n operators has exactly one

@@ -37,6 +37,7 @@ struct panel_raw_part {
     size_t to;
 };
 
+uint8_t tihvomen_operators(const uint32_t *sheet);
 uint8_t tihvomen_load(uint32_t *sheet, uint8_t *places, uint32_t n, const uint8_t *rules, size_t);
 uint8_t tihvomen_load_rules(uint32_t *sheet, uint8_t *places, uint32_t n, const struct panel_rule *rules, size_t);
 uint8_t tihvomen_put_row(const uint32_t *sheet, uint8_t *places, uint32_t place, const uint8_t *row, size_t);

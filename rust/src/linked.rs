@@ -36,6 +36,7 @@ mod exports {
     use crate::sizes::MOST_REPLY;
 
     extern "C" {
+        pub fn tihvomen_operators(sheet: &Sheet) -> u8;
         pub fn tihvomen_load(sheet: &mut Sheet, places: &mut Places, n: u32, rules: *const u8, length: usize) -> u8;
         pub fn tihvomen_load_rules(
             sheet: &mut Sheet,
@@ -70,6 +71,12 @@ mod exports {
             out: &mut [u8; MOST_REPLY],
         ) -> usize;
     }
+}
+
+#[inline]
+pub fn operators(sheet: &Sheet) -> u8 {
+    // SAFETY: `sheet` is read within its length.
+    unsafe { exports::tihvomen_operators(sheet) }
 }
 
 #[inline]

@@ -2,7 +2,7 @@
 use crate::linked::{self, Answer, Places, Sheet};
 use crate::refusal::Refusal;
 use crate::rule::Rule;
-use crate::sizes::{IMAGE_BYTES, MOST_OPERATORS, MOST_REPLY, MOST_TOKENS, PLACES, SHEET_WORDS, STORE_BYTES};
+use crate::sizes::{IMAGE_BYTES, MOST_REPLY, MOST_TOKENS, PLACES, SHEET_WORDS, STORE_BYTES};
 use std::fmt;
 
 /// The operand that is asked for.
@@ -29,9 +29,7 @@ impl Panel {
 
     /// How many operators the sheet in force has.
     pub fn operators(&self) -> u8 {
-        // The library alone reads the sheet's words. It takes a record with an operator exactly if the sheet has that one.
-        let lacks = |operator: &u8| self.judge(&[*operator, 0x80, 0x80]).is_err();
-        (0..MOST_OPERATORS).find(lacks).unwrap_or(MOST_OPERATORS)
+        linked::operators(&self.sheet)
     }
 
     /// The sheet of `n` operators and the rules, three bytes each, replaces the old one, and every held tree becomes the

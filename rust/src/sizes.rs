@@ -12,9 +12,6 @@ pub const IMAGE_BYTES: usize = 1 + MOST_TOKENS;
 /// Room for every reply to a line: number and answer, two digits a byte.
 pub const MOST_REPLY: usize = 2 * (1 + IMAGE_BYTES);
 
-/// Operators of a sheet are numbered from 0 up to its count, which is this at most.
-pub(crate) const MOST_OPERATORS: u8 = 32;
-
 /// What a sheet takes, in words of 32 bits.
 pub(crate) const SHEET_WORDS: usize = 36;
 

@@ -1,4 +1,6 @@
 // The calls for C and Rust, under names of their own. They take numbers and addresses alone: a list is an address and a length.
+ghost use mathlib.Core.Path.{_≡_};
+ghost use Rattle.sheet.specs.Layout.{operatorsOf};
 ghost use Rattle.monitor.specs.Call.{load, putRow, putRecord, fetchRecord, fetchRow, image, build, repair, yield};
 ghost use Rattle.monitor.specs.Panel.{panel};
 ghost use Rattle.monitor.specs.Contracts.{Changes, Drops, Answers, AnswersUnder, AnswersFrom, Judges, NumbersOperand, PlacesOperand};
@@ -9,6 +11,14 @@ use record::Answer;
 use record::Judgement;
 use record::operands::Part;
 use sheet::layout::SHEET_WORDS;
+
+// The count of operators of the sheet in force, document 01's n.
+#[no_mangle]
+pub extern "C" fn tihvomen_operators(sheet: &[u32; SHEET_WORDS]) -> u8
+    ensures { λ r. ⌜ r ≡ operatorsOf (now (sheet .entry)) .count ⌝ }
+{
+    sheet::operator_count(sheet)
+}
 
 #[no_mangle]
 pub extern "C" fn tihvomen_load(
