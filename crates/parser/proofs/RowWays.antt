@@ -21,20 +21,20 @@ use Rattle.parser.proofs.ReaderWays.{there, row-ends}
 
 -- ---- is_strange
 module _ (n c : ℕ) where
-  pub strange-test : Fits w8 c → (leb n c && ltb c 32 || ltb 33 c && ltb c 128) ≡ strangeInRow (class (operators n) c)
+  pub strange-test : Fits w8 c → (leb n c && ltb c mostOperators || ltb closing c && ltb c firstReading) ≡ strangeInRow (class (operators n) c)
   unfolding class
   strange-test f = go (decLt c mostOperators) (decLt c n) (ℕ-discrete c opening) (ℕ-discrete c closing) (decLt c firstReading)
     where
-      go : Dec (c < 32) → Dec (c < n) → Dec (c ≡ opening) → Dec (c ≡ closing) → Dec (c < 128)
-          → (leb n c && ltb c 32 || ltb 33 c && ltb c 128) ≡ strangeInRow (class (operators n) c)
-      go (yes h) (yes g) o s r = simp (lt-leb n c g, le-ltb 33 c (omega arith), lt-ltb c 32 h, lt-ltb c n g)
-      go (yes h) (no g) o s r = simp (le-leb n c (omega arith), lt-ltb c 32 h, le-ltb c n (omega arith))
-      go (no h) g (yes e) s r = rw e (ap (λ x. x || false) (and-false (leb n 32)))
-      go (no h) g (no e) (yes k) r = rw k (ap (λ x. x || false) (and-false (leb n 33)))
+      go : Dec (c < mostOperators) → Dec (c < n) → Dec (c ≡ opening) → Dec (c ≡ closing) → Dec (c < firstReading)
+          → (leb n c && ltb c mostOperators || ltb closing c && ltb c firstReading) ≡ strangeInRow (class (operators n) c)
+      go (yes h) (yes g) o s r = simp (lt-leb n c g, le-ltb closing c (omega arith), lt-ltb c mostOperators h, lt-ltb c n g)
+      go (yes h) (no g) o s r = simp (le-leb n c (omega arith), lt-ltb c mostOperators h, le-ltb c n (omega arith))
+      go (no h) g (yes e) s r = rw e (ap (λ x. x || false) (and-false (leb n opening)))
+      go (no h) g (no e) (yes k) r = rw k (ap (λ x. x || false) (and-false (leb n closing)))
       go (no h) g (no e) (no k) (yes r) =
-          simp (le-ltb c 32 (omega arith), lt-ltb 33 c (omega arith), lt-ltb c 128 r, ne-eqb c opening e, ne-eqb c closing k, and-false (leb n c))
+          simp (le-ltb c mostOperators (omega arith), lt-ltb closing c (omega arith), lt-ltb c firstReading r, ne-eqb c opening e, ne-eqb c closing k, and-false (leb n c))
       go (no h) g (no e) (no k) (no r) =
-          simp (le-ltb c 32 (omega arith), lt-ltb 33 c (omega arith), le-ltb c 128 (omega arith), ne-eqb c opening e, ne-eqb c closing k, le-ltb lastReading c (omega arith), and-false (leb n c))
+          simp (le-ltb c mostOperators (omega arith), lt-ltb closing c (omega arith), le-ltb c firstReading (omega arith), ne-eqb c opening e, ne-eqb c closing k, le-ltb lastReading c (omega arith), and-false (leb n c))
 
 pub ruleset strange-ways = (strange-test, needs)
 
