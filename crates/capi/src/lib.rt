@@ -3,7 +3,7 @@ ghost use mathlib.Core.Path.{_≡_};
 ghost use Rattle.sheet.specs.Layout.{operatorsOf};
 ghost use Rattle.monitor.specs.Call.{load, putRow, putRecord, fetchRecord, fetchRow, image, build, repair, yield};
 ghost use Rattle.monitor.specs.Panel.{panel};
-ghost use Rattle.monitor.specs.Contracts.{Changes, Drops, Answers, AnswersUnder, AnswersFrom, Judges, NumbersOperand, PlacesOperand};
+ghost use Rattle.monitor.specs.Contracts.{Changes, Drops, AnswersInto, AnswersUnder, AnswersFrom, Judges, NumbersOperand, PlacesOperand};
 ghost use Rattle.frame.specs.Contracts.{Replies};
 use frame::limits::MOST_REPLY;
 use places::limits::STORE_BYTES;
@@ -81,7 +81,7 @@ pub extern "C" fn tihvomen_fetch_row(
     place: u32,
     out: &mut [u8],
 ) -> Answer
-    ensures { λ r. ⌜ Answers (panel (now (sheet .entry)) (now (places .entry))) (fetchRow place (now (out .entry))) r (now (out .exit)) ⌝ }
+    ensures { λ r. ⌜ AnswersInto (panel (now (sheet .entry)) (now (places .entry))) (fetchRow place (now (out .entry))) r (now (out .exit)) ⌝ }
 {
     monitor::fetch_row(sheet, places, place, out)
 }

@@ -3,7 +3,7 @@ use Prim.Native.Nat.{ℕ}
 use mathlib.Core.Path.{_≡_, refl, ap, _∙_}
 use mathlib.Core.Bool.{Bool}
 use mathlib.Core.List.{List, [], _∷_}
-use Rattle.expression.specs.Lists.{count, All}
+use Rattle.expression.specs.Lists.{howMany, All}
 use Rattle.expression.specs.Token.{Class, Infix}
 use Rattle.expression.specs.Tree.{Tree, reading, bracket, binary, Over}
 use Rattle.disambiguation.specs.Edges.{seenFromRight, seenFromLeft}
@@ -26,7 +26,7 @@ module _ (k : ℕ → Class) where
   seen-left-infix (bracket t) h = tt
   seen-left-infix (binary o l r) h = (h .0, tt)
 
-  count-agree : (p q : ℕ → Bool) → ((b : ℕ) → k b ≡ Infix → p b ≡ q b) → (xs : List ℕ) → All (λ o. k o ≡ Infix) xs → count p xs ≡ count q xs
+  count-agree : (p q : ℕ → Bool) → ((b : ℕ) → k b ≡ Infix → p b ≡ q b) → (xs : List ℕ) → All (λ o. k o ≡ Infix) xs → howMany p xs ≡ howMany q xs
   count-agree p q f [] h = refl
   count-agree p q f (x ∷ xs) h = rw (f x (h .0), count-agree p q f xs (h .1))
 

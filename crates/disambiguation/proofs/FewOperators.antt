@@ -5,7 +5,7 @@ use mathlib.Core.Path.{_≡_, refl, ap, sym, _∙_}
 use mathlib.Core.Bool.{Bool, true, false}
 use mathlib.Core.Logic.{_⊎_, inl, inr}
 use mathlib.Core.List.{[], _∷_}
-use Rattle.expression.specs.Lists.{one, count, All}
+use Rattle.expression.specs.Lists.{oneIf, howMany, All}
 use Rattle.expression.specs.Token.{Class, Infix, Opening, Closing, Reading, opening, closing}
 use Rattle.expression.specs.Tree.{Tree, reading, bracket, binary, yield, Over}
 use Rattle.expression.proofs.Classes.{Brackets}
@@ -62,10 +62,10 @@ module _ (k : ℕ → Class) (brackets : Brackets k) where
   abbrev isOperator : ℕ → Bool
   isOperator c = waits (k c)
 
-  one-operator : (c : ℕ) (x : Class) → k c ≡ x → one (isOperator c) ≡ one (waits x)
-  one-operator c x e = ap (λ y. one (waits y)) e
+  one-operator : (c : ℕ) (x : Class) → k c ≡ x → oneIf (isOperator c) ≡ oneIf (waits x)
+  one-operator c x e = ap (λ y. oneIf (waits y)) e
 
-  operators-yield : (t : Tree) → Over k t → count isOperator (yield t) ≡ operators t
+  operators-yield : (t : Tree) → Over k t → howMany isOperator (yield t) ≡ operators t
   operators-yield (reading a) h = omega (arith, one-operator a Reading h)
   operators-yield (bracket t) h =
       omega (arith, one-operator opening Opening (brackets .opens), one-operator closing Closing (brackets .closes), count-append isOperator (yield t) (closing ∷ []), operators-yield t h)
@@ -78,7 +78,7 @@ module _ (k : ℕ → Class) (brackets : Brackets k) where
   one-of-two u v hu hv e few fu fv t ht q = go (two-follow t (omega (arith, few, same)))
     where
       same : operators t ≡ operators u
-      same = sym (operators-yield t ht) ∙ ap (count isOperator) q ∙ operators-yield u hu
+      same = sym (operators-yield t ht) ∙ ap (howMany isOperator) q ∙ operators-yield u hu
 
       go : Follows (always false) t ⊎ Follows (always true) t → (t ≡ u) ⊎ (t ≡ v)
       go (inl f) = inl (follows-unique (always false) k brackets t u ht hu f fu q)

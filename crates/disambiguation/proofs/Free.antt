@@ -4,7 +4,7 @@ use native.Mathlib.Omega.{arith}
 use mathlib.Core.Path.{_≡_, refl}
 use mathlib.Core.Bool.{Bool, true, false}
 use mathlib.Core.List.{List, [], _∷_}
-use Rattle.expression.specs.Lists.{one, count, All}
+use Rattle.expression.specs.Lists.{oneIf, howMany, All}
 use Rattle.expression.specs.Tree.{Tree, reading, bracket, binary}
 use Rattle.disambiguation.specs.Edges.{rightEdge, seenFromRight, seenFromLeft}
 use Rattle.disambiguation.specs.Conflicts.{conflicts}
@@ -30,15 +30,15 @@ all-map f (x ∷ xs) h g = (f x (h .0) (g .0), all-map f xs (h .1) (g .1))
 abbrev pub None : (ℕ → Bool) → List ℕ → Type 0
 None p xs = All (λ x. p x ≡ false) xs
 
-one-zero : (b : Bool) → one b ≡ 0 → b ≡ false
+one-zero : (b : Bool) → oneIf b ≡ 0 → b ≡ false
 one-zero true h = absurd (omega arith)
 one-zero false h = refl
 
-none-of-count : (p : ℕ → Bool) (xs : List ℕ) → count p xs ≡ 0 → None p xs
+none-of-count : (p : ℕ → Bool) (xs : List ℕ) → howMany p xs ≡ 0 → None p xs
 none-of-count p [] h = tt
 none-of-count p (x ∷ xs) h = (one-zero (p x) (omega arith), none-of-count p xs (omega arith))
 
-count-of-none : (p : ℕ → Bool) (xs : List ℕ) → None p xs → count p xs ≡ 0
+count-of-none : (p : ℕ → Bool) (xs : List ℕ) → None p xs → howMany p xs ≡ 0
 count-of-none p [] h = refl
 count-of-none p (x ∷ xs) h = rw (h .0, count-of-none p xs (h .1))
 

@@ -8,7 +8,7 @@ use mathlib.Core.List.{List, [], _∷_}
 use lib.Dec.{ltb, eqb}
 use lib.ListN.{length}
 use borrow.Author.Tests.{ltb-true, ltb-false, lt-ltb, le-ltb, eq-eqb}
-use Rattle.expression.specs.Lists.{any}
+use Rattle.expression.specs.Lists.{anyHolds}
 use Rattle.expression.specs.Limits.{mostOperators, mostRules, mostRuleBytes, bytesOfRule}
 use Rattle.disambiguation.specs.Rules.{Rule}
 use Rattle.disambiguation.specs.SheetChecks.{rulesOf, ruleBytes, strangeRule, InOrder, ListInOrder, sheetNumber, listNumber}
@@ -39,8 +39,8 @@ module _ (rules : List Rule) where
   list-whole = ap not (eq-eqb (length (ruleBytes rules) % bytesOfRule) 0 (omega (arith, length-ruleBytes rules)))
 
   -- 3: the same rules are asked
-  pub list-strange : (n : ℕ) → any (strangeRule n) rules ≡ any (strangeRule n) (rulesOf (ruleBytes rules))
-  list-strange n = ap (any (strangeRule n)) (sym (rules-back rules))
+  pub list-strange : (n : ℕ) → anyHolds (strangeRule n) rules ≡ anyHolds (strangeRule n) (rulesOf (ruleBytes rules))
+  list-strange n = ap (anyHolds (strangeRule n)) (sym (rules-back rules))
 
 module _ (n : ℕ) (rules : List Rule) where
   -- The number of a sheet with a list of rules is the number with their bytes.

@@ -3,7 +3,7 @@ use Prim.Native.Nat.{ℕ, _+_}
 use mathlib.Core.Path.{_≡_}
 use mathlib.Core.Bool.{Bool}
 use mathlib.Core.List.{List}
-use Rattle.expression.specs.Lists.{count}
+use Rattle.expression.specs.Lists.{howMany}
 use Rattle.expression.specs.Token.{Operators, class}
 use Rattle.expression.specs.Tree.{Tree, reading, bracket, binary, yield, Over}
 use Rattle.disambiguation.specs.Rules.{Rule, L, R}
@@ -13,7 +13,7 @@ use Rattle.disambiguation.specs.Edges.{seenFromRight, seenFromLeft}
 abbrev pub conflicts : (ℕ → ℕ → Bool) → (ℕ → ℕ → Bool) → Tree → ℕ
 conflicts L R (reading a) = 0
 conflicts L R (bracket t) = conflicts L R t
-conflicts L R (binary o l r) = count (L o) (seenFromRight l) + count (R o) (seenFromLeft r) + (conflicts L R l + conflicts L R r)
+conflicts L R (binary o l r) = howMany (L o) (seenFromRight l) + howMany (R o) (seenFromLeft r) + (conflicts L R l + conflicts L R r)
 
 -- the conflict count under a sheet's rules
 abbrev pub conflictCount : List Rule → Tree → ℕ

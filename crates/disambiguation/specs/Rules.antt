@@ -3,7 +3,7 @@ use Prim.Native.Nat.{ℕ}
 use mathlib.Core.Bool.{Bool, _&&_, _||_}
 use mathlib.Core.List.{List}
 use lib.Dec.{eqb}
-use Rattle.expression.specs.Lists.{any}
+use Rattle.expression.specs.Lists.{anyHolds}
 
 -- a rule: its kind, its first operator a and its second operator b
 pub record Rule : Type 0 where
@@ -38,7 +38,7 @@ givesR a b r = says priority a b r || says left a b r
 
 -- The excluded patterns: each from one rule as written, nothing inferred from several.
 unfoldable pub L : List Rule → ℕ → ℕ → Bool
-L rules a b = any (givesL a b) rules
+L rules a b = anyHolds (givesL a b) rules
 
 unfoldable pub R : List Rule → ℕ → ℕ → Bool
-R rules a b = any (givesR a b) rules
+R rules a b = anyHolds (givesR a b) rules

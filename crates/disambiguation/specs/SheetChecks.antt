@@ -4,7 +4,7 @@ use mathlib.Core.Bool.{Bool, not, _||_}
 use mathlib.Core.List.{List, [], _∷_, _++_}
 use lib.Dec.{eqb, ltb}
 use lib.ListN.{length}
-use Rattle.expression.specs.Lists.{any}
+use Rattle.expression.specs.Lists.{anyHolds}
 use Rattle.expression.specs.Limits.{mostOperators, mostRules, mostRuleBytes, bytesOfRule}
 use Rattle.expression.specs.Refusal.{Check, Passed, first, oversize, torn, stranger}
 use Rattle.expression.specs.Token.{operators}
@@ -33,7 +33,7 @@ module _ (n : ℕ) (bytes : List ℕ) where
   orderChecks =
       (ltb mostOperators n || ltb mostRuleBytes (length bytes), oversize)
       ∷ (not (eqb (length bytes % bytesOfRule) 0), torn)
-      ∷ (any (strangeRule n) (rulesOf bytes), stranger)
+      ∷ (anyHolds (strangeRule n) (rulesOf bytes), stranger)
       ∷ []
 
   -- A sheet's bytes are in order if 1, 2 and 3 don't apply.
@@ -47,7 +47,7 @@ module _ (n : ℕ) (bytes : List ℕ) where
 -- Rules as a list of records: over 2,048 records is 1, and there is no 2.
 module _ (n : ℕ) (rules : List Rule) where
   abbrev pub listOrderChecks : List Check
-  listOrderChecks = (ltb mostOperators n || ltb mostRules (length rules), oversize) ∷ (any (strangeRule n) rules, stranger) ∷ []
+  listOrderChecks = (ltb mostOperators n || ltb mostRules (length rules), oversize) ∷ (anyHolds (strangeRule n) rules, stranger) ∷ []
 
   abbrev pub ListInOrder : Type 0
   ListInOrder = Passed listOrderChecks

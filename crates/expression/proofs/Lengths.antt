@@ -8,7 +8,7 @@ use mathlib.Core.List.{List, [], _∷_, _++_}
 use lib.Dec.{eqb}
 use lib.ListN.{length, length-append}
 use borrow.Author.Tests.{ne-eqb}
-use Rattle.expression.specs.Lists.{one, count}
+use Rattle.expression.specs.Lists.{oneIf, howMany}
 use Rattle.expression.specs.Token.{Class, Infix, Opening, Closing, Reading, Meaningless, opening, closing}
 use Rattle.expression.specs.Tree.{Tree, reading, bracket, binary, yield, recordOf, Over}
 use Rattle.expression.specs.Decode.{treeOf}
@@ -16,7 +16,7 @@ use Rattle.expression.specs.Checks.{recordBytes, rowTokens}
 use Rattle.expression.proofs.Classes.{Brackets}
 use Rattle.expression.proofs.RecordsAndTrees.{record-treeOf}
 
-pub count-append : {A : Type 0} (p : A → Bool) (xs ys : List A) → count p (xs ++ ys) ≡ count p xs + count p ys
+pub count-append : {A : Type 0} (p : A → Bool) (xs ys : List A) → howMany p (xs ++ ys) ≡ howMany p xs + howMany p ys
 count-append p [] ys = omega arith
 count-append p (x ∷ xs) ys = omega (arith, count-append p xs ys)
 
@@ -41,13 +41,13 @@ module _ (k : ℕ → Class) (brackets : Brackets k) where
   not-closing c h = rw (ne-eqb c closing (λ e. true≢false (ap isBracket (sym (brackets .closes) ∙ ap k (sym e)) ∙ h)))
 
   -- A tree's row has as many tokens as its record has bytes, and one more for each bracket byte.
-  pub row-length : (t : Tree) → Over k t → length (yield t) ≡ length (recordOf t) + count isOpening (recordOf t)
+  pub row-length : (t : Tree) → Over k t → length (yield t) ≡ length (recordOf t) + howMany isOpening (recordOf t)
   row-length (reading a) h = rw (not-opening a (ap isBracket h))
   row-length (bracket t) h = omega (arith, length-append (yield t) (closing ∷ []), row-length t h)
   row-length (binary o l r) h =
       omega (
         arith,
-        ap one (not-opening o (ap isBracket (h .0))),
+        ap oneIf (not-opening o (ap isBracket (h .0))),
         length-append (yield l) (o ∷ yield r),
         length-append (recordOf l) (recordOf r),
         count-append isOpening (recordOf l) (recordOf r),
@@ -62,7 +62,7 @@ module _ (k : ℕ → Class) (brackets : Brackets k) where
   record-length (binary o l r) h =
       omega (
         arith,
-        ap one (not-closing o (ap isBracket (h .0))),
+        ap oneIf (not-closing o (ap isBracket (h .0))),
         count-append notClosing (yield l) (o ∷ yield r),
         length-append (recordOf l) (recordOf r),
         record-length l (h .1),
@@ -74,7 +74,7 @@ module _ (k : ℕ → Class) (brackets : Brackets k) where
   same-row-same-length t u ht hu e = record-length t ht ∙ ap recordBytes e ∙ sym (record-length u hu)
 
   -- The length of a record's row, read off its bytes.
-  pub row-length-of-record : (bytes : List ℕ) (t : Tree) → treeOf k bytes ≡ some t → rowTokens (treeOf k bytes) ≡ length bytes + count isOpening bytes
+  pub row-length-of-record : (bytes : List ℕ) (t : Tree) → treeOf k bytes ≡ some t → rowTokens (treeOf k bytes) ≡ length bytes + howMany isOpening bytes
   row-length-of-record bytes t e =
       let (r, h) = record-treeOf k brackets bytes t e in
-      ap rowTokens e ∙ row-length t h ∙ ap (λ l. length l + count isOpening l) r
+      ap rowTokens e ∙ row-length t h ∙ ap (λ l. length l + howMany isOpening l) r

@@ -5,7 +5,7 @@ use mathlib.Core.Option.{Option, none, some}
 use mathlib.Core.List.{List, [], _∷_, _++_}
 use lib.Dec.{eqb, ltb}
 use lib.ListN.{length}
-use Rattle.expression.specs.Lists.{any, count}
+use Rattle.expression.specs.Lists.{anyHolds, howMany}
 use Rattle.expression.specs.Limits.{mostTokens, mostRecordBytes}
 use Rattle.expression.specs.Refusal.{Check, first, oversize, stranger, noRow, noTree, short}
 use Rattle.expression.specs.Token.{Class, Infix, Opening, Closing, Reading, Meaningless, closing, Operators, class}
@@ -44,14 +44,14 @@ rowTokens (some t) = length (yield t)
 
 -- the number of bytes of a record of the row: brackets have one byte there, and two tokens
 abbrev pub recordBytes : List ℕ → ℕ
-recordBytes tokens = count (λ c. not (eqb c closing)) tokens
+recordBytes tokens = howMany (λ c. not (eqb c closing)) tokens
 
 module _ (ops : Operators) where
   -- Of a row: 1, 3, 6.
   abbrev pub rowChecks : List ℕ → List Check
   rowChecks tokens =
       (ltb mostTokens (length tokens), oversize)
-      ∷ (any (λ c. strangeInRow (class ops c)) tokens, stranger)
+      ∷ (anyHolds (λ c. strangeInRow (class ops c)) tokens, stranger)
       ∷ (not (isRow (class ops) tokens), noRow)
       ∷ []
 
@@ -59,7 +59,7 @@ module _ (ops : Operators) where
   abbrev pub recordChecks : List ℕ → List Check
   recordChecks bytes =
       (ltb mostRecordBytes (length bytes), oversize)
-      ∷ (any (λ c. strangeInRecord (class ops c)) bytes, stranger)
+      ∷ (anyHolds (λ c. strangeInRecord (class ops c)) bytes, stranger)
       ∷ (isNone (treeOf (class ops) bytes), noTree)
       ∷ (ltb mostTokens (rowTokens (treeOf (class ops) bytes)), oversize)
       ∷ []

@@ -4,18 +4,18 @@ use mathlib.Core.Bool.{Bool, true, false, _||_}
 use mathlib.Core.List.{List, [], _∷_}
 
 -- the test holds of some element
-abbrev pub any : {A : Type 0} → (A → Bool) → List A → Bool
-any p [] = false
-any p (x ∷ xs) = p x || any p xs
+abbrev pub anyHolds : {A : Type 0} → (A → Bool) → List A → Bool
+anyHolds p [] = false
+anyHolds p (x ∷ xs) = p x || anyHolds p xs
 
-abbrev pub one : Bool → ℕ
-one true = 1
-one false = 0
+abbrev pub oneIf : Bool → ℕ
+oneIf true = 1
+oneIf false = 0
 
 -- of how many elements it holds
-abbrev pub count : {A : Type 0} → (A → Bool) → List A → ℕ
-count p [] = 0
-count p (x ∷ xs) = one (p x) + count p xs
+abbrev pub howMany : {A : Type 0} → (A → Bool) → List A → ℕ
+howMany p [] = 0
+howMany p (x ∷ xs) = oneIf (p x) + howMany p xs
 
 -- the statement holds of each element
 abbrev pub All : {A : Type 0} → (A → Type 0) → List A → Type 0

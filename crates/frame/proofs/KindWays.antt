@@ -18,7 +18,7 @@ use Rattle.monitor.specs.Call.{Question, Call, load, putRow, putRecord, ask, fe
 use Rattle.monitor.specs.Call as call
 use Rattle.monitor.specs.Panel.{Panel, panel}
 use Rattle.monitor.specs.Steps.{ops, fetchRecordNumber, fetchRowNumber, imageNumber, told}
-use Rattle.monitor.specs.Contracts.{Changes, Drops, Answers, AnswersUnder, AnswersFrom, Judges}
+use Rattle.monitor.specs.Contracts.{Changes, Drops, AnswersInto, AnswersUnder, AnswersFrom, Judges}
 use Rattle.frame.specs.Frames.{mostAnswer, room, callOf, frameCall, toldBytes, frameNumber, frameAnswer, frameAfter}
 use Rattle.frame.specs.Contracts.{Tells, TellsCount}
 
@@ -169,10 +169,10 @@ module _ (sheet places : List ℕ) (kind : ℕ) (rest : List ℕ) {before : List
         with-answer (panel sheet places) (callOf kind rest) {q = fetchRecord (getD rest 0 0) room} (fetchRecordNumber (panel sheet places) (getD rest 0 0)) _ (one-byte kind rest e one) refl refl l
         (w .numbered) (w .measured) (w .output)
 
-    pub way-fetch-row : kind ≡ 5 → Answers (panel sheet places) (fetchRow named before) r after → Tells (panel sheet places) (callOf kind rest) before after (panel sheet places) r
+    pub way-fetch-row : kind ≡ 5 → AnswersInto (panel sheet places) (fetchRow named before) r after → Tells (panel sheet places) (callOf kind rest) before after (panel sheet places) r
     unfolding callOf
     way-fetch-row e a =
-        let w = subst (λ k. Answers (panel sheet places) (fetchRow k before) r after) byte a in
+        let w = subst (λ k. AnswersInto (panel sheet places) (fetchRow k before) r after) byte a in
         with-answer (panel sheet places) (callOf kind rest) {q = fetchRow (getD rest 0 0) room} (fetchRowNumber (panel sheet places) (getD rest 0 0)) _ (one-byte kind rest e one) refl refl l
         (w .numbered) (w .measured) (w .output)
 

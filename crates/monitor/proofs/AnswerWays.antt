@@ -25,7 +25,7 @@ use Rattle.places.proofs.Laws.{held-length}
 use Rattle.monitor.specs.Call.{Question, lentBefore, fetchRecord, fetchRow, image, build, repair, yield}
 use Rattle.monitor.specs.Panel.{Panel, panel, isEmpty}
 use Rattle.monitor.specs.Steps.{fetchRecordNumber, fetchRowNumber, imageNumber, told}
-use Rattle.monitor.specs.Contracts.{Answers, AnswersUnder, AnswersFrom, Judges}
+use Rattle.monitor.specs.Contracts.{AnswersInto, AnswersUnder, AnswersFrom, Judges}
 
 -- ---- a place is empty, or not
 pub empty-true : (bytes : List ℕ) → length bytes ≡ 0 → isEmpty bytes ≡ true
@@ -38,18 +38,18 @@ empty-false (x ∷ xs) h = refl
 
 -- ---- an answer by its number
 module _ (p : Panel) (q : Question) where
-  refused : (number : ℕ) → number ≡ told p q .number → (number ≡ 0 → ⊥) → Answers p q (record { number = number; length = 0 }) (lentBefore q)
+  refused : (number : ℕ) → number ≡ told p q .number → (number ≡ 0 → ⊥) → AnswersInto p q (record { number = number; length = 0 }) (lentBefore q)
   refused number e h =
       let z : eqb (told p q .number) 0 ≡ false = ne-eqb (told p q .number) 0 (λ f. h (e ∙ f)) in
       record { numbered = e; measured = rw z; output = rw z }
 
   done : {size : ℕ} {later : List ℕ} → told p q .number ≡ 0 → size ≡ length (told p q .answer) → later ≡ told p q .answer ++ drop (length (told p q .answer)) (lentBefore q)
-      → Answers p q (record { number = 0; length = size }) later
+      → AnswersInto p q (record { number = 0; length = size }) later
   done e l o = record { numbered = sym e; measured = rw e l; output = rw e o }
 
   -- a callee's answer, under the question's own number and answer
   as-told : {r : Answer} {later : List ℕ} (number : ℕ) (answer : List ℕ) → number ≡ told p q .number → answer ≡ told p q .answer
-      → r .number ≡ number → r .length ≡ lengthAfter (r .number) answer → later ≡ outputAfter (r .number) answer (lentBefore q) → Answers p q r later
+      → r .number ≡ number → r .length ≡ lengthAfter (r .number) answer → later ≡ outputAfter (r .number) answer (lentBefore q) → AnswersInto p q r later
   as-told number answer e a n l o =
       record { numbered = n ∙ e; measured = l ∙ ap₂ lengthAfter (n ∙ e) a; output = o ∙ ap₂ (λ x y. outputAfter x y (lentBefore q)) (n ∙ e) a }
 
@@ -112,17 +112,17 @@ pub ruleset fetch-record-ways = (record-over, record-none, record-short, record-
 
 -- ---- fetch_row
 module _ (sheet places : List ℕ) (k : ℕ) (out : List ℕ) where
-  pub row-over : placeCount ≤ k → Answers (panel sheet places) (fetchRow k out) (record { number = 8; length = 0 }) out
+  pub row-over : placeCount ≤ k → AnswersInto (panel sheet places) (fetchRow k out) (record { number = 8; length = 0 }) out
   unfolding fetchRowNumber
   row-over h = refused (panel sheet places) (fetchRow k out) 8 (simp (le-ltb k placeCount h)) (λ e. omega arith)
 
   module _ (h : k < placeCount) {bytes : List ℕ} (e : bytes ≡ held places k) where
-    pub row-none : length bytes ≡ 0 → Answers (panel sheet places) (fetchRow k out) (record { number = 9; length = 0 }) out
+    pub row-none : length bytes ≡ 0 → AnswersInto (panel sheet places) (fetchRow k out) (record { number = 9; length = 0 }) out
     unfolding fetchRowNumber
     row-none z =
         refused (panel sheet places) (fetchRow k out) 9 (simp (lt-ltb k placeCount h, empty-true (held places k) (ap length (sym e) ∙ z))) (λ e. omega arith)
 
-    pub row-yielded : {later : List ℕ} {r : Answer} → (length bytes ≡ 0 → ⊥) → Yields (operatorsOf sheet) bytes out later r → Answers (panel sheet places) (fetchRow k out) r later
+    pub row-yielded : {later : List ℕ} {r : Answer} → (length bytes ≡ 0 → ⊥) → Yields (operatorsOf sheet) bytes out later r → AnswersInto (panel sheet places) (fetchRow k out) r later
     unfolding fetchRowNumber yieldNumber
     row-yielded n y =
         let due : yieldNumber (operatorsOf sheet) (held places k) (length out) ≡ fetchRowNumber (panel sheet places) k (length out) =

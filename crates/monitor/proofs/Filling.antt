@@ -19,12 +19,12 @@ use Rattle.expression.specs.Checks.{shortCheck, recordBytes, rowChecks, recordC
 use Rattle.disambiguation.specs.Conflicts.{ConflictFreeTree}
 use Rattle.places.specs.Store.{placeCount}
 use Rattle.monitor.specs.Call.{Call, load, loadList, putRow, putRecord, drop, ask, fetchRecord}
-use Rattle.monitor.specs.Panel.{placeCheck, isEmpty, emptyCheck}
+use Rattle.monitor.specs.Panel.{placeCheck}
 use Rattle.monitor.specs.Steps.{ops, putRowNumber, putRecordNumber}
-use Rattle.monitor.specs.Book.{rowIn, slotRow}
+use Rattle.monitor.specs.Book.{isBlank, blankCheck, slotRow}
 use Rattle.monitor.specs.Run.{panelAfter, bookAfter, isAccepted, inForce, lastPut, HoldsTree, Filled}
 use Rattle.monitor.proofs.Stands.{same-number}
-use Rattle.monitor.proofs.Replies.{place-passed, empty-passed}
+use Rattle.monitor.proofs.Replies.{place-passed, blank-passed}
 use Rattle.monitor.proofs.Histories.{stands, book-slot}
 use Rattle.monitor.proofs.Placed.{slot-holds, holds-tree}
 
@@ -85,7 +85,7 @@ module _ (cs : List Call) (k : ℕ) where
       let (t, g) = slot-holds cs k h row q in
       (t, g .tree, holds-tree cs k h row q t g)
 
-  not-blank : (slot : Option (List ℕ)) → isEmpty (rowIn slot) ≡ false → (row : List ℕ) × (slot ≡ some row)
+  not-blank : (slot : Option (List ℕ)) → isBlank slot ≡ false → (row : List ℕ) × (slot ≡ some row)
   not-blank none e = absurd (true≢false e)
   not-blank (some row) e = (row, refl)
 
@@ -94,8 +94,8 @@ module _ (cs : List Call) (k : ℕ) where
     λ f.
         let (t, h) = f in
         let z = h .fetches-record (recordOf t) (omega arith) .0 in
-        let (l, e) = place-passed k (emptyCheck (slotRow (bookAfter cs) k) ∷ shortCheck (recordBytes (slotRow (bookAfter cs) k)) (length (recordOf t)) ∷ []) (sym (same-number (panelAfter cs) (bookAfter cs) (stands cs) (ask (fetchRecord k (recordOf t)))) ∙ z) in
-        let (row, q) = not-blank (bookAfter cs .slots k) (empty-passed (slotRow (bookAfter cs) k) (shortCheck (recordBytes (slotRow (bookAfter cs) k)) (length (recordOf t)) ∷ []) e) in
+        let (l, e) = place-passed k (blankCheck (bookAfter cs .slots k) ∷ shortCheck (recordBytes (slotRow (bookAfter cs) k)) (length (recordOf t)) ∷ []) (sym (same-number (panelAfter cs) (bookAfter cs) (stands cs) (ask (fetchRecord k (recordOf t)))) ∙ z) in
+        let (row, q) = not-blank (bookAfter cs .slots k) (blank-passed (bookAfter cs .slots k) (shortCheck (recordBytes (slotRow (bookAfter cs) k)) (length (recordOf t)) ∷ []) e) in
         (row, sym (book-slot k cs) ∙ q),
     λ f. let (row, q) = f in let (t, c, h) = holds-last-put row q in (t, h),
   )

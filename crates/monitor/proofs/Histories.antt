@@ -12,7 +12,7 @@ use Rattle.expression.specs.Operand.{rowOf}
 use Rattle.disambiguation.specs.SheetChecks.{rulesOf}
 use Rattle.monitor.specs.Call.{Call, load, loadList, putRow, putRecord, drop, ask}
 use Rattle.monitor.specs.Book.{Book, entered, next}
-use Rattle.monitor.specs.Run.{panelAfter, bookAfter, isAccepted, Rules, rulesIn, inForce, lastPut}
+use Rattle.monitor.specs.Run.{panelAfter, bookAfter, isAccepted, Rules, ruledBy, inForce, lastPut}
 use Rattle.monitor.proofs.Stands.{Stands, fresh-stands, same-number}
 use Rattle.monitor.proofs.Keeping.{keeps}
 
@@ -40,18 +40,18 @@ unchanged f c cs e = ap f (after-call c cs) ∙ go (isAccepted cs c)
     go false = refl
 
 abbrev rulesOn : Book → Rules
-rulesOn b = rulesIn (b .operators) (b .rules)
+rulesOn b = ruledBy (b .operators) (b .rules)
 
 -- The book's sheet is that of the last accepted load, or the fresh panel's.
-pub book-in-force : (cs : List Call) → rulesIn (bookAfter cs .operators) (bookAfter cs .rules) ≡ inForce cs
+pub book-in-force : (cs : List Call) → ruledBy (bookAfter cs .operators) (bookAfter cs .rules) ≡ inForce cs
 unfolding bookAfter inForce
 book-in-force [] = refl
 book-in-force (load n rules ∷ cs) =
     ap rulesOn (after-call (load n rules) cs) ∙ either rulesOn (isAccepted cs (load n rules)) (entered (bookAfter cs) (load n rules)) (bookAfter cs)
-    ∙ ap (cond (isAccepted cs (load n rules)) (rulesIn (operators n) (rulesOf rules))) (book-in-force cs)
+    ∙ ap (cond (isAccepted cs (load n rules)) (ruledBy (operators n) (rulesOf rules))) (book-in-force cs)
 book-in-force (loadList n rules ∷ cs) =
     ap rulesOn (after-call (loadList n rules) cs) ∙ either rulesOn (isAccepted cs (loadList n rules)) (entered (bookAfter cs) (loadList n rules)) (bookAfter cs)
-    ∙ ap (cond (isAccepted cs (loadList n rules)) (rulesIn (operators n) rules)) (book-in-force cs)
+    ∙ ap (cond (isAccepted cs (loadList n rules)) (ruledBy (operators n) rules)) (book-in-force cs)
 book-in-force (putRow k row ∷ cs) = unchanged rulesOn (putRow k row) cs refl ∙ book-in-force cs
 book-in-force (putRecord k bytes ∷ cs) = unchanged rulesOn (putRecord k bytes) cs refl ∙ book-in-force cs
 book-in-force (drop k ∷ cs) = unchanged rulesOn (drop k) cs refl ∙ book-in-force cs

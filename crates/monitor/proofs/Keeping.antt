@@ -27,9 +27,9 @@ use Rattle.parser.specs.Build.{built}
 use Rattle.places.specs.Store.{placeCount, held, stored}
 use Rattle.places.proofs.Laws.{held-stored-same, held-stored-other, length-stored}
 use Rattle.monitor.specs.Call.{Call, load, loadList, putRow, putRecord, drop, ask}
-use Rattle.monitor.specs.Panel.{Panel, emptyCheck, usesBeyond, inUseCheck, sheetChecks, ifAccepted, rebuilt, rebuiltTo}
+use Rattle.monitor.specs.Panel.{Panel, usesBeyond, inUseCheck, sheetChecks, ifAccepted, rebuilt, rebuiltTo}
 use Rattle.monitor.specs.Steps.{loadNumber, putRowNumber, putRecordNumber, dropNumber, sheetAfter, placesAfterLoad, placesAfterRow, placesAfterRecord, placesAfterDrop, withPlaces, after}
-use Rattle.monitor.specs.Book.{Book, slotRow, bookNumber, withSlot, entered, next}
+use Rattle.monitor.specs.Book.{Book, blankCheck, bookNumber, withSlot, entered, next}
 use Rattle.monitor.proofs.Slots.{Holds, holds-fit, put-row-holds, put-record-holds}
 use Rattle.monitor.proofs.Rebuilding.{rebuilt-size, rebuilt-holds}
 use Rattle.monitor.proofs.Stands.{Stands, same-number, list-same}
@@ -99,7 +99,7 @@ module _ (p : Panel) (b : Book) (s : Stands p b) where
   drop-stands k =
       by-number (drop k)
       (λ e.
-      let (h, f) = place-passed k (emptyCheck (slotRow b k) ∷ []) e in
+      let (h, f) = place-passed k (blankCheck (b .slots k) ∷ []) e in
       rw (same-number p b s (drop k) ∙ e) (stored-stands k h none [] refl))
       (λ h. same-places (dropNumber p k) _ (λ z. h (sym (same-number p b s (drop k)) ∙ z)))
 

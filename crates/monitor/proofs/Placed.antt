@@ -23,11 +23,11 @@ use Rattle.sheet.proofs.Laws.{every-row-has-one}
 use Rattle.places.specs.Store.{placeCount, slotBytes, held, imageOf}
 use Rattle.places.proofs.Images.{length-image}
 use Rattle.monitor.specs.Call.{Call, ask, fetchRecord, fetchRow, image}
-use Rattle.monitor.specs.Panel.{placeCheck, isEmpty, emptyCheck}
-use Rattle.monitor.specs.Book.{rowIn, slotRow, bookNumber}
+use Rattle.monitor.specs.Panel.{placeCheck}
+use Rattle.monitor.specs.Book.{rowIn, isBlank, blankCheck, slotRow, bookNumber}
 use Rattle.monitor.specs.Run.{panelAfter, answer, bookAfter, Rules, inForce, lastPut, AnsweredBy, HoldsTree}
 use Rattle.monitor.specs.Promises.{Within}
-use Rattle.monitor.proofs.Slots.{HeldTree, Holds, bytes-long, bytes-fit, row-not-empty, row-back}
+use Rattle.monitor.proofs.Slots.{HeldTree, Holds, bytes-long, bytes-fit, row-back}
 use Rattle.monitor.proofs.Stands.{same-number}
 use Rattle.monitor.proofs.Histories.{stands, book-in-force, book-slot}
 
@@ -61,16 +61,19 @@ module _ (cs : List Call) where
       rw (← same-ops, ← same-rules) (subst (λ slot. Holds (bookAfter cs .operators) (bookAfter cs .rules) slot (held (panelAfter cs .places) k)) (book-slot k cs ∙ q) (stands cs .holds k h))
 
   -- a list whose place is below 16 and whose slot is not blank
-  fetch-number : (k : ℕ) (row : List ℕ) (wanted room : ℕ) → k < placeCount → isEmpty row ≡ false → wanted ≤ room
-      → first (placeCheck k ∷ emptyCheck row ∷ shortCheck wanted room ∷ []) ≡ accepted
-  fetch-number k row wanted room h e l = rw (lt-ltb k placeCount h, e, le-ltb room wanted l)
+  fetch-number : (k : ℕ) (slot : Option (List ℕ)) (wanted room : ℕ) → k < placeCount → isBlank slot ≡ false → wanted ≤ room
+      → first (placeCheck k ∷ blankCheck slot ∷ shortCheck wanted room ∷ []) ≡ accepted
+  fetch-number k slot wanted room h e l = rw (lt-ltb k placeCount h, e, le-ltb room wanted l)
 
   image-number : (k room : ℕ) → k < placeCount → slotBytes ≤ room → first (placeCheck k ∷ shortCheck slotBytes room ∷ []) ≡ accepted
   image-number k room h l = rw (lt-ltb k placeCount h, le-ltb room slotBytes l)
 
   module _ (k : ℕ) (h : k < placeCount) (row : List ℕ) (q : lastPut k cs ≡ some row) (t : Tree) (g : HeldTree ops rules row (held (panelAfter cs .places) k) t) where
+    slot-is : bookAfter cs .slots k ≡ some row
+    slot-is = book-slot k cs ∙ q
+
     row-is : slotRow (bookAfter cs) k ≡ row
-    row-is = ap rowIn (book-slot k cs ∙ q)
+    row-is = ap rowIn slot-is
 
     number-as : (c : Call) → bookNumber (bookAfter cs) c ≡ accepted → answer cs c .number ≡ accepted
     number-as c e = same-number (panelAfter cs) (bookAfter cs) (stands cs) c ∙ e
@@ -78,14 +81,14 @@ module _ (cs : List Call) where
     holds-record : (out : List ℕ) → length (recordOf t) ≤ length out → AnsweredBy cs (ask (fetchRecord k out)) out (recordOf t)
     holds-record out l =
         let z = number-as (ask (fetchRecord k out))
-        (fetch-number k (slotRow (bookAfter cs) k) (recordBytes (slotRow (bookAfter cs) k)) (length out) h (ap isEmpty row-is ∙ row-not-empty g)
+        (fetch-number k (bookAfter cs .slots k) (recordBytes (slotRow (bookAfter cs) k)) (length out) h (ap isBlank slot-is)
         (omega (arith, ap recordBytes row-is, bytes-long g, ap length (g .recorded)))) in
         (z, rw z (ap (λ x. x ++ lists.drop (length x) out) (g .recorded)))
 
     holds-row : (out : List ℕ) → length (tree.yield t) ≤ length out → AnsweredBy cs (ask (fetchRow k out)) out (tree.yield t)
     holds-row out l =
         let z = number-as (ask (fetchRow k out))
-        (fetch-number k (slotRow (bookAfter cs) k) (length (slotRow (bookAfter cs) k)) (length out) h (ap isEmpty row-is ∙ row-not-empty g)
+        (fetch-number k (bookAfter cs .slots k) (length (slotRow (bookAfter cs) k)) (length out) h (ap isBlank slot-is)
         (omega (arith, ap length row-is, ap length (g .tree .yields)))) in (
           z,
           rw z (ap (λ x. x ++ lists.drop (length x) out)

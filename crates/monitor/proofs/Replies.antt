@@ -25,9 +25,9 @@ use Rattle.sheet.proofs.Laws.{count-by-relation}
 use Rattle.record.specs.Answers.{judgement, countIn}
 use Rattle.places.specs.Store.{placeCount, slotBytes, held, imageOf}
 use Rattle.monitor.specs.Call.{Question, Call, lentBefore, load, loadList, putRow, putRecord, drop, ask, fetchRecord, fetchRow, image, build, repair, judge, yield, operand}
-use Rattle.monitor.specs.Panel.{Panel, placeCheck, isEmpty, emptyCheck}
+use Rattle.monitor.specs.Panel.{Panel, placeCheck}
 use Rattle.monitor.specs.Steps.{ops, told, outcome, reply}
-use Rattle.monitor.specs.Book.{Book, rowIn, slotRow, SlotTree, askedNumber}
+use Rattle.monitor.specs.Book.{Book, rowIn, isBlank, blankCheck, slotRow, SlotTree, askedNumber}
 use Rattle.monitor.specs.Answers.{Lent, Valued, Records, Image, Told, Count, Part, Answered, Silent, Rest, Answers}
 use Rattle.monitor.proofs.Slots.{HeldTree, Holds, row-back, put-row-holds, put-record-holds}
 use Rattle.monitor.proofs.Stands.{Stands, filled, same-operators, same-asked, same-number}
@@ -69,8 +69,8 @@ place-passed k cs e = go (ltb k placeCount) refl e
     go true h f = (ltb-true k placeCount h, f)
     go false h f = absurd (omega arith)
 
-pub empty-passed : (xs : List ℕ) (cs : List Check) → first (emptyCheck xs ∷ cs) ≡ accepted → isEmpty xs ≡ false
-empty-passed xs cs e = go (isEmpty xs) e
+pub blank-passed : (slot : Option (List ℕ)) (cs : List Check) → first (blankCheck slot ∷ cs) ≡ accepted → isBlank slot ≡ false
+blank-passed slot cs e = go (isBlank slot) e
   where
     go : (b : Bool) → cond b 9 (first cs) ≡ accepted → b ≡ false
     go true f = absurd (omega arith)
@@ -78,11 +78,11 @@ empty-passed xs cs e = go (isEmpty xs) e
 
 module _ (p : Panel) (b : Book) (s : Stands p b) where
   -- what a fetch that is accepted finds
-  found : (k : ℕ) (cs : List Check) → first (placeCheck k ∷ emptyCheck (slotRow b k) ∷ cs) ≡ accepted
+  found : (k : ℕ) (cs : List Check) → first (placeCheck k ∷ blankCheck (b .slots k) ∷ cs) ≡ accepted
       → (row : List ℕ) × (b .slots k ≡ some row) × Holds (b .operators) (b .rules) (some row) (held (p .places) k)
   found k cs e =
-      let (h, f) = place-passed k (emptyCheck (slotRow b k) ∷ cs) e in
-      filled p b s k h (empty-passed (slotRow b k) cs f)
+      let (h, f) = place-passed k (blankCheck (b .slots k) ∷ cs) e in
+      filled p b s k h (blank-passed (b .slots k) cs f)
 
   slot-tree : (k : ℕ) (row : List ℕ) → b .slots k ≡ some row → (t : Tree) → HeldTree (b .operators) (b .rules) row (held (p .places) k) t → SlotTree b k t
   slot-tree k row q t g = rw (ap rowIn q) (g .tree)

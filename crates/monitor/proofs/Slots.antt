@@ -27,8 +27,8 @@ use Rattle.sheet.specs.InForce.{InForce}
 use Rattle.parser.specs.Build.{built}
 use Rattle.parser.proofs.InForceBuilds.{built-conflict-free}
 use Rattle.monitor.specs.Panel.{isEmpty, usesBeyond, rebuilt}
-use Rattle.monitor.specs.Book.{rowIn}
-use Rattle.monitor.proofs.Uses.{count-small, yield-not-empty, record-not-empty, uses-yield, over-under}
+use Rattle.monitor.specs.Book.{rowIn, isBlank}
+use Rattle.monitor.proofs.Uses.{count-small, record-not-empty, uses-yield, over-under}
 
 -- t is the row's tree, within the lengths, and the bytes are its record
 pub record HeldTree (ops : Operators) (rules : List Rule) (row bytes : List ℕ) (t : Tree) : Type 0 where
@@ -63,9 +63,6 @@ module _ {ops : Operators} {rules : List Rule} {row bytes : List ℕ} {t : Tree}
   pub held-not-empty : isEmpty bytes ≡ false
   held-not-empty = ap isEmpty (h .recorded) ∙ record-not-empty t
 
-  pub row-not-empty : isEmpty row ≡ false
-  row-not-empty = ap isEmpty (sym (h .tree .yields)) ∙ yield-not-empty t
-
   pub held-uses : (m : Operators) → usesBeyond m bytes ≡ usesBeyond m row
   held-uses m = ap (usesBeyond m) (h .recorded) ∙ uses-yield m t ∙ ap (usesBeyond m) (h .tree .yields)
 
@@ -91,9 +88,9 @@ module _ {ops : Operators} {rules : List Rule} {row bytes : List ℕ} {t : Tree}
         (u, record { tree = c; recorded = ap (λ o. built (closesIn s) (rowOf (treeOf (class o) bytes))) (k .operators) ∙ ap (built (closesIn s)) row-there ∙ e; tokens-fit = h .tokens-fit })
 
 -- ---- of a slot, blank or not
-pub same-empty : (ops : Operators) (rules : List Rule) (slot : Option (List ℕ)) (bytes : List ℕ) → Holds ops rules slot bytes → isEmpty bytes ≡ isEmpty (rowIn slot)
+pub same-empty : (ops : Operators) (rules : List Rule) (slot : Option (List ℕ)) (bytes : List ℕ) → Holds ops rules slot bytes → isEmpty bytes ≡ isBlank slot
 same-empty ops rules none bytes e = ap isEmpty e
-same-empty ops rules (some row) bytes (t, h) = held-not-empty h ∙ sym (row-not-empty h)
+same-empty ops rules (some row) bytes (t, h) = held-not-empty h
 
 pub same-length : (ops : Operators) (rules : List Rule) (slot : Option (List ℕ)) (bytes : List ℕ) → Holds ops rules slot bytes → length bytes ≡ recordBytes (rowIn slot)
 same-length ops rules none bytes e = ap length e

@@ -25,7 +25,7 @@ use Rattle.places.proofs.Laws.{held-fresh}
 use Rattle.monitor.specs.Call.{Question, Call, load, loadList, putRow, putRecord, drop, ask, fetchRecord, fetchRow, image, build, repair, judge, yield, operand}
 use Rattle.monitor.specs.Panel.{Panel, fresh, placeCheck, isEmpty, emptyCheck, usesBeyond, sheetChecks}
 use Rattle.monitor.specs.Steps.{ops, loadNumber, putRowNumber, putRecordNumber, dropNumber, fetchRecordNumber, fetchRowNumber, imageNumber, told, reply}
-use Rattle.monitor.specs.Book.{Book, blank, rowIn, slotRow, askedNumber, bookNumber}
+use Rattle.monitor.specs.Book.{Book, blank, rowIn, isBlank, blankCheck, slotRow, askedNumber, bookNumber}
 use Rattle.monitor.proofs.Slots.{Holds, same-empty, same-length, same-uses, held-accepted, read-back}
 
 -- The panel's sheet is the book's, and each place holds the tree of its slot's row.
@@ -47,11 +47,11 @@ by-place k cs ds f = go (decLt k placeCount)
     go (yes h) = rw (lt-ltb k placeCount h) (f h)
     go (no h) = rw (le-ltb k placeCount (omega arith))
 
-pub by-empty : (xs ys : List ℕ) (cs ds : List Check) → isEmpty xs ≡ isEmpty ys → (isEmpty ys ≡ false → first cs ≡ first ds)
-    → first (emptyCheck xs ∷ cs) ≡ first (emptyCheck ys ∷ ds)
-by-empty xs ys cs ds e f = go (isEmpty ys) refl
+pub by-empty : (xs : List ℕ) (slot : Option (List ℕ)) (cs ds : List Check) → isEmpty xs ≡ isBlank slot → (isBlank slot ≡ false → first cs ≡ first ds)
+    → first (emptyCheck xs ∷ cs) ≡ first (blankCheck slot ∷ ds)
+by-empty xs slot cs ds e f = go (isBlank slot) refl
   where
-    go : (x : Bool) → isEmpty ys ≡ x → first (emptyCheck xs ∷ cs) ≡ first (emptyCheck ys ∷ ds)
+    go : (x : Bool) → isBlank slot ≡ x → first (emptyCheck xs ∷ cs) ≡ first (blankCheck slot ∷ ds)
     go true q = rw (e, q)
     go false q = rw (e, q) (f q)
 
@@ -66,16 +66,16 @@ module _ (p : Panel) (b : Book) (s : Stands p b) where
   same-operators = s .in-force .operators
 
   -- what a slot that is not blank holds
-  pub filled : (k : ℕ) → k < placeCount → isEmpty (slotRow b k) ≡ false
+  pub filled : (k : ℕ) → k < placeCount → isBlank (b .slots k) ≡ false
       → (row : List ℕ) × (b .slots k ≡ some row) × Holds (b .operators) (b .rules) (some row) (held (p .places) k)
   filled k h e = go (b .slots k) refl (s .holds k h) e
     where
-      go : (slot : Option (List ℕ)) → b .slots k ≡ slot → Holds (b .operators) (b .rules) slot (held (p .places) k) → isEmpty (rowIn slot) ≡ false
+      go : (slot : Option (List ℕ)) → b .slots k ≡ slot → Holds (b .operators) (b .rules) slot (held (p .places) k) → isBlank slot ≡ false
           → (row : List ℕ) × (b .slots k ≡ some row) × Holds (b .operators) (b .rules) (some row) (held (p .places) k)
       go none q g f = absurd (let z : _≡_ {A = ℕ} 0 1 = cc in omega arith)
       go (some row) q g f = (row, q, g)
 
-  empty-same : (k : ℕ) → k < placeCount → isEmpty (held (p .places) k) ≡ isEmpty (slotRow b k)
+  empty-same : (k : ℕ) → k < placeCount → isEmpty (held (p .places) k) ≡ isBlank (b .slots k)
   empty-same k h = same-empty (b .operators) (b .rules) (b .slots k) (held (p .places) k) (s .holds k h)
 
   load-same : (n : ℕ) (rules : List ℕ) → loadNumber p n rules ≡ bookNumber b (load n rules)
@@ -93,20 +93,20 @@ module _ (p : Panel) (b : Book) (s : Stands p b) where
   unfolding fetchRecordNumber
   fetch-record-same k out =
       by-place k (emptyCheck (held (p .places) k) ∷ shortCheck (length (held (p .places) k)) (length out) ∷ [])
-      (emptyCheck (slotRow b k) ∷ shortCheck (recordBytes (slotRow b k)) (length out) ∷ [])
-      (λ h. by-empty (held (p .places) k) (slotRow b k) (shortCheck (length (held (p .places) k)) (length out) ∷ []) (shortCheck (recordBytes (slotRow b k)) (length out) ∷ [])
+      (blankCheck (b .slots k) ∷ shortCheck (recordBytes (slotRow b k)) (length out) ∷ [])
+      (λ h. by-empty (held (p .places) k) (b .slots k) (shortCheck (length (held (p .places) k)) (length out) ∷ []) (shortCheck (recordBytes (slotRow b k)) (length out) ∷ [])
       (empty-same k h)
       (λ e. ap (λ x. first (shortCheck x (length out) ∷ [])) (same-length (b .operators) (b .rules) (b .slots k) (held (p .places) k) (s .holds k h))))
 
   drop-same : (k : ℕ) → dropNumber p k ≡ bookNumber b (drop k)
   unfolding dropNumber
-  drop-same k = by-place k (emptyCheck (held (p .places) k) ∷ []) (emptyCheck (slotRow b k) ∷ []) (λ h. by-empty (held (p .places) k) (slotRow b k) [] [] (empty-same k h) (λ e. refl))
+  drop-same k = by-place k (emptyCheck (held (p .places) k) ∷ []) (blankCheck (b .slots k) ∷ []) (λ h. by-empty (held (p .places) k) (b .slots k) [] [] (empty-same k h) (λ e. refl))
 
   fetch-row-same : (k : ℕ) (out : List ℕ) → fetchRowNumber p k (length out) ≡ askedNumber b (fetchRow k out)
   unfolding fetchRowNumber recordNumber
   fetch-row-same k out =
-      by-place k (emptyCheck (held (p .places) k) ∷ here) (emptyCheck (slotRow b k) ∷ there)
-      (λ h. by-empty (held (p .places) k) (slotRow b k) here there (empty-same k h) (λ e. rest h (filled k h e)))
+      by-place k (emptyCheck (held (p .places) k) ∷ here) (blankCheck (b .slots k) ∷ there)
+      (λ h. by-empty (held (p .places) k) (b .slots k) here there (empty-same k h) (λ e. rest h (filled k h e)))
     where
       here : List Check
       here = recordChecks (ops p) (held (p .places) k) ++ (shortCheck (rowTokens (treeOf (class (ops p)) (held (p .places) k))) (length out) ∷ [])

@@ -12,7 +12,7 @@ use lib.ListN.{length, take, drop, length-append}
 use lib.Seq.{take-at}
 use borrow.Author.Tests.{lt-ltb, le-ltb, ne-eqb}
 use borrow.Author.Needs.{needs}
-use Rattle.expression.specs.Lists.{one}
+use Rattle.expression.specs.Lists.{oneIf}
 use Rattle.expression.specs.Refusal.{Check, first, accepted}
 use Rattle.expression.specs.Lent.{outputAfter, lengthAfter}
 use Rattle.expression.specs.Limits.{mostRecordBytes}
@@ -43,7 +43,7 @@ few-bytes : (row : List ℕ) → recordBytes row ≤ length row
 few-bytes [] = omega arith
 few-bytes (c ∷ cs) = go (not (eqb c closing)) (few-bytes cs)
   where
-    go : (b : Bool) → recordBytes cs ≤ length cs → one b + recordBytes cs ≤ suc (length cs)
+    go : (b : Bool) → recordBytes cs ≤ length cs → oneIf b + recordBytes cs ≤ suc (length cs)
     go true h = omega arith
     go false h = omega arith
 

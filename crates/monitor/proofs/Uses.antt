@@ -7,7 +7,7 @@ use mathlib.Core.List.{List, [], _∷_, _++_}
 use lib.Dec.{ltb}
 use lib.ListN.{length}
 use borrow.Author.Tests.{lt-ltb, ltb-true, not-false}
-use Rattle.expression.specs.Lists.{any, one, count}
+use Rattle.expression.specs.Lists.{anyHolds, oneIf, howMany}
 use Rattle.expression.specs.Limits.{mostOperators}
 use Rattle.expression.specs.Token.{Class, Infix, Opening, Closing, Reading, Meaningless, closing, Operators, class}
 use Rattle.expression.specs.Tree.{Tree, reading, bracket, binary, yield, recordOf, Over}
@@ -15,11 +15,11 @@ use Rattle.expression.proofs.Classes.{class-operator, class-reading, by-class}
 use Rattle.monitor.specs.Panel.{isEmpty, usesBeyond}
 
 -- ---- lists
-any-append : (p : ℕ → Bool) (xs ys : List ℕ) → any p (xs ++ ys) ≡ (any p xs || any p ys)
+any-append : (p : ℕ → Bool) (xs ys : List ℕ) → anyHolds p (xs ++ ys) ≡ (anyHolds p xs || anyHolds p ys)
 any-append p [] ys = refl
 any-append p (x ∷ xs) ys = go (p x) (any-append p xs ys)
   where
-    go : (b : Bool) → any p (xs ++ ys) ≡ (any p xs || any p ys) → (b || any p (xs ++ ys)) ≡ ((b || any p xs) || any p ys)
+    go : (b : Bool) → anyHolds p (xs ++ ys) ≡ (anyHolds p xs || anyHolds p ys) → (b || anyHolds p (xs ++ ys)) ≡ ((b || anyHolds p xs) || anyHolds p ys)
     go true e = refl
     go false e = e
 
@@ -36,24 +36,15 @@ or-false : (a b : Bool) → (a || b) ≡ false → (a ≡ false) × (b ≡ false
 or-false true b e = absurd (true≢false e)
 or-false false b e = (refl, e)
 
-append-not-empty : (xs ys : List ℕ) → isEmpty xs ≡ false → isEmpty (xs ++ ys) ≡ false
-append-not-empty [] ys e = absurd (true≢false e)
-append-not-empty (x ∷ xs) ys e = refl
-
-pub count-small : (p : ℕ → Bool) (xs : List ℕ) → count p xs ≤ length xs
+pub count-small : (p : ℕ → Bool) (xs : List ℕ) → howMany p xs ≤ length xs
 count-small p [] = omega arith
 count-small p (x ∷ xs) = omega (arith, small (p x), count-small p xs)
   where
-    small : (b : Bool) → one b ≤ 1
+    small : (b : Bool) → oneIf b ≤ 1
     small true = omega arith
     small false = omega arith
 
--- ---- no row and no record is empty
-pub yield-not-empty : (t : Tree) → isEmpty (yield t) ≡ false
-yield-not-empty (reading a) = refl
-yield-not-empty (bracket t) = refl
-yield-not-empty (binary o l r) = append-not-empty (yield l) (o ∷ yield r) (yield-not-empty l)
-
+-- ---- no record is empty
 pub record-not-empty : (t : Tree) → isEmpty (recordOf t) ≡ false
 record-not-empty (reading a) = refl
 record-not-empty (bracket t) = refl
@@ -64,13 +55,13 @@ pub uses-yield : (m : Operators) (t : Tree) → usesBeyond m (recordOf t) ≡ us
 unfolding usesBeyond
 uses-yield m (reading a) = refl
 uses-yield m (bracket t) =
-    uses-yield m t ∙ sym (any-append (beyond m) (yield t) (closing ∷ []) ∙ or-none (any (beyond m) (yield t)))
+    uses-yield m t ∙ sym (any-append (beyond m) (yield t) (closing ∷ []) ∙ or-none (anyHolds (beyond m) (yield t)))
   where
     beyond : Operators → ℕ → Bool
     beyond m c = ltb c mostOperators && not (ltb c (m .count))
 uses-yield m (binary o l r) =
     ap (λ x. beyond m o || x) (any-append (beyond m) (recordOf l) (recordOf r) ∙ ap₂ _||_ (uses-yield m l) (uses-yield m r))
-    ∙ or-middle (beyond m o) (any (beyond m) (yield l)) (any (beyond m) (yield r))
+    ∙ or-middle (beyond m o) (anyHolds (beyond m) (yield l)) (anyHolds (beyond m) (yield r))
     ∙ sym (any-append (beyond m) (yield l) (o ∷ yield r))
   where
     beyond : Operators → ℕ → Bool
@@ -114,8 +105,8 @@ unfolding usesBeyond
 over-under n m (reading a) h e = reading-under n m a h
 over-under n m (bracket t) h e = over-under n m t h e
 over-under n m (binary o l r) h e =
-    let (p, q) = or-false (beyond o) (any beyond (recordOf l ++ recordOf r)) e in
-    let (x, y) = or-false (any beyond (recordOf l)) (any beyond (recordOf r)) (sym (any-append beyond (recordOf l) (recordOf r)) ∙ q) in
+    let (p, q) = or-false (beyond o) (anyHolds beyond (recordOf l ++ recordOf r)) e in
+    let (x, y) = or-false (anyHolds beyond (recordOf l)) (anyHolds beyond (recordOf r)) (sym (any-append beyond (recordOf l) (recordOf r)) ∙ q) in
     (operator-under n m o (h .0) p, over-under n m l (h .1) x, over-under n m r (h .2) y)
   where
     beyond : ℕ → Bool

@@ -1,11 +1,11 @@
 -- Document 01's book: it is fed the calls alone, and finds their numbers itself. Assumes nothing.
 use Prim.Native.Nat.{ℕ}
-use mathlib.Core.Bool.{cond}
+use mathlib.Core.Bool.{Bool, true, false, cond}
 use mathlib.Core.Option.{Option, none, some}
 use mathlib.Core.List.{List, [], _∷_, _++_}
 use lib.Dec.{eqb}
 use lib.ListN.{length}
-use Rattle.expression.specs.Refusal.{first}
+use Rattle.expression.specs.Refusal.{Check, first, empty}
 use Rattle.expression.specs.Token.{Operators, operators, class}
 use Rattle.expression.specs.Tree.{Tree}
 use Rattle.expression.specs.Tree as tree
@@ -17,7 +17,7 @@ use Rattle.disambiguation.specs.Conflicts.{ConflictFreeTree}
 use Rattle.disambiguation.specs.SheetChecks.{rulesOf}
 use Rattle.places.specs.Store.{slotBytes}
 use Rattle.monitor.specs.Call.{Question, Call, load, loadList, putRow, putRecord, drop, ask, fetchRecord, fetchRow, image, build, repair, judge, yield, operand}
-use Rattle.monitor.specs.Panel.{placeCheck, emptyCheck, inUseCheck, sheetChecks, listChecks, ifAccepted}
+use Rattle.monitor.specs.Panel.{placeCheck, inUseCheck, sheetChecks, listChecks, ifAccepted}
 
 -- n with the rest of what tells the operators, the rules, and the slots, each blank or with one row
 pub record Book : Type 0 where
@@ -33,6 +33,14 @@ abbrev pub rowIn : Option (List ℕ) → List ℕ
 rowIn none = []
 rowIn (some row) = row
 
+-- 9: the slot is blank
+abbrev pub isBlank : Option (List ℕ) → Bool
+isBlank none = true
+isBlank (some row) = false
+
+abbrev pub blankCheck : Option (List ℕ) → Check
+blankCheck slot = (isBlank slot, empty)
+
 module _ (b : Book) where
   -- the row of a place's slot
   abbrev pub slotRow : ℕ → List ℕ
@@ -44,8 +52,8 @@ module _ (b : Book) where
 
   -- The number of each question: the first that applies, with the sheet in force, the empty places and the held trees read off the book.
   abbrev pub askedNumber : Question → ℕ
-  askedNumber (fetchRecord k out) = first (placeCheck k ∷ emptyCheck (slotRow k) ∷ shortCheck (recordBytes (slotRow k)) (length out) ∷ [])
-  askedNumber (fetchRow k out) = first (placeCheck k ∷ emptyCheck (slotRow k) ∷ shortCheck (length (slotRow k)) (length out) ∷ [])
+  askedNumber (fetchRecord k out) = first (placeCheck k ∷ blankCheck (b .slots k) ∷ shortCheck (recordBytes (slotRow k)) (length out) ∷ [])
+  askedNumber (fetchRow k out) = first (placeCheck k ∷ blankCheck (b .slots k) ∷ shortCheck (length (slotRow k)) (length out) ∷ [])
   askedNumber (image k out) = first (placeCheck k ∷ shortCheck slotBytes (length out) ∷ [])
   askedNumber (build row out) = buildNumber (b .operators) row (length out)
   askedNumber (repair bytes out) = repairNumber (b .operators) bytes (length out)
@@ -59,7 +67,7 @@ module _ (b : Book) where
   bookNumber (loadList n rules) = first (listChecks n rules ++ (inUseCheck (operators n) slotRow ∷ []))
   bookNumber (putRow k row) = first (placeCheck k ∷ rowChecks (b .operators) row)
   bookNumber (putRecord k bytes) = first (placeCheck k ∷ recordChecks (b .operators) bytes)
-  bookNumber (drop k) = first (placeCheck k ∷ emptyCheck (slotRow k) ∷ [])
+  bookNumber (drop k) = first (placeCheck k ∷ blankCheck (b .slots k) ∷ [])
   bookNumber (ask q) = askedNumber q
 
   -- the place's slot gets what is given

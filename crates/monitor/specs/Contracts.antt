@@ -30,18 +30,18 @@ pub record Drops (places : List ℕ) (k r : ℕ) (later : List ℕ) : Type 0 whe
 
 -- ---- questions with a lent output
 -- The question answered r, and the output became `later`.
-pub record Answers (p : Panel) (q : Question) (r : Answer) (later : List ℕ) : Type 0 where
+pub record AnswersInto (p : Panel) (q : Question) (r : Answer) (later : List ℕ) : Type 0 where
   pub numbered : r .number ≡ reply p (ask q) .number
   pub measured : r .length ≡ reply p (ask q) .length
   pub output : later ≡ reply p (ask q) .output
 
 -- One that looks at no place answers so whatever the places hold,
 pub record AnswersUnder (sheet : List ℕ) (q : Question) (r : Answer) (later : List ℕ) : Type 0 where
-  pub answers : (places : List ℕ) → Answers (panel sheet places) q r later
+  pub answers : (places : List ℕ) → AnswersInto (panel sheet places) q r later
 
 -- and one that looks at no sheet whatever sheet is in force.
 pub record AnswersFrom (places : List ℕ) (q : Question) (r : Answer) (later : List ℕ) : Type 0 where
-  pub answers : (sheet : List ℕ) → Answers (panel sheet places) q r later
+  pub answers : (sheet : List ℕ) → AnswersInto (panel sheet places) q r later
 
 -- ---- judge and operand, whatever the places hold
 pub record Judges (sheet bytes : List ℕ) (r : Judgement) : Type 0 where

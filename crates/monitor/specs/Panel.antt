@@ -3,7 +3,7 @@ use Prim.Native.Nat.{ℕ, zero, suc}
 use mathlib.Core.Bool.{Bool, true, false, not, _&&_, cond}
 use mathlib.Core.List.{List, [], _∷_, _++_}
 use lib.Dec.{eqb, ltb}
-use Rattle.expression.specs.Lists.{any}
+use Rattle.expression.specs.Lists.{anyHolds}
 use Rattle.expression.specs.Limits.{mostOperators}
 use Rattle.expression.specs.Refusal.{Check, accepted, place, empty, inUse}
 use Rattle.expression.specs.Token.{Operators, operators, class}
@@ -46,7 +46,7 @@ emptyCheck bytes = (isEmpty bytes, empty)
 
 -- the bytes of a row or a record use an operator that is not below n
 unfoldable pub usesBeyond : Operators → List ℕ → Bool
-usesBeyond ops bytes = any (λ c. ltb c mostOperators && not (ltb c (ops .count))) bytes
+usesBeyond ops bytes = anyHolds (λ c. ltb c mostOperators && not (ltb c (ops .count))) bytes
 
 -- 11: what some place holds does
 abbrev pub inUseCheck : Operators → (ℕ → List ℕ) → Check

@@ -44,13 +44,13 @@ pub record Rules : Type 0 where
   pub operators : Operators
   pub rules : List Rule
 
-abbrev pub rulesIn : Operators → List Rule → Rules
-rulesIn ops rules = record { operators = ops; rules = rules }
+abbrev pub ruledBy : Operators → List Rule → Rules
+ruledBy ops rules = record { operators = ops; rules = rules }
 
 unfoldable pub inForce : List Call → Rules
-inForce [] = rulesIn (operators 0) []
-inForce (load n rules ∷ cs) = cond (isAccepted cs (load n rules)) (rulesIn (operators n) (rulesOf rules)) (inForce cs)
-inForce (loadList n rules ∷ cs) = cond (isAccepted cs (loadList n rules)) (rulesIn (operators n) rules) (inForce cs)
+inForce [] = ruledBy (operators 0) []
+inForce (load n rules ∷ cs) = cond (isAccepted cs (load n rules)) (ruledBy (operators n) (rulesOf rules)) (inForce cs)
+inForce (loadList n rules ∷ cs) = cond (isAccepted cs (loadList n rules)) (ruledBy (operators n) rules) (inForce cs)
 inForce (putRow k row ∷ cs) = inForce cs
 inForce (putRecord k bytes ∷ cs) = inForce cs
 inForce (drop k ∷ cs) = inForce cs

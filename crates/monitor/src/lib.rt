@@ -2,7 +2,7 @@
 ghost use mathlib.Core.Bool.{Bool};
 ghost use Rattle.monitor.specs.Call.{load, putRow, putRecord, fetchRecord, fetchRow, image, build, repair, yield};
 ghost use Rattle.monitor.specs.Panel.{panel};
-ghost use Rattle.monitor.specs.Contracts.{Changes, Drops, Answers, AnswersUnder, AnswersFrom, Judges, NumbersOperand, FindsOperand, PlacesOperand};
+ghost use Rattle.monitor.specs.Contracts.{Changes, Drops, AnswersInto, AnswersUnder, AnswersFrom, Judges, NumbersOperand, FindsOperand, PlacesOperand};
 use expression::limits::MOST_RECORD_BYTES;
 use expression::refusal;
 use places::limits;
@@ -125,7 +125,7 @@ pub fn fetch_row(
     place: u32,
     out: &mut [u8],
 ) -> Answer
-    ensures { λ r. ⌜ Answers (panel (now (sheet .entry)) (now (places .entry))) (fetchRow place (now (out .entry))) r (now (out .exit)) ⌝ }
+    ensures { λ r. ⌜ AnswersInto (panel (now (sheet .entry)) (now (places .entry))) (fetchRow place (now (out .entry))) r (now (out .exit)) ⌝ }
 {
     if PLACE_COUNT <= place {
         return Answer {

@@ -12,8 +12,8 @@ use Rattle.monitor.specs.Panel.{Panel}
 use Rattle.line_io.specs.Lines.{lineFeed}
 use Rattle.line_io.specs.Moves.{movedToFront}
 use Rattle.frame.specs.Lines.{lineAfter}
-use Rattle.panel.specs.Lines.{withEnds, AllPlain, panelAfter}
-use Rattle.panel.specs.Contracts.{block, mostKept, mostFilled, Reads, Answers, Covers, Keeps}
+use Rattle.panel.specs.Lines.{withEnds, AllPlain, afterLines}
+use Rattle.panel.specs.Contracts.{block, mostKept, mostFilled, Reads, AnswersLines, Covers, Keeps}
 use Rattle.panel.proofs.LinesWays.{between, between-add}
 
 -- ---- lines after lines
@@ -27,8 +27,8 @@ unfolding AllPlain
 all-plain-append [] a p q = q
 all-plain-append (line ∷ b) a (h, p) q = (h, all-plain-append b a p q)
 
-pub panel-after-append : (p : Panel) (b a : List (List ℕ)) → panelAfter p (b ++ a) ≡ panelAfter (panelAfter p a) b
-unfolding panelAfter
+pub panel-after-append : (p : Panel) (b a : List (List ℕ)) → afterLines p (b ++ a) ≡ afterLines (afterLines p a) b
+unfolding afterLines
 panel-after-append p [] a = refl
 panel-after-append p (line ∷ b) a = ap (λ q. lineAfter q line) (panel-after-append p b a)
 
@@ -40,7 +40,7 @@ pub record Reached (p : Panel) (s out : List ℕ) (rest : ℕ) (later : Panel) :
   pub long : length out ≡ block
 
 pub reached-none : (s out : List ℕ) (later : Panel) → length out ≡ block → Reached later s out 0 later
-unfolding withEnds AllPlain panelAfter
+unfolding withEnds AllPlain afterLines
 reached-none s out later l = record { lines = []; reads = record { read = refl; plain = tt; stands = refl; after = omega arith; inside = omega arith }; long = l }
 
 module _ {p : Panel} {s out : List ℕ} {rest : ℕ} {later : Panel} (t : Reached p s out rest later) where
@@ -50,14 +50,14 @@ module _ {p : Panel} {s out : List ℕ} {rest : ℕ} {later : Panel} (t : Reache
   pub has-block : length out ≡ block
   has-block = t .long
 
-  module _ {out' : List ℕ} {rest' filled : ℕ} {later' : Panel} (a : Answers later s rest out' rest' filled later') where
+  module _ {out' : List ℕ} {rest' filled : ℕ} {later' : Panel} (a : AnswersLines later s rest out' rest' filled later') where
     reads-after : Reads p s 0 rest' (a .lines ++ t .lines) later'
     reads-after = record {
       read =
           between-add s 0 rest rest' (omega arith) (a .reads .after) ∙ ap (λ l. l ++ between rest rest' s) (t .reads .read)
           ∙ ap (λ l. withEnds (t .lines) ++ l) (a .reads .read) ∙ sym (with-ends-append (a .lines) (t .lines));
       plain = all-plain-append (a .lines) (t .lines) (a .reads .plain) (t .reads .plain);
-      stands = a .reads .stands ∙ ap (λ q. panelAfter q (a .lines)) (t .reads .stands) ∙ sym (panel-after-append p (a .lines) (t .lines));
+      stands = a .reads .stands ∙ ap (λ q. afterLines q (a .lines)) (t .reads .stands) ∙ sym (panel-after-append p (a .lines) (t .lines));
       after = omega arith;
       inside = a .reads .inside;
     }

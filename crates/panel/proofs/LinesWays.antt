@@ -10,8 +10,8 @@ use Rattle.monitor.specs.Panel.{Panel}
 use Rattle.line_io.specs.Lines.{lineFeed, Ends}
 use Rattle.line_io.proofs.Laws.{line-end-here, none-before-line-end}
 use Rattle.frame.specs.Lines.{lineReply, lineAfter}
-use Rattle.panel.specs.Lines.{withEnds, Plain, AllPlain, panelAfter, replies}
-use Rattle.panel.specs.Contracts.{block, mostReplyLine, mostFilled, Puts, Reads, Answers}
+use Rattle.panel.specs.Lines.{withEnds, Plain, AllPlain, afterLines, replies}
+use Rattle.panel.specs.Contracts.{block, mostReplyLine, mostFilled, Puts, Reads, AnswersLines}
 
 -- the bytes from one place up to another
 abbrev pub between : ℕ → ℕ → List ℕ → List ℕ
@@ -42,7 +42,7 @@ between-add s from rest to a b =
     ∙ ap (λ l. between from rest s ++ take (to - rest) l) (drop-drop (rest - from) from s ∙ ap (λ i. drop i s) k)
 
 reads-more : {p : Panel} {s : List ℕ} {from rest end : ℕ} {lines : List (List ℕ)} {later later' : Panel} → Reads p s from rest lines later → Ends s rest end → end < length s → later' ≡ lineAfter later (between rest end s) → Reads p s from (end + 1) (between rest end s ∷ lines) later'
-unfolding withEnds AllPlain panelAfter
+unfolding withEnds AllPlain afterLines
 reads-more {p} {s} {from} {rest} {end} {lines} t f h e = record {
   read = between-add s from rest (end + 1) (t .after) (omega (arith, f .after)) ∙ ap (λ l. l ++ between rest (end + 1) s) (t .read) ∙ ap (λ l. withEnds lines ++ l) (line-with-end f h);
   plain = (line-plain f h, t .plain);
@@ -63,7 +63,7 @@ pub record Answering (p : Panel) (s : List ℕ) (from : ℕ) (out : List ℕ) (r
   pub long : length out ≡ block
 
 pub answering-starts : {s : List ℕ} {from end : ℕ} → Ends s from end → (out : List ℕ) (later : Panel) → from ≤ length s → length out ≡ block → Answering later s from out from 0 end later
-unfolding withEnds AllPlain panelAfter replies
+unfolding withEnds AllPlain afterLines replies
 answering-starts {s} {from} f out later h l = record {
   lines = [];
   reads = record { read = let n : from - from ≡ 0 = omega arith in ap (λ i. take i (drop from s)) n; plain = tt; stands = refl; after = omega arith; inside = h };
@@ -89,10 +89,10 @@ module _ {p : Panel} {s : List ℕ} {from : ℕ} {out : List ℕ} {rest filled e
     long = l ∙ t .long;
   }
 
-  pub answering-all : length s ≤ end → Answers p s from out rest filled later
+  pub answering-all : length s ≤ end → AnswersLines p s from out rest filled later
   answering-all h = record { lines = t .lines; reads = t .reads; written = t .written; room = t .room; shares = t .shares; all = λ e. omega (arith, t .ends .place) }
 
-  pub answering-full : mostFilled < filled → Answers p s from out rest filled later
+  pub answering-full : mostFilled < filled → AnswersLines p s from out rest filled later
   answering-full h = record { lines = t .lines; reads = t .reads; written = t .written; room = t .room; shares = t .shares; all = λ e. absurd (omega arith) }
 
   pub room-left : filled ≤ mostFilled → filled + mostReplyLine ≤ block

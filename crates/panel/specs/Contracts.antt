@@ -8,7 +8,7 @@ use Rattle.monitor.specs.Panel.{Panel}
 use Rattle.line_io.specs.Lines.{lineFeed, lineEnd}
 use Rattle.frame.specs.Lines.{mostCharacters, lineReply, lineAfter}
 use Rattle.frame.specs.Contracts.{mostReply}
-use Rattle.panel.specs.Lines.{withEnds, AllPlain, panelAfter, panelAtEnd, replies}
+use Rattle.panel.specs.Lines.{withEnds, AllPlain, afterLines, panelAtEnd, replies}
 
 -- bytes of a block of input or output
 abbrev pub block : ℕ
@@ -41,12 +41,12 @@ pub record Puts (p : Panel) (line before after : List ℕ) (at filled : ℕ) (la
 pub record Reads (p : Panel) (s : List ℕ) (from rest : ℕ) (lines : List (List ℕ)) (later : Panel) : Type 0 where
   pub read : take (rest - from) (drop from s) ≡ withEnds lines
   pub plain : AllPlain lines
-  pub stands : later ≡ panelAfter p lines
+  pub stands : later ≡ afterLines p lines
   pub after : from ≤ rest
   pub inside : rest ≤ length s
 
 -- Lines were answered: their replies fill the front of the output. None is left, but where the output has no room for one more reply.
-pub record Answers (p : Panel) (s : List ℕ) (from : ℕ) (out : List ℕ) (rest filled : ℕ) (later : Panel) : Type 0 where
+pub record AnswersLines (p : Panel) (s : List ℕ) (from : ℕ) (out : List ℕ) (rest filled : ℕ) (later : Panel) : Type 0 where
   pub lines : List (List ℕ)
   pub reads : Reads p s from rest lines later
   pub written : take filled out ≡ withEnds (replies p lines)

@@ -22,13 +22,13 @@ AllPlain (line ∷ lines) = Plain line × AllPlain lines
 
 module _ (p : Panel) where
   -- each line gets the panel that the one before it left
-  unfoldable pub panelAfter : List (List ℕ) → Panel
-  panelAfter [] = p
-  panelAfter (line ∷ lines) = lineAfter (panelAfter lines) line
+  unfoldable pub afterLines : List (List ℕ) → Panel
+  afterLines [] = p
+  afterLines (line ∷ lines) = lineAfter (afterLines lines) line
 
   unfoldable pub replies : List (List ℕ) → List (List ℕ)
   replies [] = []
-  replies (line ∷ lines) = lineReply (panelAfter lines) line ∷ replies lines
+  replies (line ∷ lines) = lineReply (afterLines lines) line ∷ replies lines
 
   -- a last line without line end counts if not empty
   unfoldable pub panelAtEnd : List ℕ → Panel

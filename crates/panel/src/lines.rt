@@ -3,7 +3,7 @@ ghost use mathlib.Core.Path.{_≡_};
 ghost use Prim.Native.Nat.{_+_, _≤_};
 ghost use lib.ListN.{length};
 ghost use Rattle.monitor.specs.Panel.{panel};
-ghost use Rattle.panel.specs.Contracts.{block, mostReplyLine, Puts, Answers};
+ghost use Rattle.panel.specs.Contracts.{block, mostReplyLine, Puts, AnswersLines};
 use crate::limits::MOST_FILLED;
 use frame::limits::MOST_REPLY;
 use line_io::LINE_FEED;
@@ -46,7 +46,7 @@ pub fn answer_lines(
     out: &mut [u8],
 ) -> Lines
     requires { ⌜ (from ≤ length (now buf)) × (length (now out) ≡ block) ⌝ }
-    ensures { λ r. ⌜ Answers (panel (now (sheet .entry)) (now (places .entry))) (now (buf .entry)) from (now (out .exit)) (r .rest) (r .filled) (panel (now (sheet .exit)) (now (places .exit))) ⌝ }
+    ensures { λ r. ⌜ AnswersLines (panel (now (sheet .entry)) (now (places .entry))) (now (buf .entry)) from (now (out .exit)) (r .rest) (r .filled) (panel (now (sheet .exit)) (now (places .exit))) ⌝ }
 {
     let mut reply = [0u8; MOST_REPLY];
     let mut rest = from;

@@ -12,7 +12,7 @@ use lib.ListN.{length, getD, take, drop, length-drop}
 use lib.Seq.{take-suc, take-all, length-take-le}
 use borrow.Author.Tests.{ne-eqb}
 use borrow.Author.Needs.{needs}
-use Rattle.expression.specs.Lists.{one, count}
+use Rattle.expression.specs.Lists.{oneIf}
 use Rattle.expression.specs.Limits.{mostTokens}
 use Rattle.expression.specs.Token.{closing}
 use Rattle.expression.specs.Checks.{recordBytes, shortCheck, rowChecks, rowNumber, buildNumber}
@@ -41,23 +41,23 @@ share-small : (c : ℕ) → share c ≤ 1
 unfolding share
 share-small c = go (eqb c closing)
   where
-    go : (b : Bool) → one (not b) ≤ 1
+    go : (b : Bool) → oneIf (not b) ≤ 1
     go true = omega arith
     go false = omega arith
 
 module _ (row : List ℕ) where
   -- so many bytes for the tokens before the place
-  pub record Counted (count i : ℕ) : Type 0 where
-    pub counts : count ≡ recordBytes (take i row)
-    pub small : count ≤ i
+  pub record Counted (counted i : ℕ) : Type 0 where
+    pub counts : counted ≡ recordBytes (take i row)
+    pub small : counted ≤ i
     pub inside : i ≤ length row
 
   pub counted-none : Counted 0 0
   counted-none = record { counts = refl; small = omega arith; inside = omega arith }
 
-  pub counted-more : {count i c : ℕ} → Counted count i → i < length row → c ≡ share (getD row i 0) → Counted (count + c) (i + 1)
+  pub counted-more : {counted i c : ℕ} → Counted counted i → i < length row → c ≡ share (getD row i 0) → Counted (counted + c) (i + 1)
   unfolding share
-  counted-more {count} {i} {c} k h e =
+  counted-more {counted} {i} {c} k h e =
       record {
         counts =
             ap₂ _+_ (k .counts) e
@@ -66,11 +66,11 @@ module _ (row : List ℕ) where
         inside = omega arith;
       }
 
-  pub counted-fits : {count i c : ℕ} → length row ≤ mostTokens → Counted count i → i < length row → c ≡ share (getD row i 0) → Fits w16 (count + c)
+  pub counted-fits : {counted i c : ℕ} → length row ≤ mostTokens → Counted counted i → i < length row → c ≡ share (getD row i 0) → Fits w16 (counted + c)
   counted-fits {i = i} l k h e = omega (arith, k .small, e, share-small (getD row i 0))
 
-  pub counted-all : {count i : ℕ} → Counted count i → length row ≤ i → count ≡ recordBytes row
-  counted-all {count} {i} k h = k .counts ∙ ap recordBytes (take-all i row h)
+  pub counted-all : {counted i : ℕ} → Counted counted i → length row ≤ i → counted ≡ recordBytes row
+  counted-all {counted} {i} k h = k .counts ∙ ap recordBytes (take-all i row h)
 
 pub ruleset bytes-ways = (counted-none, counted-more, counted-fits, counted-all, needs)
 

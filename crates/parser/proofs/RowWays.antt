@@ -16,7 +16,7 @@ use Rattle.expression.specs.Token.{opening, closing, firstReading, lastReading,
 use Rattle.expression.specs.RowTest.{done, complete, scan, isRow}
 use Rattle.expression.specs.Checks.{strangeInRow, rowNumber}
 use Rattle.expression.proofs.Looking.{Looked, looked-none, looked-more, looked-all}
-use Rattle.parser.specs.Rows.{tokenAt, ReadsExpression, hasStranger}
+use Rattle.parser.specs.Rows.{tokenAt, ReadsExpression, strangerInRow}
 use Rattle.parser.proofs.ReaderWays.{there, row-ends}
 
 -- ---- is_strange
@@ -42,15 +42,15 @@ pub ruleset strange-ways = (strange-test, needs)
 abbrev pub strange : ℕ → ℕ → Bool
 strange n c = strangeInRow (class (operators n) c)
 
-pub looked-strange : (n : ℕ) (row : List ℕ) {at : ℕ} {b : Bool} → Looked (strange n) row b at → length row ≤ at → b ≡ hasStranger (operators n) row
-unfolding hasStranger
+pub looked-strange : (n : ℕ) (row : List ℕ) {at : ℕ} {b : Bool} → Looked (strange n) row b at → length row ≤ at → b ≡ strangerInRow (operators n) row
+unfolding strangerInRow
 looked-strange n row l h = looked-all (strange n) row l h
 
 pub ruleset any-strange-ways = (looked-none, looked-more, looked-strange, needs)
 
 -- strangers are told by the count of operators alone
-pub by-count : (ops : Operators) (row : List ℕ) {n : ℕ} {r : Bool} → n ≡ ops .count → r ≡ hasStranger (operators n) row → r ≡ hasStranger ops row
-by-count ops row e q = q ∙ ap (λ m. hasStranger (operators m) row) e
+pub by-count : (ops : Operators) (row : List ℕ) {n : ℕ} {r : Bool} → n ≡ ops .count → r ≡ strangerInRow (operators n) row → r ≡ strangerInRow ops row
+by-count ops row e q = q ∙ ap (λ m. strangerInRow (operators m) row) e
 
 pub ruleset stranger-ways = (by-count, needs)
 
@@ -60,13 +60,13 @@ module _ (ops : Operators) (row : List ℕ) where
   unfolding rowNumber
   is-oversize h = simp (lt-ltb mostTokens (length row) h)
 
-  module _ (short : length row ≤ mostTokens) {b : Bool} (s : b ≡ hasStranger ops row) where
+  module _ (short : length row ≤ mostTokens) {b : Bool} (s : b ≡ strangerInRow ops row) where
     pub is-stranger : b ≡ true → 3 ≡ rowNumber ops row
-    unfolding rowNumber hasStranger
+    unfolding rowNumber strangerInRow
     is-stranger e = simp (le-ltb mostTokens (length row) short, sym s ∙ e)
 
     by-test : b ≡ false → (t : Bool) → isRow (class ops) row ≡ t → cond (not t) 6 0 ≡ rowNumber ops row
-    unfolding rowNumber hasStranger
+    unfolding rowNumber strangerInRow
     by-test e t f = simp (le-ltb mostTokens (length row) short, sym s ∙ e, f)
 
     module _ (e : b ≡ false) {end : ℕ} (h : ReadsExpression ops row 0 end) where

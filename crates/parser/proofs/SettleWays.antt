@@ -10,7 +10,7 @@ use lib.ListN.{length, getD, drop, set, length-set, drop-of-length-le}
 use lib.Seq.{drop-cons}
 use borrow.Author.Tests.{lt-ltb, le-ltb, not-true, not-false}
 use borrow.Author.Needs.{needs}
-use Rattle.expression.specs.Lists.{one}
+use Rattle.expression.specs.Lists.{oneIf}
 use Rattle.expression.specs.Limits.{mostOperators, mostTokens}
 use Rattle.disambiguation.proofs.BelowLaws.{and-true}
 use Rattle.parser.specs.Build.{progress, settled, settle, settleAll}
@@ -38,7 +38,7 @@ pub drop-before : (at : ℕ) (l : List ℕ) (b : ℕ) → 0 < at → at ≤ leng
 drop-before zero l b h g = absurd (omega arith)
 drop-before (suc m) l b h g = let e : suc m - 1 ≡ m = omega arith in rw e (drop-front m l b g)
 
-pub operators-cons : (b : ℕ) (w : List ℕ) → operatorsIn (b ∷ w) ≡ one (ltb b mostOperators) + operatorsIn w
+pub operators-cons : (b : ℕ) (w : List ℕ) → operatorsIn (b ∷ w) ≡ oneIf (ltb b mostOperators) + operatorsIn w
 unfolding operatorsIn
 operators-cons b w = refl
 
@@ -79,7 +79,7 @@ module _ (closes : ℕ → ℕ → Bool) (c : ℕ) (out stack : List ℕ) (f : F
     is-operator e h = (and-true (ltb (getD stack top 0) mostOperators) (not (closes c (getD stack top 0))) (sym e ∙ h)) .0
 
     fewer : {b : Bool} → top < mostTokens → b ≡ settled closes c (getD stack top 0) → b ≡ true → operatorsIn (drop top stack) ≡ 1 + operatorsIn (drop (top + 1) stack)
-    fewer h e q = ap operatorsIn (next h) ∙ operators-cons (getD stack top 0) (drop (top + 1) stack) ∙ ap (λ x. one x + operatorsIn (drop (top + 1) stack)) (is-operator e q)
+    fewer h e q = ap operatorsIn (next h) ∙ operators-cons (getD stack top 0) (drop (top + 1) stack) ∙ ap (λ x. oneIf x + operatorsIn (drop (top + 1) stack)) (is-operator e q)
 
     pub at-positive : {b : Bool} → top < mostTokens → b ≡ settled closes c (getD stack top 0) → not b ≡ false → 1 ≤ at
     at-positive {b} h e q = omega (arith, fewer h e (not-false b q), s .room)

@@ -10,7 +10,7 @@ use lib.Seq.{drop-cons}
 use borrow.Author.Tests.{lt-ltb, le-ltb, ne-eqb}
 use native.Mathlib.Decide.{decLt}
 use borrow.Author.Needs.{needs}
-use Rattle.expression.specs.Lists.{one}
+use Rattle.expression.specs.Lists.{oneIf}
 use Rattle.expression.specs.Limits.{mostOperators, mostTokens}
 use Rattle.expression.specs.Token.{opening, closing}
 use Rattle.parser.specs.Build.{Progress, progress, settleAll, wait, enclose, operand, step}
@@ -46,7 +46,7 @@ pub ruleset prepend-ways = (prepends, needs)
 -- a token other than a closing bracket has a share
 share-one : (c : ℕ) → (c ≡ closing → ⊥) → share c ≡ 1
 unfolding share
-share-one c n = ap (λ x. one (not x)) (ne-eqb c closing n)
+share-one c n = ap (λ x. oneIf (not x)) (ne-eqb c closing n)
 
 share-closing : share closing ≡ 0
 unfolding share
@@ -87,7 +87,7 @@ module _ (closes : ℕ → ℕ → Bool) (out stack : List ℕ) (f : Fronts) whe
   pub operator-taken : {c : ℕ} {out′ stack′ : List ℕ} {g h : Fronts} → c < mostOperators → Settles closes c out stack f out′ g → Waits c stack g stack′ h
       → Takes closes c out stack f out′ stack′ h
   operator-taken {c} {out′} {stack′} {g} {h} small s w =
-      let operators = ap operatorsIn (w .held) ∙ operators-cons c (drop (g .top) stack) ∙ ap (λ x. one x + operatorsIn (drop (g .top) stack)) (lt-ltb c mostOperators small) in
+      let operators = ap operatorsIn (w .held) ∙ operators-cons c (drop (g .top) stack) ∙ ap (λ x. oneIf x + operatorsIn (drop (g .top) stack)) (lt-ltb c mostOperators small) in
       let mine = share-one c (λ e. omega arith) in
       record {
         held =

@@ -5,7 +5,7 @@ use mathlib.Core.Bool.{Bool, not}
 use mathlib.Core.List.{List, _∷_}
 use lib.Dec.{eqb, ltb}
 use lib.ListN.{length, drop}
-use Rattle.expression.specs.Lists.{one, count}
+use Rattle.expression.specs.Lists.{oneIf, howMany}
 use Rattle.expression.specs.Limits.{mostOperators, mostTokens}
 use Rattle.expression.specs.Token.{closing}
 use Rattle.parser.specs.Build.{Progress, progress, settleAll, step, built}
@@ -17,11 +17,11 @@ heldFrom out stack f = progress (drop (f .at) out) (drop (f .top) stack)
 
 -- how many operators wait
 unfoldable pub operatorsIn : List ℕ → ℕ
-operatorsIn waiting = count (λ b. ltb b mostOperators) waiting
+operatorsIn waiting = howMany (λ b. ltb b mostOperators) waiting
 
 -- a token's share of the record: none for a closing bracket
 unfoldable pub share : ℕ → ℕ
-share c = one (not (eqb c closing))
+share c = oneIf (not (eqb c closing))
 
 -- Both fronts lie in their buffers, and before the record there is room for the operators that wait and for so many bytes more.
 pub record Roomy (more : ℕ) (out stack : List ℕ) (f : Fronts) : Type 0 where

@@ -7,7 +7,7 @@ use lib.Dec.{ltb}
 use lib.ListN.{length, getD, drop}
 use Rattle.expression.specs.Token.{Class, Infix, Operators, class}
 use Rattle.expression.specs.Token as token
-use Rattle.expression.specs.Lists.{any}
+use Rattle.expression.specs.Lists.{anyHolds}
 use Rattle.expression.specs.Checks.{strangeInRow}
 use Rattle.expression.specs.RowTest.{due, done, complete, scan}
 use Rattle.parser.specs.declared.row.Token.{Token}
@@ -63,5 +63,5 @@ module _ (ops : Operators) (row : List ℕ) (at : ℕ) where
     pub stops : (next ≡ 0 → ⊥) → isOperator (tokenAt ops row next) ≡ false
 
 -- some token is strange
-unfoldable pub hasStranger : Operators → List ℕ → Bool
-hasStranger ops tokens = any (λ c. strangeInRow (class ops c)) tokens
+unfoldable pub strangerInRow : Operators → List ℕ → Bool
+strangerInRow ops tokens = anyHolds (λ c. strangeInRow (class ops c)) tokens

@@ -12,7 +12,7 @@ ghost use Rattle.expression.specs.Token.{operators, class};
 ghost use Rattle.expression.specs.Checks.{strangeInRow, rowNumber, recordBytes};
 ghost use Rattle.sheet.specs.Layout.{operatorsOf};
 ghost use Rattle.parser.specs.Fronts.{share};
-ghost use Rattle.parser.specs.Rows.{tokenOf, tokenAt, isOperator, isClosing, ReadsOperand, ReadsExpression, hasStranger};
+ghost use Rattle.parser.specs.Rows.{tokenOf, tokenAt, isOperator, isClosing, ReadsOperand, ReadsExpression, strangerInRow};
 
 // What a token is under a sheet's operators.
 pub enum Token {
@@ -141,7 +141,7 @@ fn is_strange(n: u8, c: u8) -> bool
 
 // Some token is strange. The loop has no branch, so that tokens can be tested side by side.
 fn any_strange(n: u8, row: &[u8]) -> bool
-    ensures { λ r. ⌜ r ≡ hasStranger (operators n) (now (row .entry)) ⌝ }
+    ensures { λ r. ⌜ r ≡ strangerInRow (operators n) (now (row .entry)) ⌝ }
 {
     let mut strange = false;
     let mut at = 0;
@@ -154,7 +154,7 @@ fn any_strange(n: u8, row: &[u8]) -> bool
 
 // The same under a sheet's operators: their count tells.
 fn has_stranger(sheet: &[u32; SHEET_WORDS], row: &[u8]) -> bool
-    ensures { λ r. ⌜ r ≡ hasStranger (operatorsOf (now (sheet .entry))) (now (row .entry)) ⌝ }
+    ensures { λ r. ⌜ r ≡ strangerInRow (operatorsOf (now (sheet .entry))) (now (row .entry)) ⌝ }
 {
     any_strange(sheet::operator_count(sheet), row)
 }

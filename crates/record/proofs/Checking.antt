@@ -12,14 +12,14 @@ use borrow.Author.Needs.{needs}
 use borrow.Author.Tests.{ltb-true, ltb-false, lt-ltb, le-ltb, le-leb, lt-leb, eq-eqb, ne-eqb}
 use mir.Syntax.{w8, w16, w64}
 use mir.Val.{Fits}
-use Rattle.expression.specs.Lists.{any, one, count}
+use Rattle.expression.specs.Lists.{anyHolds, oneIf, howMany}
 use Rattle.expression.specs.Limits.{mostOperators, mostRecordBytes}
 use Rattle.expression.specs.Token.{Class, opening, closing, firstReading, Operators, operators, class}
 use Rattle.expression.specs.Checks.{strangeInRecord}
 use Rattle.expression.proofs.Looking.{Looked, looked-none, looked-more, looked-all}
 use Rattle.expression.proofs.Cond.{by-cond}
 use Rattle.expression.proofs.Classes.{by-class, class-reading}
-use Rattle.record.specs.Checks.{hasStranger, behind, lists, rowLength}
+use Rattle.record.specs.Checks.{strangerInRecord, behind, lists, rowLength}
 
 -- a stranger, by the tests of its byte
 module _ (n byte : ℕ) where
@@ -44,15 +44,15 @@ pub ruleset is-strange-ways = (low, middle, high, needs)
 abbrev pub strange : ℕ → ℕ → Bool
 strange n c = strangeInRecord (class (operators n) c)
 
-pub looked-through : (n : ℕ) (bytes : List ℕ) {at : ℕ} {found : Bool} → Looked (strange n) bytes found at → length bytes ≤ at → found ≡ hasStranger (operators n) bytes
-unfolding hasStranger
+pub looked-through : (n : ℕ) (bytes : List ℕ) {at : ℕ} {found : Bool} → Looked (strange n) bytes found at → length bytes ≤ at → found ≡ strangerInRecord (operators n) bytes
+unfolding strangerInRecord
 looked-through n bytes l h = looked-all (strange n) bytes l h
 
 pub ruleset strange-ways = (looked-none, looked-more, looked-through, needs)
 
 -- strangers are told by the count of operators alone
-pub by-count : (ops : Operators) (bytes : List ℕ) {n : ℕ} {r : Bool} → n ≡ ops .count → r ≡ hasStranger (operators n) bytes → r ≡ hasStranger ops bytes
-by-count ops bytes e q = q ∙ ap (λ m. hasStranger (operators m) bytes) e
+pub by-count : (ops : Operators) (bytes : List ℕ) {n : ℕ} {r : Bool} → n ≡ ops .count → r ≡ strangerInRecord (operators n) bytes → r ≡ strangerInRecord ops bytes
+by-count ops bytes e q = q ∙ ap (λ m. strangerInRecord (operators m) bytes) e
 
 pub ruleset stranger-ways = (by-count, needs)
 
@@ -65,45 +65,45 @@ or-right true b e = let z : _≡_ {A = ℕ} 0 1 = cc in absurd (omega arith)
 or-right false b e = e
 
 -- where none is a stranger, each is none
-plain-byte : (p : ℕ → Bool) (bytes : List ℕ) (at : ℕ) → any p bytes ≡ false → at < length bytes → p (getD bytes at 0) ≡ false
+plain-byte : (p : ℕ → Bool) (bytes : List ℕ) (at : ℕ) → anyHolds p bytes ≡ false → at < length bytes → p (getD bytes at 0) ≡ false
 plain-byte p [] at e h = absurd (omega arith)
-plain-byte p (c ∷ bytes) zero e h = or-left (p c) (any p bytes) e
-plain-byte p (c ∷ bytes) (suc at) e h = plain-byte p bytes at (or-right (p c) (any p bytes) e) (omega arith)
+plain-byte p (c ∷ bytes) zero e h = or-left (p c) (anyHolds p bytes) e
+plain-byte p (c ∷ bytes) (suc at) e h = plain-byte p bytes at (or-right (p c) (anyHolds p bytes) e) (omega arith)
 
 -- the trees due behind a byte
-pub more-one : (byte : ℕ) → byte < opening → 1 ≡ one (ltb byte opening)
+pub more-one : (byte : ℕ) → byte < opening → 1 ≡ oneIf (ltb byte opening)
 more-one byte h = rw (lt-ltb byte opening h)
 
-pub more-none : (byte : ℕ) → opening ≤ byte → 0 ≡ one (ltb byte opening)
+pub more-none : (byte : ℕ) → opening ≤ byte → 0 ≡ oneIf (ltb byte opening)
 more-none byte h = rw (le-ltb byte opening h)
 
-pub fewer-none : (byte : ℕ) → byte < firstReading → 0 ≡ one (leb firstReading byte)
+pub fewer-none : (byte : ℕ) → byte < firstReading → 0 ≡ oneIf (leb firstReading byte)
 fewer-none byte h = rw (lt-leb firstReading byte h)
 
-pub fewer-one : (byte : ℕ) → firstReading ≤ byte → 1 ≡ one (leb firstReading byte)
+pub fewer-one : (byte : ℕ) → firstReading ≤ byte → 1 ≡ oneIf (leb firstReading byte)
 fewer-one byte h = rw (le-leb firstReading byte h)
 
-behind-is : (ops : Operators) (c d : ℕ) → strangeInRecord (class ops c) ≡ false → behind (class ops c) d ≡ suc d + one (ltb c opening) - one (leb firstReading c)
+behind-is : (ops : Operators) (c d : ℕ) → strangeInRecord (class ops c) ≡ false → behind (class ops c) d ≡ suc d + oneIf (ltb c opening) - oneIf (leb firstReading c)
 behind-is ops c d =
-    by-class ops (λ y. strangeInRecord y ≡ false → behind y d ≡ suc d + one (ltb c opening) - one (leb firstReading c)) c
+    by-class ops (λ y. strangeInRecord y ≡ false → behind y d ≡ suc d + oneIf (ltb c opening) - oneIf (leb firstReading c)) c
     (λ h _ _. rw (lt-ltb c opening h, lt-leb firstReading c (omega arith)) (omega arith))
     (λ e _. rw (le-ltb c opening (omega arith), lt-leb firstReading c (omega arith)) (omega arith))
     (λ _ e. cc)
     (λ h _ _. rw (le-ltb c opening (omega arith), le-leb firstReading c h) (omega arith))
     (λ e. cc)
 
-one-small : (b : Bool) → one b ≤ 1
+one-small : (b : Bool) → oneIf b ≤ 1
 one-small true = omega arith
 one-small false = omega arith
 
-module _ (at due byte : ℕ) (some : due ≡ 0 → ⊥) {more fewer : ℕ} (m : more ≡ one (ltb byte opening)) (f : fewer ≡ one (leb firstReading byte)) where
+module _ (at due byte : ℕ) (some : due ≡ 0 → ⊥) {more fewer : ℕ} (m : more ≡ oneIf (ltb byte opening)) (f : fewer ≡ oneIf (leb firstReading byte)) where
   pub fewer-fits : fewer ≤ due + more
   fewer-fits = omega (arith, some, one-small (leb firstReading byte))
 
   pub due-on : due ≤ at + 1 → due + more - fewer ≤ at + 1 + 1
   due-on small = omega (arith, one-small (ltb byte opening))
 
-pub more-fits : (bytes : List ℕ) (at due byte : ℕ) {more : ℕ} → length bytes ≤ mostRecordBytes → at < length bytes → due ≤ at + 1 → more ≡ one (ltb byte opening)
+pub more-fits : (bytes : List ℕ) (at due byte : ℕ) {more : ℕ} → length bytes ≤ mostRecordBytes → at < length bytes → due ≤ at + 1 → more ≡ oneIf (ltb byte opening)
     → Fits w64 (due + more)
 more-fits bytes at due byte h d small m = omega (arith, one-small (ltb byte opening))
 
@@ -117,7 +117,7 @@ unfolding lists
 none-due k c cs = refl
 
 lists-step : (ops : Operators) (c : ℕ) (cs : List ℕ) (due : ℕ) → strangeInRecord (class ops c) ≡ false → (due ≡ 0 → ⊥)
-    → lists (class ops) due (c ∷ cs) ≡ lists (class ops) (due + one (ltb c opening) - one (leb firstReading c)) cs
+    → lists (class ops) due (c ∷ cs) ≡ lists (class ops) (due + oneIf (ltb c opening) - oneIf (leb firstReading c)) cs
 unfolding lists
 lists-step ops c cs zero e h = absurd (h refl)
 lists-step ops c cs (suc d) e h = rw e (ap (λ x. lists (class ops) x cs) (behind-is ops c d e))
@@ -129,13 +129,13 @@ module _ (ops : Operators) (bytes : List ℕ) (at due : ℕ) (same : lists (clas
       none-due (class ops) (getD bytes at 0) (drop (suc at) bytes) ∙ ap (λ d. lists (class ops) d (getD bytes at 0 ∷ drop (suc at) bytes)) (sym e)
       ∙ ap (lists (class ops) due) (sym (drop-cons bytes at 0 h)) ∙ same
 
-  pub goes-on : {more fewer : ℕ} → at < length bytes → hasStranger ops bytes ≡ false → (due ≡ 0 → ⊥)
-      → more ≡ one (ltb (getD bytes at 0) opening) → fewer ≡ one (leb firstReading (getD bytes at 0))
+  pub goes-on : {more fewer : ℕ} → at < length bytes → strangerInRecord ops bytes ≡ false → (due ≡ 0 → ⊥)
+      → more ≡ oneIf (ltb (getD bytes at 0) opening) → fewer ≡ oneIf (leb firstReading (getD bytes at 0))
       → lists (class ops) (due + more - fewer) (drop (at + 1) bytes) ≡ lists (class ops) 1 bytes
-  unfolding hasStranger
+  unfolding strangerInRecord
   goes-on h e some m f =
       ap (λ d. lists (class ops) d (drop (at + 1) bytes)) (omega (arith, m, f))
-      ∙ ap (λ i. lists (class ops) (due + one (ltb (getD bytes at 0) opening) - one (leb firstReading (getD bytes at 0))) (drop i bytes)) (add-one at)
+      ∙ ap (λ i. lists (class ops) (due + oneIf (ltb (getD bytes at 0) opening) - oneIf (leb firstReading (getD bytes at 0))) (drop i bytes)) (add-one at)
       ∙ sym (lists-step ops (getD bytes at 0) (drop (suc at) bytes) due (plain-byte (λ c. strangeInRecord (class ops c)) bytes at e h) some)
       ∙ ap (lists (class ops) due) (sym (drop-cons bytes at 0 h)) ∙ same
 
@@ -143,26 +143,26 @@ module _ (ops : Operators) (bytes : List ℕ) (at due : ℕ) (same : lists (clas
   at-end h = none-left (class ops) due ∙ ap (lists (class ops) due) (sym (drop-of-length-le bytes h)) ∙ same
 
 -- the tokens of the row
-pub opens-one : (byte : ℕ) → byte ≡ opening → 1 ≡ one (eqb byte opening)
+pub opens-one : (byte : ℕ) → byte ≡ opening → 1 ≡ oneIf (eqb byte opening)
 opens-one byte e = rw (eq-eqb byte opening e)
 
-pub opens-none : (byte : ℕ) → (byte ≡ opening → ⊥) → 0 ≡ one (eqb byte opening)
+pub opens-none : (byte : ℕ) → (byte ≡ opening → ⊥) → 0 ≡ oneIf (eqb byte opening)
 opens-none byte e = rw (ne-eqb byte opening e)
 
 module _ (bytes : List ℕ) (at brackets : ℕ) (small : brackets ≤ at) (within : at < length bytes) where
-  pub brackets-fit : {v : ℕ} → length bytes ≤ mostRecordBytes → v ≡ one (eqb (getD bytes at 0) opening) → Fits w16 (brackets + v)
+  pub brackets-fit : {v : ℕ} → length bytes ≤ mostRecordBytes → v ≡ oneIf (eqb (getD bytes at 0) opening) → Fits w16 (brackets + v)
   brackets-fit h e = omega (arith, one-small (eqb (getD bytes at 0) opening))
 
-  pub brackets-small : {v : ℕ} → v ≡ one (eqb (getD bytes at 0) opening) → brackets + v ≤ at + 1
+  pub brackets-small : {v : ℕ} → v ≡ oneIf (eqb (getD bytes at 0) opening) → brackets + v ≤ at + 1
   brackets-small e = omega (arith, one-small (eqb (getD bytes at 0) opening))
 
-pub brackets-on : (bytes : List ℕ) (at brackets : ℕ) {v : ℕ} → at < length bytes → v ≡ one (eqb (getD bytes at 0) opening)
-    → brackets + count (λ c. eqb c opening) (drop at bytes) ≡ count (λ c. eqb c opening) bytes
-    → brackets + v + count (λ c. eqb c opening) (drop (at + 1) bytes) ≡ count (λ c. eqb c opening) bytes
+pub brackets-on : (bytes : List ℕ) (at brackets : ℕ) {v : ℕ} → at < length bytes → v ≡ oneIf (eqb (getD bytes at 0) opening)
+    → brackets + howMany (λ c. eqb c opening) (drop at bytes) ≡ howMany (λ c. eqb c opening) bytes
+    → brackets + v + howMany (λ c. eqb c opening) (drop (at + 1) bytes) ≡ howMany (λ c. eqb c opening) bytes
 brackets-on bytes at brackets h e same =
-    omega (arith, same, e, ap (count (λ c. eqb c opening)) (drop-cons bytes at 0 h), ap (λ i. count (λ c. eqb c opening) (drop i bytes)) (add-one at))
+    omega (arith, same, e, ap (howMany (λ c. eqb c opening)) (drop-cons bytes at 0 h), ap (λ i. howMany (λ c. eqb c opening) (drop i bytes)) (add-one at))
 
 pub brackets-all : (bytes : List ℕ) (at brackets : ℕ) → length bytes ≤ at
-    → brackets + count (λ c. eqb c opening) (drop at bytes) ≡ count (λ c. eqb c opening) bytes
+    → brackets + howMany (λ c. eqb c opening) (drop at bytes) ≡ howMany (λ c. eqb c opening) bytes
     → length bytes + brackets ≡ rowLength bytes
-brackets-all bytes at brackets h same = omega (arith, same, ap (count (λ c. eqb c opening)) (drop-of-length-le bytes h))
+brackets-all bytes at brackets h same = omega (arith, same, ap (howMany (λ c. eqb c opening)) (drop-of-length-le bytes h))

@@ -10,7 +10,7 @@ use borrow.Author.Needs.{needs}
 use types.Run.{OneOf}
 use denote.Enum.Declared.{tagOf}
 use Rattle.expression.specs.Refusal.{noTree}
-use Rattle.expression.specs.Lists.{one, count}
+use Rattle.expression.specs.Lists.{oneIf, howMany}
 use Rattle.expression.specs.Limits.{mostRecordBytes}
 use Rattle.expression.specs.Tree.{Tree, reading, bracket, binary}
 use Rattle.disambiguation.specs.Edges.{seenFromRight, seenFromLeft}
@@ -49,24 +49,24 @@ module _ (sheet : List ℕ) (o : ℕ) where
     right-none k = no-right x k ∙ ap (onRight sheet o) found
 
     pub left-in-order : {b : ℕ} {q : Bool} → x ≡ node.Operator b → q ≡ closesIn sheet b o → q ≡ true → 0 ≡ onLeft sheet o y
-    left-in-order is a e = sym (ap (onLeft sheet o) (sym found ∙ is) ∙ ap (λ z. one (not z)) (sym a ∙ e))
+    left-in-order is a e = sym (ap (onLeft sheet o) (sym found ∙ is) ∙ ap (λ z. oneIf (not z)) (sym a ∙ e))
 
     pub left-shown : {b : ℕ} {q : Bool} → x ≡ node.Operator b → q ≡ closesIn sheet b o → q ≡ false → 1 ≡ onLeft sheet o y
-    left-shown is a e = sym (ap (onLeft sheet o) (sym found ∙ is) ∙ ap (λ z. one (not z)) (sym a ∙ e))
+    left-shown is a e = sym (ap (onLeft sheet o) (sym found ∙ is) ∙ ap (λ z. oneIf (not z)) (sym a ∙ e))
 
     pub right-shown : {b : ℕ} {q : Bool} → x ≡ node.Operator b → q ≡ closesIn sheet o b → q ≡ true → 1 ≡ onRight sheet o y
-    right-shown is a e = sym (ap (onRight sheet o) (sym found ∙ is) ∙ ap one (sym a ∙ e))
+    right-shown is a e = sym (ap (onRight sheet o) (sym found ∙ is) ∙ ap oneIf (sym a ∙ e))
 
     pub right-in-order : {b : ℕ} {q : Bool} → x ≡ node.Operator b → q ≡ closesIn sheet o b → q ≡ false → 0 ≡ onRight sheet o y
-    right-in-order is a e = sym (ap (onRight sheet o) (sym found ∙ is) ∙ ap one (sym a ∙ e))
+    right-in-order is a e = sym (ap (onRight sheet o) (sym found ∙ is) ∙ ap oneIf (sym a ∙ e))
 
   -- a side shows what the tree's top does
-  left-count : (t : Tree) → onLeft sheet o (topOf t) ≡ count (excludedLeft sheet o) (seenFromRight t)
+  left-count : (t : Tree) → onLeft sheet o (topOf t) ≡ howMany (excludedLeft sheet o) (seenFromRight t)
   left-count (reading a) = refl
   left-count (bracket t) = refl
   left-count (binary b l r) = omega arith
 
-  right-count : (t : Tree) → onRight sheet o (topOf t) ≡ count (closesIn sheet o) (seenFromLeft t)
+  right-count : (t : Tree) → onRight sheet o (topOf t) ≡ howMany (closesIn sheet o) (seenFromLeft t)
   right-count (reading a) = refl
   right-count (bracket t) = refl
   right-count (binary b l r) = omega arith

@@ -4,13 +4,13 @@ use mathlib.Core.Bool.{Bool, true, false, cond}
 use mathlib.Core.List.{List, [], _∷_}
 use lib.Dec.{eqb}
 use lib.ListN.{length}
-use Rattle.expression.specs.Lists.{any, count}
+use Rattle.expression.specs.Lists.{anyHolds, howMany}
 use Rattle.expression.specs.Token.{Class, Infix, Opening, Closing, Reading, Meaningless, opening, Operators, class}
 use Rattle.expression.specs.Checks.{strangeInRecord}
 
 -- some byte stands in no record under the operators
-unfoldable pub hasStranger : Operators → List ℕ → Bool
-hasStranger ops bytes = any (λ c. strangeInRecord (class ops c)) bytes
+unfoldable pub strangerInRecord : Operators → List ℕ → Bool
+strangerInRecord ops bytes = anyHolds (λ c. strangeInRecord (class ops c)) bytes
 
 -- one of the trees due is the byte's: what is due behind it, where d more are
 abbrev pub behind : Class → ℕ → ℕ
@@ -30,4 +30,4 @@ module _ (k : ℕ → Class) where
 
 -- the tokens of a tree's row, from its record: one for each byte, and one more for each bracket
 abbrev pub rowLength : List ℕ → ℕ
-rowLength bytes = length bytes + count (λ c. eqb c opening) bytes
+rowLength bytes = length bytes + howMany (λ c. eqb c opening) bytes

@@ -4,7 +4,7 @@ use mathlib.Core.Path.{_≡_}
 use mathlib.Core.Bool.{Bool, not}
 use mathlib.Core.List.{List}
 use lib.ListN.{length}
-use Rattle.expression.specs.Lists.{one}
+use Rattle.expression.specs.Lists.{oneIf}
 use Rattle.expression.specs.Refusal.{noTree}
 use Rattle.expression.specs.Tree.{Tree}
 use Rattle.disambiguation.specs.Conflicts.{conflicts}
@@ -26,13 +26,13 @@ conflictsIn sheet = conflicts (excludedLeft sheet) (closesIn sheet)
 abbrev pub onLeft : List ℕ → ℕ → Node → ℕ
 onLeft sheet o (Reading a) = 0
 onLeft sheet o Bracket = 0
-onLeft sheet o (Operator b) = one (excludedLeft sheet o b)
+onLeft sheet o (Operator b) = oneIf (excludedLeft sheet o b)
 onLeft sheet o Other = 0
 
 abbrev pub onRight : List ℕ → ℕ → Node → ℕ
 onRight sheet o (Reading a) = 0
 onRight sheet o Bracket = 0
-onRight sheet o (Operator b) = one (closesIn sheet o b)
+onRight sheet o (Operator b) = oneIf (closesIn sheet o b)
 onRight sheet o Other = 0
 
 -- An answer is one word: the number 7 where no tree stands; else the place after the tree times the base, and the count.

@@ -4,12 +4,12 @@ ghost use mathlib.Core.Bool.{false};
 ghost use Prim.Native.Nat.{_≤_};
 ghost use lib.Dec.{eqb, leb, ltb};
 ghost use lib.ListN.{length};
-ghost use Rattle.expression.specs.Lists.{one};
+ghost use Rattle.expression.specs.Lists.{oneIf};
 ghost use Rattle.expression.specs.Limits.{mostRecordBytes};
 ghost use Rattle.expression.specs.Token.{opening, firstReading, operators, class};
 ghost use Rattle.expression.specs.Checks.{strangeInRecord};
 ghost use Rattle.sheet.specs.Layout.{operatorsOf};
-ghost use Rattle.record.specs.Checks.{hasStranger, lists, rowLength};
+ghost use Rattle.record.specs.Checks.{strangerInRecord, lists, rowLength};
 use expression::token;
 use sheet::layout::SHEET_WORDS;
 
@@ -28,7 +28,7 @@ fn is_strange(n: u8, byte: u8) -> bool
 
 // Some byte is a stranger. The loop has no branch, so that bytes can be tested side by side.
 fn any_strange(n: u8, bytes: &[u8]) -> bool
-    ensures { λ r. ⌜ r ≡ hasStranger (operators n) (now (bytes .entry)) ⌝ }
+    ensures { λ r. ⌜ r ≡ strangerInRecord (operators n) (now (bytes .entry)) ⌝ }
 {
     let mut strange = false;
     let mut at = 0;
@@ -41,14 +41,14 @@ fn any_strange(n: u8, bytes: &[u8]) -> bool
 
 // The same under a sheet's operators: their count tells.
 pub fn has_stranger(sheet: &[u32; SHEET_WORDS], bytes: &[u8]) -> bool
-    ensures { λ r. ⌜ r ≡ hasStranger (operatorsOf (now (sheet .entry))) (now (bytes .entry)) ⌝ }
+    ensures { λ r. ⌜ r ≡ strangerInRecord (operatorsOf (now (sheet .entry))) (now (bytes .entry)) ⌝ }
 {
     any_strange(sheet::operator_count(sheet), bytes)
 }
 
 // 1 where a tree more is due behind the byte, as behind an operator; else 0.
 fn one_more(byte: u8) -> usize
-    ensures { λ r. ⌜ r ≡ one (ltb byte opening) ⌝ }
+    ensures { λ r. ⌜ r ≡ oneIf (ltb byte opening) ⌝ }
 {
     if byte < token::OPENING {
         return 1;
@@ -58,7 +58,7 @@ fn one_more(byte: u8) -> usize
 
 // 1 where a tree fewer is due behind the byte, as behind a reading; else 0.
 fn one_fewer(byte: u8) -> usize
-    ensures { λ r. ⌜ r ≡ one (leb firstReading byte) ⌝ }
+    ensures { λ r. ⌜ r ≡ oneIf (leb firstReading byte) ⌝ }
 {
     if byte < token::FIRST_READING {
         return 0;
@@ -69,7 +69,7 @@ fn one_fewer(byte: u8) -> usize
 // Bytes with no stranger are exactly one tree over the sheet's operators: the trees due are counted, and none is due too early.
 pub fn is_tree(sheet: &[u32; SHEET_WORDS], bytes: &[u8]) -> bool
     requires { ⌜ length (now bytes) ≤ mostRecordBytes ⌝ }
-    requires { ⌜ hasStranger (operatorsOf (now sheet)) (now bytes) ≡ false ⌝ }
+    requires { ⌜ strangerInRecord (operatorsOf (now sheet)) (now bytes) ≡ false ⌝ }
     ensures { λ r. ⌜ r ≡ lists (class (operatorsOf (now (sheet .entry)))) 1 (now (bytes .entry)) ⌝ }
 {
     let mut due = 1;
@@ -87,7 +87,7 @@ pub fn is_tree(sheet: &[u32; SHEET_WORDS], bytes: &[u8]) -> bool
 
 // 1 where the byte opens a bracket, else 0.
 fn opens(byte: u8) -> u16
-    ensures { λ r. ⌜ r ≡ one (eqb byte opening) ⌝ }
+    ensures { λ r. ⌜ r ≡ oneIf (eqb byte opening) ⌝ }
 {
     if byte == token::OPENING {
         return 1;

@@ -21,13 +21,13 @@ use Rattle.rule_list.specs.Records.{rulesIn, putAt}
 use Rattle.rule_list.specs.declared.Rule.{Rule}
 
 -- what is read past a list's end: no walk does
-abbrev pub none : Rule
-none = record { kind = 0; first = 0; second = 0 }
+abbrev pub noRule : Rule
+noRule = record { kind = 0; first = 0; second = 0 }
 
 -- the buffer after the first k records
 abbrev pub writtenTo : List Rule → ℕ → List ℕ → List ℕ
 writtenTo list zero bytes = bytes
-writtenTo list (suc k) bytes = putAt (writtenTo list k bytes) k (getD list k none)
+writtenTo list (suc k) bytes = putAt (writtenTo list k bytes) k (getD list k noRule)
 
 -- ---- lengths
 length-writtenTo : (list : List Rule) (k : ℕ) (bytes : List ℕ) → length (writtenTo list k bytes) ≡ length bytes
@@ -63,13 +63,13 @@ module _ (list : List Rule) (bytes : List ℕ) (size : length bytes ≡ mostRule
   unfolding ruleBytes rulesIn
   written-to zero h = refl
   written-to (suc k) h =
-      let r : Rule = getD list k none in
+      let r : Rule = getD list k noRule in
       let before : List ℕ = writtenTo list k bytes in
       ap (λ (m : ℕ). take m (putAt before k r)) three-more
       ∙ ends-in before (k * 3) (r .kind) (r .first) (r .second) (omega (arith, length-writtenTo list k bytes))
       ∙ ap (λ (s : List ℕ). ((s ++ (r .kind ∷ [])) ++ (r .first ∷ [])) ++ (r .second ∷ [])) (written-to k (omega arith))
       ∙ sym (last-rule (take k list) r)
-      ∙ ap (λ (l : List Rule). ruleBytes (rulesIn l)) (sym (take-suc list k none h))
+      ∙ ap (λ (l : List Rule). ruleBytes (rulesIn l)) (sym (take-suc list k noRule h))
     where
       three-more : suc k * 3 ≡ k * 3 + 3
       three-more = omega arith

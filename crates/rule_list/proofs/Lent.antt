@@ -38,7 +38,7 @@ use Rattle.monitor.specs.Panel.{Panel, panel}
 use Rattle.monitor.specs.Contracts.{Changes}
 use Rattle.rule_list.specs.Records.{rulesIn}
 use Rattle.rule_list.specs.declared.Rule.{Rule}
-use Rattle.rule_list.proofs.Bytes.{none, writtenTo}
+use Rattle.rule_list.proofs.Bytes.{noRule, writtenTo}
 use Rattle.rule_list.proofs.Rule as T
 use Rattle.rule_list.proofs.Rule.Laws as T′
 use Rattle.rule_list.proofs.put_rule as put-rule
@@ -133,7 +133,7 @@ module _ {M : Type 1} (𝓤 : URA M) (H : Heap 𝓤) (A : Atoms 𝓤) (mem : Mem
 
   -- what `put_rule` binds in turn i: the buffer at l, lent for the lifetime ν under the name δ
   abbrev pub to-put : ℕ → ℕ → ℕ → GName → PutRule 𝓤 H A mem run .Ghost
-  to-put l i ν δ = (((ν ∷ [], tt), (fullShare, tt), tt, (buffer p l δ i, (i, (getD (list p) i none, tt))), (vptr l 0 ∷ [], (vint w64 i ∷ [], (T′.lowered (getD (list p) i none) ∷ [], tt)))), tt)
+  to-put l i ν δ = (((ν ∷ [], tt), (fullShare, tt), tt, (buffer p l δ i, (i, (getD (list p) i noRule, tt))), (vptr l 0 ∷ [], (vint w64 i ∷ [], (T′.lowered (getD (list p) i noRule) ∷ [], tt)))), tt)
 
   -- what `load_written` binds: the sheet and the places at their own lifetimes, the buffer at l, lent for the lifetime ν under the name δ
   abbrev pub to-load : ℕ → ℕ → GName → LoadWritten 𝓤 H A mem run .Ghost
@@ -149,11 +149,11 @@ module _ {M : Type 1} (𝓤 : URA M) (H : Heap 𝓤) (A : Atoms 𝓤) (mem : Mem
   )
 
   module _ (W : Given 𝓤 H A) where
-    pub goes-put : (l i ν : ℕ) (δ : GName) → i < 2 ^ 64 → i < mostRules → Is T.the-row (getD (list p) i none) (vals (getD (list p) i none))
+    pub goes-put : (l i ν : ℕ) (δ : GName) → i < 2 ^ 64 → i < mostRules → Is T.the-row (getD (list p) i noRule) (vals (getD (list p) i noRule))
         → ent 𝓤 (sep 𝓤 (A .lft (ν ∷ []) fullShare) (sem 𝓤 H A (MutRef (named 0) (ν ∷ []) Buffer .own (buffer p l δ i) (vptr l 0 ∷ [])))) (PutRule 𝓤 H A mem run .pre (to-put l i ν δ))
     goes-put l i ν δ fits small g =
         qed W (‵ (flft (ν ∷ []) fullShare) ∷ ‵ (MutRef (named 0) (ν ∷ []) Buffer .own (buffer p l δ i) (vptr l 0 ∷ [])) ∷ []) ∵ says ! small $ nothing ! $ move ! (1 ∷ 0 ∷ []) $ join ! $ frame ! $
-        nothing ! $ owned ! T.the-row (Is T.the-row) (LL.makes T.the-type T′.the-plain 𝓤 H A) (getD (list p) i none) _ g $ fjoin ! $
+        nothing ! $ owned ! T.the-row (Is T.the-row) (LL.makes T.the-type T′.the-plain 𝓤 H A) (getD (list p) i noRule) _ g $ fjoin ! $
         owned ! usize (Is usize) (uint-makes 𝓤 H A W w64) i _ (refl, fits) $ fjoin ! $ move ! (1 ∷ 0 ∷ []) $ fjoin ! $ done !
 
     pub goes-load : (l ν : ℕ) (δ : GName) → p .n < 2 ^ 32 → count p < 2 ^ 64 → count p ≤ mostRules

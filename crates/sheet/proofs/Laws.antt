@@ -9,7 +9,7 @@ use borrow.Author.Tests.{ltb-true, ltb-false}
 use lib.Dec.{eqb, ltb}
 use lib.ListN.{getD, length, set}
 use lib.Seq.{getD-set-same, getD-set-other}
-use Rattle.expression.specs.Lists.{any}
+use Rattle.expression.specs.Lists.{anyHolds}
 use Rattle.expression.specs.Limits.{mostOperators, mostRuleBytes, bytesOfRule}
 use Rattle.expression.specs.Refusal.{accepted, oversize, torn, stranger}
 use Rattle.expression.specs.Token.{Operators, operators, class}
@@ -79,14 +79,14 @@ module _ (n : ℕ) (rules : List Rule) where
 -- what number 0 says of n and the bytes
 pub record Accepted (n : ℕ) (bytes : List ℕ) : Type 0 where
   pub few : n ≤ mostOperators
-  pub plain : any (strangeRule n) (rulesOf bytes) ≡ false
+  pub plain : anyHolds (strangeRule n) (rulesOf bytes) ≡ false
   pub accepts : verdict (operators n) (rulesOf bytes) ≡ accepted
 
 pub accepted-by : (n : ℕ) (bytes : List ℕ) → sheetNumber n bytes ≡ accepted → Accepted n bytes
 unfolding sheetNumber verdict
-accepted-by n bytes e = go (ltb mostOperators n) (ltb mostRuleBytes (length bytes)) (not (eqb (length bytes % bytesOfRule) 0)) (any (strangeRule n) (rulesOf bytes)) _ refl refl refl e
+accepted-by n bytes e = go (ltb mostOperators n) (ltb mostRuleBytes (length bytes)) (not (eqb (length bytes % bytesOfRule) 0)) (anyHolds (strangeRule n) (rulesOf bytes)) _ refl refl refl e
   where
-    go : (p q t s : Bool) (v : ℕ) → ltb mostOperators n ≡ p → any (strangeRule n) (rulesOf bytes) ≡ s → verdict (operators n) (rulesOf bytes) ≡ v
+    go : (p q t s : Bool) (v : ℕ) → ltb mostOperators n ≡ p → anyHolds (strangeRule n) (rulesOf bytes) ≡ s → verdict (operators n) (rulesOf bytes) ≡ v
         → cond (p || q) oversize (cond t torn (cond s stranger v)) ≡ accepted → Accepted n bytes
     go true q t s v a b c z = absurd (omega arith)
     go false true t s v a b c z = absurd (omega arith)

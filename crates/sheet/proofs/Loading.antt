@@ -11,7 +11,7 @@ use mir.Val.{Fits}
 use mir.Syntax.{w8}
 use lib.Dec.{eqb, ltb}
 use lib.ListN.{length, set}
-use Rattle.expression.specs.Lists.{any}
+use Rattle.expression.specs.Lists.{anyHolds}
 use Rattle.expression.specs.Limits.{mostOperators, mostRuleBytes, bytesOfRule}
 use Rattle.expression.specs.Refusal.{accepted, oversize, torn, stranger}
 use Rattle.expression.specs.Token.{operators}
@@ -71,7 +71,7 @@ module _ (n : ℕ) (bytes : List ℕ) where
       go false true rest k = refl
       go false false rest k = absurd (k refl)
 
-  by-rules : sizeNumber n (length bytes) ≡ 0 → rulesNumber (any (strangeRule n) (rulesOf bytes)) (operators n) (L (rulesOf bytes)) (R (rulesOf bytes)) ≡ sheetNumber n bytes
+  by-rules : sizeNumber n (length bytes) ≡ 0 → rulesNumber (anyHolds (strangeRule n) (rulesOf bytes)) (operators n) (L (rulesOf bytes)) (R (rulesOf bytes)) ≡ sheetNumber n bytes
   unfolding sizeNumber sheetNumber rulesNumber
   by-rules h = go (ltb mostOperators n || ltb mostRuleBytes (length bytes)) (not (eqb (length bytes % bytesOfRule) 0)) _ h
     where
@@ -94,7 +94,7 @@ module _ (n : ℕ) (bytes t u : List ℕ) {strange : Bool} (few : n ≤ mostOper
   turned-is : strange ≡ false → (a b : ℕ) → a < mostOperators → b < mostOperators → turned (closesIn u) a b ≡ L (rulesOf bytes) a b
   turned-is z a b ha hb = ap (λ (w : List ℕ). closesIn w b a) (read .excludes-left z) ∙ closes-is-L (rulesOf bytes) b a hb ha
 
-  number-is : rulesNumber strange (operators n) (turned (closesIn u)) (closesIn t) ≡ rulesNumber (any (strangeRule n) (rulesOf bytes)) (operators n) (L (rulesOf bytes)) (R (rulesOf bytes))
+  number-is : rulesNumber strange (operators n) (turned (closesIn u)) (closesIn t) ≡ rulesNumber (anyHolds (strangeRule n) (rulesOf bytes)) (operators n) (L (rulesOf bytes)) (R (rulesOf bytes))
   unfolding rulesNumber
   number-is = go strange refl ∙ ap (λ (s : Bool). rulesNumber s (operators n) (L (rulesOf bytes)) (R (rulesOf bytes))) (read .strange)
     where

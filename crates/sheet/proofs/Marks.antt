@@ -10,7 +10,7 @@ use lib.Bits.{bitOr}
 use lib.Dec.{eqb}
 use lib.ListN.{getD, set, length, length-set, getD-replicate}
 use lib.Seq.{getD-set-same, getD-set-other}
-use Rattle.expression.specs.Lists.{any}
+use Rattle.expression.specs.Lists.{anyHolds}
 use Rattle.expression.specs.Limits.{mostOperators}
 use Rattle.disambiguation.specs.Rules.{Rule, priority, left, right, L, R, givesL, givesR}
 use Rattle.sheet.specs.Layout.{sheetWords, fresh}
@@ -66,12 +66,12 @@ closes-marksL r t x y long hx hy =
 module _ (marks : Rule → List ℕ → List ℕ) (gives : ℕ → ℕ → Rule → Bool) (kept : (r : Rule) (t : List ℕ) → length (marks r t) ≡ length t)
     (adds : (r : Rule) (t : List ℕ) (x y : ℕ) → length t ≡ sheetWords → x < mostOperators → y < mostOperators → closesIn (marks r t) x y ≡ (closesIn t x y || gives x y r)) where
   closes-marksAll : (rs : List Rule) (t : List ℕ) (x y : ℕ) → length t ≡ sheetWords → x < mostOperators → y < mostOperators
-      → closesIn (marksAll marks rs t) x y ≡ (closesIn t x y || any (gives x y) rs)
+      → closesIn (marksAll marks rs t) x y ≡ (closesIn t x y || anyHolds (gives x y) rs)
   unfolding marksAll
   closes-marksAll [] t x y long hx hy = sym (or-false (closesIn t x y))
   closes-marksAll (r ∷ rs) t x y long hx hy =
-      closes-marksAll rs (marks r t) x y (kept r t ∙ long) hx hy ∙ ap (λ (p : Bool). p || any (gives x y) rs) (adds r t x y long hx hy)
-      ∙ or-assoc (closesIn t x y) (gives x y r) (any (gives x y) rs)
+      closes-marksAll rs (marks r t) x y (kept r t ∙ long) hx hy ∙ ap (λ (p : Bool). p || anyHolds (gives x y) rs) (adds r t x y long hx hy)
+      ∙ or-assoc (closesIn t x y) (gives x y r) (anyHolds (gives x y) rs)
 
 pub closes-blank : (x y : ℕ) → x < mostOperators → y < mostOperators → closesIn fresh x y ≡ false
 closes-blank x y hx hy =
@@ -82,10 +82,10 @@ pub closes-is-R : (rs : List Rule) (x y : ℕ) → x < mostOperators → y < mos
 unfolding R marksR
 closes-is-R rs x y hx hy =
     closes-marksAll marksR givesR (λ r t. length-marked t _ _ _) closes-marksR rs fresh x y refl hx hy
-    ∙ ap (λ (p : Bool). p || any (givesR x y) rs) (closes-blank x y hx hy)
+    ∙ ap (λ (p : Bool). p || anyHolds (givesR x y) rs) (closes-blank x y hx hy)
 
 pub closes-is-L : (rs : List Rule) (x y : ℕ) → x < mostOperators → y < mostOperators → closesIn (marksAll marksL rs fresh) x y ≡ L rs y x
 unfolding L marksL
 closes-is-L rs x y hx hy =
     closes-marksAll marksL (λ a b. givesL b a) (λ r t. length-marked t _ _ _) closes-marksL rs fresh x y refl hx hy
-    ∙ ap (λ (p : Bool). p || any (givesL y x) rs) (closes-blank x y hx hy)
+    ∙ ap (λ (p : Bool). p || anyHolds (givesL y x) rs) (closes-blank x y hx hy)

@@ -5,7 +5,7 @@ use mathlib.Core.List.{List, [], _∷_}
 use Prim.Native.Nat.{ℕ, _<_}
 use borrow.Author.Tests.{eqb-true, ltb-true}
 use lib.Dec.{eqb, ltb}
-use Rattle.expression.specs.Lists.{any}
+use Rattle.expression.specs.Lists.{anyHolds}
 use Rattle.disambiguation.specs.Rules.{Rule, priority, left, right, L, R, givesL, givesR}
 use Rattle.disambiguation.specs.SheetChecks.{strangeRule}
 
@@ -44,21 +44,21 @@ named false false x y e = absurd (false≢true e)
 
 -- Patterns of one side, each given by one rule.
 module _ (gives : ℕ → ℕ → Rule → Bool) (names : (a b : ℕ) (r : Rule) → gives a b r ≡ true → (eqb (r .first) a ≡ true) × (eqb (r .second) b ≡ true)) (n : ℕ) (a b : ℕ) where
-  given-below : (rules : List Rule) → any (strangeRule n) rules ≡ false → any (gives a b) rules ≡ true → (a < n) × (b < n)
+  given-below : (rules : List Rule) → anyHolds (strangeRule n) rules ≡ false → anyHolds (gives a b) rules ≡ true → (a < n) × (b < n)
   given-below [] s e = absurd (false≢true e)
-  given-below (r ∷ rs) s e = go (gives a b r) refl e (given-below rs (or-false-right (strangeRule n r) (any (strangeRule n) rs) s))
+  given-below (r ∷ rs) s e = go (gives a b r) refl e (given-below rs (or-false-right (strangeRule n r) (anyHolds (strangeRule n) rs) s))
     where
-      go : (p : Bool) → gives a b r ≡ p → (p || any (gives a b) rs) ≡ true → (any (gives a b) rs ≡ true → (a < n) × (b < n)) → (a < n) × (b < n)
+      go : (p : Bool) → gives a b r ≡ p → (p || anyHolds (gives a b) rs) ≡ true → (anyHolds (gives a b) rs ≡ true → (a < n) × (b < n)) → (a < n) × (b < n)
       go true g h later =
           let k = names a b r g in
-          let plain = or-false-left (strangeRule n r) (any (strangeRule n) rs) s in
+          let plain = or-false-left (strangeRule n r) (anyHolds (strangeRule n) rs) s in
           (rw (sym (eqb-true (r .first) a (k .0))) (first-operator n r plain), rw (sym (eqb-true (r .second) b (k .1))) (second-operator n r plain))
       go false g h later = later h
 
-pub R-below : (n : ℕ) (rules : List Rule) (a b : ℕ) → any (strangeRule n) rules ≡ false → R rules a b ≡ true → (a < n) × (b < n)
+pub R-below : (n : ℕ) (rules : List Rule) (a b : ℕ) → anyHolds (strangeRule n) rules ≡ false → R rules a b ≡ true → (a < n) × (b < n)
 unfolding R
 R-below n rules a b s e = given-below givesR (λ a b r. named (eqb (r .kind) priority) (eqb (r .kind) left) (eqb (r .first) a) (eqb (r .second) b)) n a b rules s e
 
-pub L-below : (n : ℕ) (rules : List Rule) (a b : ℕ) → any (strangeRule n) rules ≡ false → L rules a b ≡ true → (a < n) × (b < n)
+pub L-below : (n : ℕ) (rules : List Rule) (a b : ℕ) → anyHolds (strangeRule n) rules ≡ false → L rules a b ≡ true → (a < n) × (b < n)
 unfolding L
 L-below n rules a b s e = given-below givesL (λ a b r. named (eqb (r .kind) priority) (eqb (r .kind) right) (eqb (r .first) a) (eqb (r .second) b)) n a b rules s e

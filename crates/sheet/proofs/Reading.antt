@@ -12,7 +12,7 @@ use lib.Bits.{bitOr, or-zero-r}
 use lib.Dec.{eqb}
 use lib.ListN.{length, getD, drop, set, length-drop}
 use lib.Seq.{drop-cons, set-getD}
-use Rattle.expression.specs.Lists.{any, one}
+use Rattle.expression.specs.Lists.{anyHolds, oneIf}
 use Rattle.expression.specs.Limits.{mostOperators}
 use Rattle.disambiguation.specs.Rules.{Rule, rule, priority, left, right}
 use Rattle.disambiguation.specs.SheetChecks.{rulesOf, strangeRule}
@@ -49,20 +49,20 @@ by-side k side e = simp (ne-eqb k 1 e)
 pub ruleset excludes-ways = (by-priority, by-side, needs)
 
 -- ---- mark
-pub bit-on : (on : Bool) → on ≡ true → 1 ≡ one on
+pub bit-on : (on : Bool) → on ≡ true → 1 ≡ oneIf on
 bit-on on e = rw e
 
-pub bit-off : (on : Bool) → on ≡ false → 0 ≡ one on
+pub bit-off : (on : Bool) → on ≡ false → 0 ≡ oneIf on
 bit-off on e = rw e
 
 pub ruleset bit-ways = (bit-on, bit-off, needs)
 
 -- a bit that is off changes nothing
-pub mark-either : {r : ℕ} (t : List ℕ) (a b : ℕ) (on : Bool) → r ≡ one on → b < mostOperators → set t a (bitOr (getD t a 0) ((r * 2 ^ b) % 2 ^ 32)) ≡ marked t a b on
+pub mark-either : {r : ℕ} (t : List ℕ) (a b : ℕ) (on : Bool) → r ≡ oneIf on → b < mostOperators → set t a (bitOr (getD t a 0) ((r * 2 ^ b) % 2 ^ 32)) ≡ marked t a b on
 unfolding marked
 mark-either {r} t a b on q h = ap (λ k. set t a (bitOr (getD t a 0) ((k * 2 ^ b) % 2 ^ 32))) q ∙ go on
   where
-    go : (on : Bool) → set t a (bitOr (getD t a 0) ((one on * 2 ^ b) % 2 ^ 32)) ≡ marked t a b on
+    go : (on : Bool) → set t a (bitOr (getD t a 0) ((oneIf on * 2 ^ b) % 2 ^ 32)) ≡ marked t a b on
     go true = simp (one-shifted b 32 h)
     go false = ap (λ k. set t a (bitOr (getD t a 0) (k % 2 ^ 32))) (zero-mul (2 ^ b)) ∙ ap (set t a) (or-zero-r (getD t a 0)) ∙ set-getD t a 0
 
@@ -98,7 +98,7 @@ pub ruleset take-ways = (first-below, second-below, take-strange, take-marked, n
 -- ---- read
 -- At a place in the bytes, the rules that remain from there on decide the rest.
 pub record Remaining (n : ℕ) (bytes t u : List ℕ) (i : ℕ) (t′ u′ : List ℕ) : Type 0 where
-  pub strange : any (strangeRule n) (rulesOf bytes) ≡ any (strangeRule n) (rulesOf (drop i bytes))
+  pub strange : anyHolds (strangeRule n) (rulesOf bytes) ≡ anyHolds (strangeRule n) (rulesOf (drop i bytes))
   pub excludes-right : marksAll marksR (rulesOf bytes) t ≡ marksAll marksR (rulesOf (drop i bytes)) t′
   pub excludes-left : marksAll marksL (rulesOf bytes) u ≡ marksAll marksL (rulesOf (drop i bytes)) u′
 
@@ -128,7 +128,7 @@ pub remaining-more : {r : Bool} (n : ℕ) (bytes t u t₁ u₁ t₂ u₂ : List 
     → Takes n (ruleAt bytes i) t₁ u₁ t₂ u₂ r → r ≡ false → Remaining n bytes t u (i + 3) t₂ u₂
 unfolding marksAll
 remaining-more n bytes t u t₁ u₁ t₂ u₂ i h l k e = record {
-  strange = l .strange ∙ ap (any (strangeRule n)) (rules-more bytes i h) ∙ ap (λ (p : Bool). p || any (strangeRule n) (rulesOf (drop (i + 3) bytes))) (sym (k .strange) ∙ e);
+  strange = l .strange ∙ ap (anyHolds (strangeRule n)) (rules-more bytes i h) ∙ ap (λ (p : Bool). p || anyHolds (strangeRule n) (rulesOf (drop (i + 3) bytes))) (sym (k .strange) ∙ e);
   excludes-right =
       l .excludes-right ∙ ap (λ (rs : List Rule). marksAll marksR rs t₁) (rules-more bytes i h)
       ∙ ap (marksAll marksR (rulesOf (drop (i + 3) bytes))) (sym (k .excludes-right e));
@@ -141,7 +141,7 @@ pub remaining-strange : {r : Bool} (n : ℕ) (bytes t u t₁ u₁ t₂ u₂ : Li
     → Takes n (ruleAt bytes i) t₁ u₁ t₂ u₂ r → r ≡ true → Reads n bytes t u t₂ u₂ true
 remaining-strange n bytes t u t₁ u₁ t₂ u₂ i h l k e = record {
   strange =
-      sym (l .strange ∙ ap (any (strangeRule n)) (rules-more bytes i h) ∙ ap (λ (p : Bool). p || any (strangeRule n) (rulesOf (drop (i + 3) bytes))) (sym (k .strange) ∙ e));
+      sym (l .strange ∙ ap (anyHolds (strangeRule n)) (rules-more bytes i h) ∙ ap (λ (p : Bool). p || anyHolds (strangeRule n) (rulesOf (drop (i + 3) bytes))) (sym (k .strange) ∙ e));
   excludes-right = λ f. absurd (false≢true (sym f));
   excludes-left = λ f. absurd (false≢true (sym f));
 }
@@ -149,7 +149,7 @@ remaining-strange n bytes t u t₁ u₁ t₂ u₂ i h l k e = record {
 pub remaining-none : (n : ℕ) (bytes t u t₁ u₁ : List ℕ) (i : ℕ) → length bytes < i + 3 → Remaining n bytes t u i t₁ u₁ → Reads n bytes t u t₁ u₁ false
 unfolding marksAll
 remaining-none n bytes t u t₁ u₁ i h l = record {
-  strange = sym (l .strange ∙ ap (any (strangeRule n)) (rules-none bytes i h));
+  strange = sym (l .strange ∙ ap (anyHolds (strangeRule n)) (rules-none bytes i h));
   excludes-right = λ f. sym (l .excludes-right ∙ ap (λ (rs : List Rule). marksAll marksR rs t₁) (rules-none bytes i h));
   excludes-left = λ f. sym (l .excludes-left ∙ ap (λ (rs : List Rule). marksAll marksL rs u₁) (rules-none bytes i h));
 }

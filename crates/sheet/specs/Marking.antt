@@ -6,7 +6,7 @@ use mathlib.Core.List.{List, [], _∷_}
 use lib.Bits.{bitOr}
 use lib.Dec.{eqb}
 use lib.ListN.{getD, set}
-use Rattle.expression.specs.Lists.{any}
+use Rattle.expression.specs.Lists.{anyHolds}
 use Rattle.disambiguation.specs.Rules.{Rule, priority, left, right}
 use Rattle.disambiguation.specs.SheetChecks.{rulesOf, strangeRule}
 
@@ -35,6 +35,6 @@ pub record Takes (n : ℕ) (r : Rule) (closes yields closes′ yields′ : List 
 
 -- All rules of the bytes read: whether one is strange, and if none is, both tables after them.
 pub record Reads (n : ℕ) (bytes closes yields closes′ yields′ : List ℕ) (answer : Bool) : Type 0 where
-  pub strange : answer ≡ any (strangeRule n) (rulesOf bytes)
+  pub strange : answer ≡ anyHolds (strangeRule n) (rulesOf bytes)
   pub excludes-right : answer ≡ false → closes′ ≡ marksAll marksR (rulesOf bytes) closes
   pub excludes-left : answer ≡ false → yields′ ≡ marksAll marksL (rulesOf bytes) yields

@@ -3,7 +3,7 @@ ghost use mathlib.Core.Path.{_≡_};
 ghost use mathlib.Core.Bool.{_||_};
 ghost use Prim.Native.Nat.{_≤_, _<_};
 ghost use lib.Dec.{eqb};
-ghost use Rattle.expression.specs.Lists.{one};
+ghost use Rattle.expression.specs.Lists.{oneIf};
 ghost use Rattle.expression.specs.Limits.{mostOperators};
 ghost use Rattle.disambiguation.specs.Rules.{rule, priority};
 ghost use Rattle.disambiguation.specs.SheetChecks.{strangeRule};
@@ -49,7 +49,7 @@ fn excludes(kind: u8, side: u8) -> bool
 
 // 1 where on, else 0.
 fn bit(on: bool) -> u32
-    ensures { λ r. ⌜ r ≡ one on ⌝ }
+    ensures { λ r. ⌜ r ≡ oneIf on ⌝ }
 {
     if on {
         return 1;

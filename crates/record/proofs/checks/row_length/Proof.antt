@@ -6,7 +6,7 @@ use mathlib.Core.Path.{_≡_}
 use lib.Dec.{eqb}
 use lib.ListN.{length, drop}
 use borrow.Author.Needs.{needs}
-use Rattle.expression.specs.Lists.{count}
+use Rattle.expression.specs.Lists.{howMany}
 use Rattle.expression.specs.Token.{opening}
 use Rattle.record.proofs.Checking.{brackets-fit, brackets-small, brackets-on, brackets-all}
 use Rattle.record.proofs.checks.row_length.Statement.{statement}
@@ -14,7 +14,7 @@ use Rattle.record.proofs.checks.row_length.Tie as tie
 
 abbrev Inv-loop : tie.InvT-loop
 Inv-loop bytes brackets₀ at₀ brackets at =
-    (at ≤ length bytes) × (brackets ≤ at) × (brackets + count (λ c. eqb c opening) (drop at bytes) ≡ count (λ c. eqb c opening) bytes)
+    (at ≤ length bytes) × (brackets ≤ at) × (brackets + howMany (λ c. eqb c opening) (drop at bytes) ≡ howMany (λ c. eqb c opening) bytes)
 
 abbrev μ-loop : tie.MeasureT-loop
 μ-loop bytes brackets₀ at₀ brackets at = length bytes - at

@@ -37,7 +37,7 @@ use denote.Triple.Statement.{Triple}
 use denote.Triple.Call.{calls-at}
 use denote.Triple.Clauses.{ensured, Lasts, lasts}
 use Rattle.expression.specs.Limits.{mostRules}
-use Rattle.rule_list.proofs.Bytes.{none}
+use Rattle.rule_list.proofs.Bytes.{noRule}
 use Rattle.rule_list.proofs.Rule as T
 use Rattle.rule_list.proofs.Rule.Laws as T′
 use Rattle.sheet.specs.Layout.{sheetWords}
@@ -139,18 +139,18 @@ module _ {M : Type 1} (𝓤 : URA M) (H : Heap 𝓤) (A : Atoms 𝓤) (mem : Mem
       -- the record is copied out of the list
       move ! (36 ∷ 37 ∷ []) $
       looks-slice ! tt T.the-row (Is T.the-row) (shows 𝓤 H A T.the-row) vals (LL.tells T.the-type T′.the-laws) (LL.copy T.the-type T′.the-copy 𝓤 H A W) (list p) (p .rules .ptr .0) (p .rules .ptr .1) (λ s.
-      elem-out ! T.the-row (Is T.the-row) (shows 𝓤 H A T.the-row) vals (LL.tells T.the-type T′.the-laws) s (list p) i none (p .rules .ptr .0) (p .rules .ptr .1) small (λ g.
-      assigns ! (of-opd ! (load ! (from ! (hop ! (look ! 31 refl) (stop !))) (look-raw ! 0 refl))) (from ! (stop !)) (init ! 33 refl (LL.lawful T.the-type T′.the-laws 𝓤 H A W .typed (getD (list p) i none) _ g .0)) $
-      elem-back ! T.the-row s (list p) i none (vals (getD (list p) i none)) (p .rules .ptr .0) (p .rules .ptr .1) small $ shuts-slice ! tt T.the-row s (list p) (p .rules .ptr .0) (p .rules .ptr .1) $
+      elem-out ! T.the-row (Is T.the-row) (shows 𝓤 H A T.the-row) vals (LL.tells T.the-type T′.the-laws) s (list p) i noRule (p .rules .ptr .0) (p .rules .ptr .1) small (λ g.
+      assigns ! (of-opd ! (load ! (from ! (hop ! (look ! 31 refl) (stop !))) (look-raw ! 0 refl))) (from ! (stop !)) (init ! 33 refl (LL.lawful T.the-type T′.the-laws 𝓤 H A W .typed (getD (list p) i noRule) _ g .0)) $
+      elem-back ! T.the-row s (list p) i noRule (vals (getD (list p) i noRule)) (p .rules .ptr .0) (p .rules .ptr .1) small $ shuts-slice ! tt T.the-row s (list p) (p .rules .ptr .0) (p .rules .ptr .1) $
       -- [the list's token; its borrow; the locals; ..]: the buffer is lent for a lifetime ν of the call
       lft-new ! tt (λ ν. move ! (13 ∷ []) $
       use1 W (later (some (λ (δ : GName). ‵ (MutRef (named 0) (ν ∷ []) Buffer .own (buffer p l₅ δ i) (vptr l₅ 0 ∷ [])) ⊛ ‵ (flent (ν ∷ []) (Body (inMemory Buffer) l₅ 0 δ)))))
       (lends-ref 𝓤 H A W Buffer (named 0) (ν ∷ []) (after p i) l₅ 0) $ await ! tt $ pick ! (λ δ. split ! $
       move ! (2 ∷ 0 ∷ []) $ use2 W (raw (PutRule 𝓤 H A mem run .pre (to-put 𝓤 H A mem run p l₅ i ν δ))) (goes-put 𝓤 H A mem run p W l₅ i ν δ (index-fits i (count p) small (room .0)) (has-place i (count p) small few) g) $
       calls-at ! (fmOf 𝓤 H (W .laws) 𝓣) (PutRule 𝓤 H A mem run) known (to-put 𝓤 H A mem run p l₅ i ν δ) (and-then ! (load ! (from ! (stop !)) (look ! 27 refl)) (and-then ! (load ! (from ! (stop !)) (look ! 15 refl)) (and-then ! (load ! (from ! (stop !)) (look ! 31 refl)) (no-more !)))) (λ w.
-      use1 W (later (some (λ (r : Unit {0}). ((‵ (flft (ν ∷ []) fullShare) ⊛ ‵ ftrue) ⊛ ‵ (unit .own r (w ∷ []))) ⊛ raw (ensured 𝓤 H A put-rule.ended (put-rule.clauses 𝓤 H A mem run) (ν ∷ [], tt) (buffer p l₅ δ i, (i, (getD (list p) i none, tt))) tt r)))) (id⊢ 𝓤 _) $ await ! tt $ pick ! (λ r.
+      use1 W (later (some (λ (r : Unit {0}). ((‵ (flft (ν ∷ []) fullShare) ⊛ ‵ ftrue) ⊛ ‵ (unit .own r (w ∷ []))) ⊛ raw (ensured 𝓤 H A put-rule.ended (put-rule.clauses 𝓤 H A mem run) (ν ∷ [], tt) (buffer p l₅ δ i, (i, (getD (list p) i noRule, tt))) tt r)))) (id⊢ 𝓤 _) $ await ! tt $ pick ! (λ r.
       split ! $ move ! (1 ∷ []) $
-      use1 W (some (λ (ws : Lasts put-rule.ended (ν ∷ [], tt) (buffer p l₅ δ i, (i, (getD (list p) i none, tt)))). ‵ (lasts put-rule.ended (ν ∷ [], tt) (buffer p l₅ δ i, (i, (getD (list p) i none, tt))) ws) ⊛ raw (fact 𝓤 (ws .0 ≡ after p (suc i))))) (id⊢ 𝓤 _) $ pick ! (λ ws.
+      use1 W (some (λ (ws : Lasts put-rule.ended (ν ∷ [], tt) (buffer p l₅ δ i, (i, (getD (list p) i noRule, tt)))). ‵ (lasts put-rule.ended (ν ∷ [], tt) (buffer p l₅ δ i, (i, (getD (list p) i noRule, tt))) ws) ⊛ raw (fact 𝓤 (ws .0 ≡ after p (suc i))))) (id⊢ 𝓤 _) $ pick ! (λ ws.
       split ! $ move ! (1 ∷ []) $ heard ! (ws .0 ≡ after p (suc i)) (λ e. fsplit ! $
       -- [what says the last bytes; true; the token and the result; what is lent; the list's token; ..]
       move ! (2 ∷ []) $ split ! $ move ! (1 ∷ []) $ feqL ! (λ is.
