@@ -84,7 +84,13 @@ pub record Passes (p : Panel) (s after : List ℕ) (later : Panel) (kept : ℕ) 
   pub covers : Covers p s rest later go
   pub keeps : Keeps s rest (length s) after kept
 
--- A turn: the input ended, or some bytes were read.
+-- A turn: the read failed, and nothing was run; the input ended; or some bytes were read.
 pub data Turns (p : Panel) (before : List ℕ) (kept : ℕ) (after : List ℕ) (later : Panel) (kept' : ℕ) (go : Bool) : Type 0 where
+  failed : later ≡ p → kept' ≡ 0 → go ≡ false → Turns p before kept after later kept' go
   ended : Finishes p (take kept before) later kept' go → Turns p before kept after later kept' go
   went-on : (s : List ℕ) → take kept s ≡ take kept before → kept < length s → Passes p s after later kept' go → Turns p before kept after later kept' go
+
+-- Some lines were taken, in order: the panel is the one after them. (That they are the input's is the read call's.)
+pub record TakesLines (p later : Panel) : Type 0 where
+  pub lines : List (List ℕ)
+  pub stands : later ≡ afterLines p lines

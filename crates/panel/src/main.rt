@@ -4,7 +4,7 @@ ghost use mathlib.Core.Bool.{false};
 ghost use Prim.Native.Nat.{_≤_};
 ghost use lib.ListN.{length};
 ghost use Rattle.monitor.specs.Panel.{panel};
-ghost use Rattle.panel.specs.Contracts.{block, mostKept, bufferBytes, Covers, Keeps, Fetches, Finishes, Turns};
+ghost use Rattle.panel.specs.Contracts.{block, mostKept, bufferBytes, Covers, Keeps, Fetches, Finishes, Turns, TakesLines};
 use frame::limits::MOST_REPLY;
 use libc::STDIN_FILENO;
 use libc::STDOUT_FILENO;
@@ -28,6 +28,12 @@ struct State {
 struct Block {
     rest: usize,
     ok: bool,
+}
+
+// A read: where what it gave ends, and whether it failed.
+struct Fetched {
+    to: usize,
+    failed: bool,
 }
 
 fn stopped() -> State
@@ -98,18 +104,22 @@ fn keep_rest(buf: &mut [u8], rest: usize, n: usize) -> usize
     n - rest
 }
 
-// One read, behind the unfinished line; answers where what is read ends. At the end of the input, and where the read fails,
-// that is where it began.
-fn read_block(buf: &mut [u8], kept: usize) -> usize
+// One read, behind the unfinished line. At the end of the input what is read ends where it began.
+fn read_block(buf: &mut [u8], kept: usize) -> Fetched
     requires { ⌜ (kept ≤ mostKept) × (length (now buf) ≡ bufferBytes) ⌝ }
-    ensures { λ r. ⌜ Fetches (now (buf .entry)) kept (now (buf .exit)) r ⌝ }
+    ensures { λ r. ⌜ Fetches (now (buf .entry)) kept (now (buf .exit)) (r .to) ⌝ }
 {
     let to = kept + BLOCK;
     let got = libc::read(STDIN_FILENO, &mut buf[kept..to]);
-    kept + io::count(got, &buf[kept..to])
+    let end = kept + io::count(got, &buf[kept..to]);
+    Fetched {
+        to: end,
+        failed: got < 0,
+    }
 }
 
-// One read, and the replies to the lines that it completes, written out.
+// One read, and the replies to the lines that it completes, written out. Where the read fails, the unfinished line is not
+// complete: it is not run.
 fn turn(
     sheet: &mut [u32; SHEET_WORDS],
     places: &mut [u8; STORE_BYTES],
@@ -121,7 +131,11 @@ fn turn(
     ensures { λ r. ⌜ Turns (panel (now (sheet .entry)) (now (places .entry))) (now (buf .entry)) (s .kept) (now (buf .exit)) (panel (now (sheet .exit)) (now (places .exit))) (r .kept) (r .go) ⌝ }
 {
     let kept = s.kept;
-    let n = read_block(buf, kept);
+    let read = read_block(buf, kept);
+    if read.failed {
+        return stopped();
+    }
+    let n = read.to;
     if n == kept {
         return finish(sheet, places, &buf[0..kept], out);
     }
@@ -134,7 +148,7 @@ fn turn(
     }
 }
 
-// A proved loop has to end, and nothing says that the input does, so the turns are counted down.
+// Lines are taken until the input ends. A proved loop has to end, and nothing says that the input does, so the turns are counted down.
 fn run(
     sheet: &mut [u32; SHEET_WORDS],
     places: &mut [u8; STORE_BYTES],
@@ -142,6 +156,7 @@ fn run(
     out: &mut [u8],
 )
     requires { ⌜ (length (now buf) ≡ bufferBytes) × (length (now out) ≡ block) ⌝ }
+    ensures { λ _. ⌜ TakesLines (panel (now (sheet .entry)) (now (places .entry))) (panel (now (sheet .exit)) (now (places .exit))) ⌝ }
 {
     let mut turns = u64::MAX;
     let mut s = State { kept: 0, go: true };

@@ -1,8 +1,9 @@
--- `panel::run` meets its contract; its loop keeps the lengths, and the unfinished line within its limit. Assumes nothing.
+-- `panel::run` meets its contract; its loop keeps the lengths, the unfinished line within its limit, and the panel after the lines taken. Assumes nothing.
 use Prim.Native.Nat.{_+_, _≤_}
 use mathlib.Core.Path.{_≡_}
 use lib.ListN.{length}
-use Rattle.panel.specs.Contracts.{block, mostKept, bufferBytes}
+use Rattle.monitor.specs.Panel.{panel}
+use Rattle.panel.specs.Contracts.{block, mostKept, bufferBytes, TakesLines}
 use Rattle.panel.proofs.TurnWays.{run-ways}
 use Rattle.panel.proofs.run.Statement.{statement}
 use Rattle.panel.proofs.run.Tie as tie
@@ -10,6 +11,7 @@ use Rattle.panel.proofs.run.Tie as tie
 abbrev Inv-loop : tie.InvT-loop
 Inv-loop sheet₀ places₀ buf₀ out₀ turns₀ s₀ sheet places buf out turns s =
     (s .kept ≤ mostKept) × (length buf ≡ bufferBytes) × (length out ≡ block) × (length buf₀ ≡ bufferBytes) × (length out₀ ≡ block)
+    × TakesLines (panel sheet₀ places₀) (panel sheet places)
 
 abbrev μ-loop : tie.MeasureT-loop
 μ-loop sheet₀ places₀ buf₀ out₀ turns₀ s₀ sheet places buf out turns s = turns

@@ -8,6 +8,9 @@ turn-spec =
     tie.close
     (tie.spec
     (λ c κs. search turn-ways)
+    (λ c κs. search turn-ways)
+    (λ c. search turn-ways)
+    (λ c. search turn-ways)
     (λ c. search turn-ways)
     (λ c. search turn-ways)
     (λ c. search turn-ways)
