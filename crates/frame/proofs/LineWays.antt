@@ -14,8 +14,9 @@ use Rattle.expression.specs.Refusal.{accepted}
 use Rattle.record.specs.declared.Answer.{Answer}
 use Rattle.monitor.specs.Call.{Call}
 use Rattle.monitor.specs.Panel.{Panel, panel, ifAccepted}
-use Rattle.hexadecimal.specs.Text.{bytesOf, textOf, withFront, bytesWithin, answerOf, outputOf, textWithin, Decodes, Encodes}
+use Rattle.hexadecimal.specs.Text.{isText, bytesOf, textOf, withFront, bytesWithin, answerOf, outputOf, textWithin, Decodes, Encodes}
 use Rattle.hexadecimal.specs.declared.Decoded.{Decoded}
+use Rattle.hexadecimal.specs.declared.Encoded.{Encoded}
 use Rattle.hexadecimal.proofs.TextWays.{length-textOf}
 use Rattle.hexadecimal.proofs.Laws.{bytesWithin-room, textWithin-room}
 use Rattle.frame.specs.Frames.{mostAnswer, frameCall, frameReply, frameNumber, frameAnswer, frameAfter}
@@ -46,11 +47,12 @@ withPart from mid part = take from mid ++ (part ++ drop (length mid - from) (dro
 abbrev partOf : ℕ → List ℕ → List ℕ
 partOf from mid = take (length mid - from) (drop from mid)
 
-module _ (number : ℕ) (answer out : List ℕ) {mid part : List ℕ} {from more : ℕ} where
-  pub written : Encodes (number ∷ []) out mid from → Encodes answer (take (length mid - from) (drop from mid)) part more → mostReply ≤ length out → length answer ≤ mostAnswer
-      → Writes number answer out (take from mid ++ (part ++ drop (length mid - from) (drop from mid))) (from + more)
+module _ (number : ℕ) (answer out : List ℕ) {mid part : List ℕ} {head tail : Encoded} where
+  pub written : Encodes (number ∷ []) out mid head → Encodes answer (take (length mid - head .length) (drop (head .length) mid)) part tail → mostReply ≤ length out → length answer ≤ mostAnswer
+      → Writes number answer out (take (head .length) mid ++ (part ++ drop (length mid - head .length) (drop (head .length) mid))) (head .length + tail .length)
   unfolding textOf
   written e f h l =
+      let from = head .length in
       let first = textOf (number ∷ []) in
       let one : textWithin (length out) (number ∷ []) ≡ first = textWithin-room (length out) (number ∷ []) (omega arith) in
       let two : from ≡ 2 = e .answer ∙ ap length one in
@@ -60,7 +62,7 @@ module _ (number : ℕ) (answer out : List ℕ) {mid part : List ℕ} {from more
       let left : length (partOf from mid) ≡ length mid - from = ap length (take-all (length mid - from) (drop from mid) (omega (arith, length-drop from mid))) ∙ length-drop from mid in
       let other : textWithin (length (partOf from mid)) answer ≡ textOf answer = textWithin-room (length (partOf from mid)) answer (omega arith) in
       let size : length (textOf answer) ≡ length answer * 2 = length-textOf answer in
-      let more-is : more ≡ length (textOf answer) = f .answer ∙ ap length other in
+      let more-is : tail .length ≡ length (textOf answer) = f .answer ∙ ap length other in
       record {
         measured = omega arith;
         output =
@@ -93,20 +95,20 @@ module _ (line room : List ℕ) {after : List ℕ} {d : Decoded} (reads : Decode
   within : bytesWithin (length room) line ≡ bytesOf line
   within = bytesWithin-room (length room) line (omega arith)
 
-  answered : d ≡ answerOf (bytesOf line)
-  answered = reads .answer ∙ ap answerOf within
+  answered : d ≡ answerOf (isText line) (bytesOf line)
+  answered = reads .answer ∙ ap (answerOf (isText line)) within
 
   unread : not (d .ok) ≡ true → bytesOf line ≡ none
   unread n = go (bytesOf line) answered
     where
-      go : (o : Option (List ℕ)) → d ≡ answerOf o → o ≡ none
+      go : (o : Option (List ℕ)) → d ≡ answerOf (isText line) o → o ≡ none
       go none e = refl
       go (some bytes) e = absurd (true≢false (sym n ∙ ap (λ (x : Decoded). not (x .ok)) e))
 
   read : not (d .ok) ≡ false → bytesOf line ≡ some (take (d .length - 0) after)
   read n = go (bytesOf line) answered (reads .output ∙ ap (λ o. outputOf o room) within)
     where
-      go : (o : Option (List ℕ)) → d ≡ answerOf o → after ≡ outputOf o room → o ≡ some (take (d .length - 0) after)
+      go : (o : Option (List ℕ)) → d ≡ answerOf (isText line) o → after ≡ outputOf o room → o ≡ some (take (d .length - 0) after)
       go none e f = absurd (true≢false (ap (λ (x : Decoded). not (x .ok)) (sym e) ∙ n))
       go (some bytes) e f =
           let size : d .length ≡ length bytes = ap (λ (x : Decoded). x .length) e in

@@ -21,9 +21,11 @@ fn write_reply(number: u8, answer: &[u8], out: &mut [u8]) -> usize
     ensures { λ r. ⌜ Writes number (now (answer .entry)) (now (out .entry)) (now (out .exit)) r ⌝ }
 {
     let first = [number];
-    let from = hexadecimal::encode(&first, out);
+    let head = hexadecimal::encode(&first, out);
+    let from = head.length;
     let to = out.len();
-    from + hexadecimal::encode(answer, &mut out[from..to])
+    let tail = hexadecimal::encode(answer, &mut out[from..to]);
+    from + tail.length
 }
 
 // A number alone.

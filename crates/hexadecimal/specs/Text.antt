@@ -1,13 +1,14 @@
 -- The bytes that a line of digit pairs stands for, the text of bytes, and what reading and writing them answer. Assumes nothing.
 use Prim.Native.Nat.{ℕ, _/_, _%_, _≤_}
 use mathlib.Core.Path.{_≡_}
-use mathlib.Core.Bool.{true, false, _&&_, cond}
+use mathlib.Core.Bool.{Bool, true, false, _&&_, cond}
 use mathlib.Core.List.{List, [], _∷_, _++_}
 use mathlib.Core.Option.{Option, none, some}
 use lib.Dec.{leb, eqb}
 use lib.ListN.{length, drop}
 use Rattle.hexadecimal.specs.Digits.{allDigits, byteOf, characterOf}
 use Rattle.hexadecimal.specs.declared.Decoded.{Decoded}
+use Rattle.hexadecimal.specs.declared.Encoded.{Encoded}
 
 -- the byte of each pair of characters
 unfoldable pub pairBytes : List ℕ → List ℕ
@@ -15,9 +16,13 @@ pairBytes [] = []
 pairBytes (c ∷ []) = []
 pairBytes (c ∷ d ∷ s) = byteOf c d ∷ pairBytes s
 
--- The bytes that a line stands for; none where a character is no digit or the number of characters is odd.
+-- a line made of digit pairs: its characters are even in number, and all of them digits
+abbrev pub isText : List ℕ → Bool
+isText line = eqb (length line % 2) 0 && allDigits line
+
+-- The bytes that a line stands for; none where it is not made of digit pairs.
 unfoldable pub bytesOf : List ℕ → Option (List ℕ)
-bytesOf line = cond (eqb (length line % 2) 0 && allDigits line) (some (pairBytes line)) none
+bytesOf line = cond (isText line) (some (pairBytes line)) none
 
 -- the bytes as digit pairs, in lower case
 unfoldable pub textOf : List ℕ → List ℕ
@@ -32,9 +37,10 @@ withFront bytes before = bytes ++ drop (length bytes) before
 unfoldable pub bytesWithin : ℕ → List ℕ → Option (List ℕ)
 bytesWithin room line = cond (leb (length line / 2) room) (bytesOf line) none
 
-abbrev pub answerOf : Option (List ℕ) → Decoded
-answerOf none = record { ok = false; length = 0 }
-answerOf (some bytes) = record { ok = true; length = length bytes }
+-- what is answered of a line, by whether it is made of digit pairs and the bytes that it is read into
+abbrev pub answerOf : Bool → Option (List ℕ) → Decoded
+answerOf digits none = record { ok = false; digits = digits; length = 0 }
+answerOf digits (some bytes) = record { ok = true; digits = digits; length = length bytes }
 
 abbrev pub outputOf : Option (List ℕ) → List ℕ → List ℕ
 outputOf none before = before
@@ -42,7 +48,7 @@ outputOf (some bytes) before = withFront bytes before
 
 -- A line read into an output: the answer, and the whole output after it.
 pub record Decodes (line before after : List ℕ) (r : Decoded) : Type 0 where
-  pub answer : r ≡ answerOf (bytesWithin (length before) line)
+  pub answer : r ≡ answerOf (isText line) (bytesWithin (length before) line)
   pub output : after ≡ outputOf (bytesWithin (length before) line) before
   pub inside : r .length ≤ length before
 
@@ -50,8 +56,9 @@ pub record Decodes (line before after : List ℕ) (r : Decoded) : Type 0 where
 unfoldable pub textWithin : ℕ → List ℕ → List ℕ
 textWithin room bytes = cond (leb (length (textOf bytes)) room) (textOf bytes) []
 
--- Bytes written as text into an output: the text's length, and the whole output after it.
-pub record Encodes (bytes before after : List ℕ) (r : ℕ) : Type 0 where
-  pub answer : r ≡ length (textWithin (length before) bytes)
+-- Bytes written as text into an output: whether they had room, the text's length, and the whole output after it.
+pub record Encodes (bytes before after : List ℕ) (r : Encoded) : Type 0 where
+  pub fits : r .ok ≡ leb (length (textOf bytes)) (length before)
+  pub answer : r .length ≡ length (textWithin (length before) bytes)
   pub output : after ≡ withFront (textWithin (length before) bytes) before
-  pub inside : r ≤ length before
+  pub inside : r .length ≤ length before

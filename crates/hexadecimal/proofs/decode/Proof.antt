@@ -8,8 +8,8 @@ decode-spec =
     tie.close
     (tie.spec
     (λ c. search decode-ways)
-    (λ c. search decode-ways)
     (λ c κs. search decode-ways)
+    (λ c. search decode-ways)
     (λ c. search decode-ways)
     (λ c κs. search decode-ways)
     (λ c. search decode-ways)

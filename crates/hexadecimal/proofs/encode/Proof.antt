@@ -1,5 +1,4 @@
 -- `hexadecimal::encode` meets its contract. Assumes nothing.
-use native.Mathlib.Omega.{arith}
 use Rattle.hexadecimal.proofs.TextWays.{encode-ways}
 use Rattle.hexadecimal.proofs.encode.Statement.{statement}
 use Rattle.hexadecimal.proofs.encode.Tie as tie
@@ -10,6 +9,6 @@ encode-spec =
     (tie.spec
     (λ c. search encode-ways)
     (λ c κs. search encode-ways)
-    (λ c. omega arith)
+    (λ c. search encode-ways)
     (λ c. search encode-ways)
     (λ c. search encode-ways))
