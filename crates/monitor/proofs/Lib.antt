@@ -13,3 +13,6 @@ pub mod Demand3
 pub mod AnswerWays
 pub mod StoreWays
 pub mod LoadWays
+pub mod Meanings
+pub mod MeaningsSheet
+pub mod MeaningsBook
