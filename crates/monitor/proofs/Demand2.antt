@@ -3,9 +3,8 @@ use Prim.Native.Nat.{ℕ, _≤_}
 use native.Mathlib.Omega.{arith}
 use mathlib.Core.Path.{_≡_, ap, sym, subst, _∙_}
 use mathlib.Core.Option.{some}
-use mathlib.Core.List.{List, _++_}
+use mathlib.Core.List.{List}
 use lib.ListN.{length}
-use lib.ListN as lists
 use Rattle.expression.specs.Refusal.{accepted}
 use Rattle.expression.specs.Limits.{mostTokens}
 use Rattle.expression.specs.Token.{class}
@@ -14,7 +13,7 @@ use Rattle.expression.specs.Tree.{Tree, recordOf, Over}
 use Rattle.expression.specs.Tree as tree
 use Rattle.expression.specs.Decode.{treeOf}
 use Rattle.expression.specs.Operand.{rowOf}
-use Rattle.expression.specs.Checks.{recordBytes, rowTokens, rowChecks, recordChecks, rowNumber, recordNumber, buildNumber, repairNumber, yieldNumber}
+use Rattle.expression.specs.Checks.{recordBytes, rowTokens, rowChecks, recordChecks, rowNumber, recordNumber, buildNumber, yieldNumber}
 use Rattle.expression.proofs.Classes.{brackets}
 use Rattle.expression.proofs.RecordsAndTrees.{treeOf-record, record-injective}
 use Rattle.expression.proofs.Lengths.{same-row-same-length}
@@ -32,7 +31,7 @@ use Rattle.monitor.proofs.Slots.{HeldTree, bytes-long, put-row-holds, p
 use Rattle.monitor.proofs.Stands.{same-number}
 use Rattle.monitor.proofs.Replies.{answers}
 use Rattle.monitor.proofs.Histories.{stands}
-use Rattle.monitor.proofs.Placed.{ops, rules, same-ops, same-rules, sheet-in-force, within-accepted}
+use Rattle.monitor.proofs.Placed.{ops, rules, same-ops, same-rules, sheet-in-force, within-accepted, answered-by, repair-accepted}
 
 module _ (cs : List Call) where
   same-operators : steps.ops (panelAfter cs) ≡ ops cs
@@ -52,7 +51,7 @@ module _ (cs : List Call) where
           let z : answer cs (ask (build row out)) .number ≡ accepted =
           ap (λ m. buildNumber m row (length out)) same-operators
           ∙ first-roomy (rowChecks (ops cs) row) (recordBytes row) (length out) e (row-numbered (ops cs) row) (omega (arith, bytes-long g, ap length (g .recorded))) in
-          (z, rw z (ap (λ x. x ++ lists.drop (length x) out) (g .recorded)))
+          answered-by cs (build row out) (recordOf t) z (g .recorded)
 
   module _ (t : Tree) (over : Over (class (ops cs)) t) (within : Within t) where
     fits : recordNumber (ops cs) (recordOf t) ≡ accepted
@@ -67,15 +66,11 @@ module _ (cs : List Call) where
         let z : answer cs (ask (yield (recordOf t) out)) .number ≡ accepted =
         ap (λ m. yieldNumber m (recordOf t) (length out)) same-operators
         ∙ first-roomy (recordChecks (ops cs) (recordOf t)) (rowTokens (treeOf (class (ops cs)) (recordOf t))) (length out) fits (record-numbered (ops cs) (recordOf t))
-        (omega (arith, ap rowTokens read-back)) in (
-          z,
-          rw z (ap (λ x. x ++ lists.drop (length x) out)
-              (ap (λ m. rowOf (treeOf (class m) (recordOf t))) same-operators ∙ ap rowOf read-back)),
-        )
+        (omega (arith, ap rowTokens read-back)) in
+        answered-by cs (yield (recordOf t) out) (tree.yield t) z (ap (λ m. rowOf (treeOf (class m) (recordOf t))) same-operators ∙ ap rowOf read-back)
 
     repaired-tree : (u : Tree) × ConflictFreeTree (ops cs) (rules cs) (tree.yield t) u
         × ((out : List ℕ) → length (recordOf u) ≤ length out → AnsweredBy cs (ask (repair (recordOf t) out)) out (recordOf u))
-    unfolding repairNumber recordNumber
     repaired-tree =
         let (u, g) = put-record-holds (panelAfter cs .sheet) (ops cs) (rules cs) (sheet-in-force cs) (recordOf t) fits in
         (u, free u (g .tree), λ out room. answered u (free u (g .tree)) (g .recorded) out room)
@@ -86,11 +81,8 @@ module _ (cs : List Call) where
         answered : (u : Tree) → ConflictFreeTree (ops cs) (rules cs) (tree.yield t) u → rebuilt (panelAfter cs .sheet) (recordOf t) ≡ recordOf u
             → (out : List ℕ) → length (recordOf u) ≤ length out → AnsweredBy cs (ask (repair (recordOf t) out)) out (recordOf u)
         answered u h e out room =
-            let z : answer cs (ask (repair (recordOf t) out)) .number ≡ accepted =
-            ap (λ m. repairNumber m (recordOf t) (length out)) same-operators
-            ∙ first-roomy (recordChecks (ops cs) (recordOf t)) (length (recordOf t)) (length out) fits (record-numbered (ops cs) (recordOf t))
-            (omega (arith, same-row-same-length (class (ops cs)) (brackets (ops cs)) t u over (h .over) (sym (h .yields)))) in
-            (z, rw z (ap (λ x. x ++ lists.drop (length x) out) e))
+            let z = repair-accepted cs t fits out (omega (arith, same-row-same-length (class (ops cs)) (brackets (ops cs)) t u over (h .over) (sym (h .yields)))) in
+            answered-by cs (repair (recordOf t) out) (recordOf u) z e
 
     counted : (answer cs (ask (judge (recordOf t))) .number ≡ accepted) × (answer cs (ask (judge (recordOf t))) .count ≡ conflictCount (rules cs) t)
     counted = (number, same (answers (panelAfter cs) (bookAfter cs) (stands cs) (ask (judge (recordOf t))) .rest .count .0 (sym (same-number (panelAfter cs) (bookAfter cs) (stands cs) (ask (judge (recordOf t)))) ∙ number)))

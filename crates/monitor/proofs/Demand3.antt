@@ -5,19 +5,21 @@ use native.Mathlib.Decide.{ℕ-discrete}
 use mathlib.Core.Path.{_≡_, refl, ap, sym, subst, _∙_}
 use mathlib.Core.Bool.{Bool, true, false, not, _&&_, cond}
 use mathlib.Core.Logic.{_↔_, _⊎_, inl, inr}
+use mathlib.Core.Option.{some}
 use mathlib.Core.List.{List, [], _∷_, _++_, append-nil}
 use lib.ListN.{length, drop-of-length-le}
 use lib.ListN as lists
+use borrow.Author.Tests.{eq-eqb}
 use Rattle.expression.specs.Refusal.{accepted}
 use Rattle.expression.specs.Token.{Operators, operators, class}
 use Rattle.expression.specs.Tree.{Tree, recordOf, Over}
 use Rattle.expression.specs.Tree as tree
 use Rattle.expression.specs.Decode.{treeOf}
 use Rattle.expression.specs.Operand.{rowOf}
-use Rattle.expression.specs.Checks.{recordChecks, recordNumber, repairNumber}
+use Rattle.expression.specs.Checks.{recordNumber}
 use Rattle.expression.proofs.Classes.{brackets}
 use Rattle.expression.proofs.RecordsAndTrees.{treeOf-record}
-use Rattle.expression.proofs.Numbers.{first-refused, first-append, first-roomy, passed-first, record-numbered}
+use Rattle.expression.proofs.Numbers.{first-refused, first-append, passed-first}
 use Rattle.disambiguation.specs.Rules.{Rule, L, R}
 use Rattle.disambiguation.specs.ExactlyOne.{SomeRowHasNone, SomeRowHasTwo}
 use Rattle.disambiguation.specs.Verdict.{safe, total, level, verdict}
@@ -28,17 +30,21 @@ use Rattle.sheet.specs.Relation.{closesIn}
 use Rattle.parser.specs.Build.{built}
 use Rattle.parser.proofs.InForceBuilds.{built-equal-exactly-if, built-keeps-length}
 use Rattle.places.specs.Store.{held}
-use Rattle.monitor.specs.Call.{Call, load, loadList, ask, repair}
+use Rattle.monitor.specs.Call.{Call, Reply, load, loadList, putRecord, repair}
 use Rattle.monitor.specs.Panel.{inUseCheck, sheetChecks, rebuilt}
 use Rattle.monitor.specs.Steps.{loadNumber}
-use Rattle.monitor.specs.Steps as steps
-use Rattle.monitor.specs.Run.{panelAfter, answer, bookAfter, RepairsTo}
+use Rattle.monitor.specs.Answers.{Answers}
+use Rattle.monitor.specs.Run.{panelAfter, answer, bookAfter, lastPut, Each, RepairsTo}
+use Rattle.monitor.specs.Meaning.{Means}
 use Rattle.monitor.specs.Promises.{Within, ForItsRules, Demand3}
 use Rattle.monitor.proofs.Replies.{answers}
 use Rattle.monitor.proofs.Keeping.{sheet-numbered}
-use Rattle.monitor.proofs.Histories.{stands}
-use Rattle.monitor.proofs.Placed.{ops, rules, sheet-in-force, exactly-one, within-accepted}
+use Rattle.monitor.proofs.Histories.{stands, book-in-force, book-slot}
+use Rattle.monitor.proofs.Placed.{ops, rules, same-ops, same-rules, sheet-in-force, exactly-one, within-accepted, answered-by, repair-accepted}
+use Rattle.monitor.proofs.MeaningsBook.{means}
 use Rattle.monitor.proofs.Filling.{holds-last-put, filled-exactly-if-put}
+use Rattle.monitor.proofs.OneAnswer.{answers-same}
+use Rattle.monitor.proofs.SameLengths.{load-keeps-lengths}
 
 -- a verdict is 4, 5 or 0
 verdict-values : (m : Operators) (given : List Rule) → ForItsRules (verdict m given) ⊎ (verdict m given ≡ accepted)
@@ -50,7 +56,29 @@ verdict-values m given = go (safe m (L given) (R given)) (total m (L given) (R g
     go true false = inl (inr refl)
     go true true = inr refl
 
+-- an answer as long as the output, or longer, is all of it
+whole-output : (bytes out : List ℕ) → length out ≤ length bytes → bytes ++ lists.drop (length bytes) out ≡ bytes
+whole-output bytes out h = ap (λ x. bytes ++ x) (drop-of-length-le out h) ∙ append-nil bytes
+
+-- each answer of a list is the book's
+each-answered : (cs : List Call) → Each (λ before c. Answers (bookAfter before) c (answer before c)) cs
+each-answered [] = tt
+each-answered (c ∷ cs) = (answers (panelAfter cs) (bookAfter cs) (stands cs) c, each-answered cs)
+
+-- and each number has its meaning
+each-means : (cs : List Call) → Each (λ before c. Means (bookAfter before) c (answer before c .number)) cs
+each-means [] = tt
+each-means (c ∷ cs) = (means cs c, each-means cs)
+
 module _ (cs : List Call) where
+  record-entered : (k : ℕ) (t : Tree) → Over (class (ops cs)) t → answer cs (putRecord k (recordOf t)) .number ≡ accepted
+      → lastPut k (putRecord k (recordOf t) ∷ cs) ≡ some (tree.yield t)
+  unfolding lastPut
+  record-entered k t over z = rw (z, eq-eqb k k refl) (ap (λ x. some (rowOf x)) (treeOf-record (class (ops cs)) (brackets (ops cs)) t over))
+
+  book-answers-one : (c : Call) (r s : Reply) → Answers (bookAfter cs) c r → Answers (bookAfter cs) c s → r ≡ s
+  book-answers-one = answers-same (bookAfter cs) (rw (same-ops cs, same-rules cs) (exactly-one cs))
+
   -- ---- a sheet in order
   module _ (m : ℕ) (bytes : List ℕ) (order : InOrder m bytes) where
     load-number : (sheetNumber m bytes ≡ accepted → ⊥) → answer cs (load m bytes) .number ≡ sheetNumber m bytes
@@ -101,31 +129,28 @@ module _ (cs : List Call) where
 
   -- ---- repair
   module _ (t : Tree) (over : Over (class (ops cs)) t) (fits : recordNumber (ops cs) (recordOf t) ≡ accepted) where
-    same-operators : steps.ops (panelAfter cs) ≡ ops cs
-    same-operators = sheet-in-force cs .operators
-
     repaired : rebuilt (panelAfter cs .sheet) (recordOf t) ≡ built (closesIn (panelAfter cs .sheet)) (tree.yield t)
     repaired =
-        ap (λ o. built (closesIn (panelAfter cs .sheet)) (rowOf (treeOf (class o) (recordOf t)))) same-operators
+        ap (λ o. built (closesIn (panelAfter cs .sheet)) (rowOf (treeOf (class o) (recordOf t)))) (sheet-in-force cs .operators)
         ∙ ap (λ x. built (closesIn (panelAfter cs .sheet)) (rowOf x)) (treeOf-record (class (ops cs)) (brackets (ops cs)) t over)
 
     keeps-length : length (built (closesIn (panelAfter cs .sheet)) (tree.yield t)) ≡ length (recordOf t)
     keeps-length = built-keeps-length (panelAfter cs .sheet) (ops cs) (rules cs) (sheet-in-force cs) t over
 
     repairs-to : RepairsTo cs t (built (closesIn (panelAfter cs .sheet)) (tree.yield t))
-    unfolding repairNumber recordNumber
-    repairs-to out room =
-        let z : answer cs (ask (repair (recordOf t) out)) .number ≡ accepted =
-        ap (λ m. repairNumber m (recordOf t) (length out)) same-operators
-        ∙ first-roomy (recordChecks (ops cs) (recordOf t)) (length (recordOf t)) (length out) fits (record-numbered (ops cs) (recordOf t)) (omega arith) in
-        let past : length out ≤ length (built (closesIn (panelAfter cs .sheet)) (tree.yield t)) = omega (arith, keeps-length) in (
-          z,
-          rw z (ap (λ x. x ++ lists.drop (length x) out) repaired) ∙ ap (λ x. built (closesIn (panelAfter cs .sheet)) (tree.yield t) ++ x) (drop-of-length-le out past)
-              ∙ append-nil (built (closesIn (panelAfter cs .sheet)) (tree.yield t)),
-        )
+    repairs-to =
+        record {
+          accepts = repair-accepted cs t fits;
+          answers = λ out z. answered-by cs (repair (recordOf t) out) (built (closesIn (panelAfter cs .sheet)) (tree.yield t)) z repaired;
+        }
 
     repairs-only-to : (bytes : List ℕ) → RepairsTo cs t bytes → bytes ≡ built (closesIn (panelAfter cs .sheet)) (tree.yield t)
-    repairs-only-to bytes f = sym (f (recordOf t) refl .1) ∙ repairs-to (recordOf t) refl .1
+    repairs-only-to bytes f =
+        let z = f .accepts (recordOf t) (omega arith) in
+        let (_, l, o) = f .answers (recordOf t) z in
+        let (_, m, p) = repairs-to .answers (recordOf t) z in
+        sym (whole-output bytes (recordOf t) (omega (arith, l, m, keeps-length))) ∙ sym o ∙ p
+        ∙ whole-output (built (closesIn (panelAfter cs .sheet)) (tree.yield t)) (recordOf t) (omega (arith, keeps-length))
 
   same-bytes-exactly-if : (t u : Tree) → Over (class (ops cs)) t → Over (class (ops cs)) u → Within t → Within u
       → ((bytes : List ℕ) × RepairsTo cs t bytes × RepairsTo cs u bytes) ↔ (tree.yield t ≡ tree.yield u)
@@ -147,7 +172,13 @@ demand-3 cs =
       one-tree = exactly-one cs;
       filled = filled-exactly-if-put cs;
       held-tree = holds-last-put cs;
-      answered = answers (panelAfter cs) (bookAfter cs) (stands cs);
+      book-sheet = book-in-force cs;
+      book-slots = λ k. book-slot k cs;
+      record-entered = record-entered cs;
+      answered = each-answered cs;
+      one-answer = book-answers-one cs;
+      numbers = each-means cs;
+      same-lengths = load-keeps-lengths cs;
       refused = refused-exactly-if cs;
       refused-list = refused-list-exactly-if cs;
       same-bytes = same-bytes-exactly-if cs;

@@ -7,12 +7,14 @@ pub mod Keeping
 pub mod Histories
 pub mod Placed
 pub mod Filling
+pub mod OneAnswer
+pub mod SameLengths
+pub mod Meanings
+pub mod MeaningsSheet
+pub mod MeaningsBook
 pub mod Demand1
 pub mod Demand2
 pub mod Demand3
 pub mod AnswerWays
 pub mod StoreWays
 pub mod LoadWays
-pub mod Meanings
-pub mod MeaningsSheet
-pub mod MeaningsBook

@@ -14,16 +14,17 @@ use Rattle.expression.specs.Tree.{Tree, recordOf, Over}
 use Rattle.expression.specs.Tree as tree
 use Rattle.expression.specs.Operand.{rowOf}
 use Rattle.expression.specs.Decode.{treeOf}
-use Rattle.expression.specs.Checks.{shortCheck, recordBytes, recordNumber}
-use Rattle.expression.proofs.Numbers.{record-accepted}
+use Rattle.expression.specs.Checks.{shortCheck, recordBytes, recordChecks, recordNumber, repairNumber}
+use Rattle.expression.proofs.Numbers.{first-roomy, record-numbered, record-accepted}
 use Rattle.disambiguation.specs.Rules.{Rule}
 use Rattle.disambiguation.specs.ExactlyOne.{EveryRowHasExactlyOne}
 use Rattle.sheet.specs.InForce.{InForce}
 use Rattle.sheet.proofs.Laws.{every-row-has-one}
 use Rattle.places.specs.Store.{placeCount, slotBytes, held, imageOf}
 use Rattle.places.proofs.Images.{length-image}
-use Rattle.monitor.specs.Call.{Call, ask, fetchRecord, fetchRow, image}
+use Rattle.monitor.specs.Call.{Question, Call, lentBefore, ask, fetchRecord, fetchRow, image, repair}
 use Rattle.monitor.specs.Panel.{placeCheck}
+use Rattle.monitor.specs.Steps.{told}
 use Rattle.monitor.specs.Book.{rowIn, isBlank, blankCheck, slotRow, bookNumber}
 use Rattle.monitor.specs.Run.{panelAfter, answer, bookAfter, Rules, inForce, lastPut, AnsweredBy, HoldsTree}
 use Rattle.monitor.specs.Promises.{Within}
@@ -60,6 +61,17 @@ module _ (cs : List Call) where
   slot-holds k h row q =
       rw (← same-ops, ← same-rules) (subst (λ slot. Holds (bookAfter cs .operators) (bookAfter cs .rules) slot (held (panelAfter cs .places) k)) (book-slot k cs ∙ q) (stands cs .holds k h))
 
+  -- an accepted question with these bytes as its answer
+  pub answered-by : (q : Question) (bytes : List ℕ) → told (panelAfter cs) q .number ≡ accepted → told (panelAfter cs) q .answer ≡ bytes → AnsweredBy cs (ask q) (lentBefore q) bytes
+  answered-by q bytes z e = (z, rw z (ap length e), rw z (ap (λ x. x ++ lists.drop (length x) (lentBefore q)) e))
+
+  -- a repair of an accepted record, with room for one of its length, is accepted
+  pub repair-accepted : (t : Tree) → recordNumber ops (recordOf t) ≡ accepted → (out : List ℕ) → length (recordOf t) ≤ length out → answer cs (ask (repair (recordOf t) out)) .number ≡ accepted
+  unfolding repairNumber recordNumber
+  repair-accepted t fits out room =
+      ap (λ m. repairNumber m (recordOf t) (length out)) (sheet-in-force .operators)
+      ∙ first-roomy (recordChecks ops (recordOf t)) (length (recordOf t)) (length out) fits (record-numbered ops (recordOf t)) room
+
   -- a list whose place is below 16 and whose slot is not blank
   fetch-number : (k : ℕ) (slot : Option (List ℕ)) (wanted room : ℕ) → k < placeCount → isBlank slot ≡ false → wanted ≤ room
       → first (placeCheck k ∷ blankCheck slot ∷ shortCheck wanted room ∷ []) ≡ accepted
@@ -83,23 +95,21 @@ module _ (cs : List Call) where
         let z = number-as (ask (fetchRecord k out))
         (fetch-number k (bookAfter cs .slots k) (recordBytes (slotRow (bookAfter cs) k)) (length out) h (ap isBlank slot-is)
         (omega (arith, ap recordBytes row-is, bytes-long g, ap length (g .recorded)))) in
-        (z, rw z (ap (λ x. x ++ lists.drop (length x) out) (g .recorded)))
+        answered-by (fetchRecord k out) (recordOf t) z (g .recorded)
 
     holds-row : (out : List ℕ) → length (tree.yield t) ≤ length out → AnsweredBy cs (ask (fetchRow k out)) out (tree.yield t)
     holds-row out l =
         let z = number-as (ask (fetchRow k out))
         (fetch-number k (bookAfter cs .slots k) (length (slotRow (bookAfter cs) k)) (length out) h (ap isBlank slot-is)
-        (omega (arith, ap length row-is, ap length (g .tree .yields)))) in (
-          z,
-          rw z (ap (λ x. x ++ lists.drop (length x) out)
-              (ap (λ o. rowOf (treeOf (class o) (held (panelAfter cs .places) k))) (sheet-in-force .operators) ∙ row-back g ∙ sym (g .tree .yields))),
-        )
+        (omega (arith, ap length row-is, ap length (g .tree .yields)))) in
+        answered-by (fetchRow k out) (tree.yield t) z
+        (ap (λ o. rowOf (treeOf (class o) (held (panelAfter cs .places) k))) (sheet-in-force .operators) ∙ row-back g ∙ sym (g .tree .yields))
 
     holds-image : (out : List ℕ) → length (imageOf (recordOf t)) ≤ length out → AnsweredBy cs (ask (image k out)) out (imageOf (recordOf t))
     holds-image out l =
         let size : length (imageOf (recordOf t)) ≡ slotBytes = length-image (recordOf t) (omega (arith, bytes-fit g, ap length (g .recorded))) in
         let z = number-as (ask (image k out)) (image-number k (length out) h (omega (arith, size))) in
-        (z, rw z (ap (λ x. imageOf x ++ lists.drop (length (imageOf x)) out) (g .recorded)))
+        answered-by (image k out) (imageOf (recordOf t)) z (ap imageOf (g .recorded))
 
     pub holds-tree : HoldsTree cs k t
     holds-tree = record { fetches-record = holds-record; fetches-row = holds-row; images = holds-image }

@@ -48,7 +48,7 @@ module _ (b : Book) where
   abbrev pub WithRoom : Question → ℕ → Type 0
   WithRoom q = When ((answer : List ℕ) × Told b q answer × (length (lentBefore q) < length answer)) short Accepted
 
-  -- A row: 1, over 255 tokens; 3, a byte without meaning; 6, no row over the operators.
+  -- A row: 1, over 255 tokens; 3, a byte without meaning (as is an operator not below n); 6, no row over the operators.
   abbrev pub OfRow : List ℕ → (ℕ → Type 0) → ℕ → Type 0
   OfRow row Else =
       When (mostTokens < length row) oversize

@@ -5,7 +5,7 @@ use Prim.Native.Nat.{ℕ, _≤_}
 use mathlib.Core.Path.{_≡_}
 use mathlib.Core.Logic.{_↔_, _⊎_}
 use mathlib.Core.Option.{some}
-use mathlib.Core.List.{List}
+use mathlib.Core.List.{List, _∷_}
 use lib.ListN.{length}
 use Rattle.expression.specs.Limits.{mostTokens, mostRecordBytes}
 use Rattle.expression.specs.Refusal.{accepted, dead, double}
@@ -18,11 +18,12 @@ use Rattle.disambiguation.specs.Conflicts.{conflictCount, ConflictFreeTree}
 use Rattle.disambiguation.specs.ExactlyOne.{SomeRowHasNone, SomeRowHasTwo, EveryRowHasExactlyOne}
 use Rattle.disambiguation.specs.SheetChecks.{rulesOf, InOrder, ListInOrder}
 use Rattle.sheet.specs.InForce.{InForce}
-use Rattle.monitor.specs.Call.{Call, lentTo, load, loadList, ask, build, repair, judge, yield}
+use Rattle.monitor.specs.Call.{Call, Reply, lentTo, load, loadList, putRecord, ask, build, repair, judge, yield}
 use Rattle.monitor.specs.Panel.{Panel}
 use Rattle.monitor.specs.Steps.{after, reply}
 use Rattle.monitor.specs.Answers.{Answers}
-use Rattle.monitor.specs.Run.{panelAfter, answer, bookAfter, inForce, lastPut, AnsweredBy, HoldsTree, Filled, RepairsTo}
+use Rattle.monitor.specs.Meaning.{Means}
+use Rattle.monitor.specs.Run.{panelAfter, answer, bookAfter, ruledBy, inForce, lastPut, Each, IsLoad, AnsweredBy, HoldsTree, Filled, RepairsTo}
 
 -- Demand 1. A refusal changes neither the panel nor a lent buffer. (That its number is document 01's is `answered` below, and each call's contract.)
 pub record Demand1 (p : Panel) (c : Call) : Type 0 where
@@ -69,8 +70,20 @@ module _ (cs : List Call) where
     pub filled : (k : ℕ) → Filled cs k ↔ ((row : List ℕ) × (lastPut k cs ≡ some row))
     -- and it then holds that tree, for the row, or the record's row, of the last accepted put there.
     pub held-tree : (k : ℕ) (row : List ℕ) → lastPut k cs ≡ some row → (t : Tree) × ConflictFreeTree ops rules row t × HoldsTree cs k t
-    -- Whatever is called next, the answer is the one that the book gives.
-    pub answered : (c : Call) → Answers (bookAfter cs) c (answer cs c)
+    -- The book agrees with the list: its operators and rules are those of the last accepted load, its slots those of the last accepted puts;
+    pub book-sheet : ruledBy (bookAfter cs .operators) (bookAfter cs .rules) ≡ inForce cs
+    pub book-slots : (k : ℕ) → bookAfter cs .slots k ≡ lastPut k cs
+    -- an accepted put of a record there enters the row of the tree that the record is of.
+    pub record-entered : (k : ℕ) (t : Tree) → Over (class ops) t → answer cs (putRecord k (recordOf t)) .number ≡ accepted
+        → lastPut k (putRecord k (recordOf t) ∷ cs) ≡ some (tree.yield t)
+    -- Every answer in the list is the one that the book gives after the calls before it,
+    pub answered : Each (λ before c. Answers (bookAfter before) c (answer before c)) cs
+    -- and the book gives one answer.
+    pub one-answer : (c : Call) (r s : Reply) → Answers (bookAfter cs) c r → Answers (bookAfter cs) c s → r ≡ s
+    -- Each number is given under its condition, and under nothing else.
+    pub numbers : Each (λ before c. Means (bookAfter before) c (answer before c .number)) cs
+    -- A load keeps the length of every held record.
+    pub same-lengths : (c : Call) → IsLoad c → (k : ℕ) (t u : Tree) → HoldsTree cs k t → HoldsTree (c ∷ cs) k u → length (recordOf t) ≡ length (recordOf u)
     -- A sheet in order is refused for its rules exactly when some row of any length has no conflict-free tree under it, or two or more: in bytes,
     pub refused : (m : ℕ) (bytes : List ℕ) → InOrder m bytes
         → ForItsRules (answer cs (load m bytes) .number) ↔ (SomeRowHasNone (operators m) (rulesOf bytes) ⊎ SomeRowHasTwo (operators m) (rulesOf bytes))

@@ -66,10 +66,24 @@ lastPut k (drop j ∷ cs) = cond (isAccepted cs (drop j) && eqb k j) none (lastP
 lastPut k (load n rules ∷ cs) = lastPut k cs
 lastPut k (ask q ∷ cs) = lastPut k cs
 
+-- the statement holds of each call of a list, with the calls before it
+abbrev pub Each : (List Call → Call → Type 0) → List Call → Type 0
+Each P [] = Unit {0}
+Each P (c ∷ cs) = P cs c × Each P cs
+
+-- a load in either form
+abbrev pub IsLoad : Call → Type 0
+IsLoad (load n rules) = Unit {0}
+IsLoad (loadList n rules) = Unit {0}
+IsLoad (putRow k row) = ⊥
+IsLoad (putRecord k bytes) = ⊥
+IsLoad (drop k) = ⊥
+IsLoad (ask q) = ⊥
+
 module _ (cs : List Call) where
-  -- the call is accepted, and its output is the bytes, then what stood there before
+  -- the call is accepted, its answer is as long as the bytes, and its output is the bytes, then what stood there before
   abbrev pub AnsweredBy : Call → List ℕ → List ℕ → Type 0
-  AnsweredBy c out bytes = (answer cs c .number ≡ accepted) × (answer cs c .output ≡ bytes ++ lists.drop (length bytes) out)
+  AnsweredBy c out bytes = (answer cs c .number ≡ accepted) × (answer cs c .length ≡ length bytes) × (answer cs c .output ≡ bytes ++ lists.drop (length bytes) out)
 
   -- A place holds a tree: any fetch or image with room enough, called there next, would be accepted and answer from that tree.
   pub record HoldsTree (k : ℕ) (t : Tree) : Type 0 where
@@ -81,7 +95,7 @@ module _ (cs : List Call) where
   abbrev pub Filled : ℕ → Type 0
   Filled k = (t : Tree) × HoldsTree k t
 
-  -- A tree repairs to the bytes that an accepted repair of its record answers: with room for just a record of its length, they are the whole output.
-  abbrev pub RepairsTo : Tree → List ℕ → Type 0
-  RepairsTo t bytes =
-      (out : List ℕ) → length out ≡ length (recordOf t) → (answer cs (ask (repair (recordOf t) out)) .number ≡ accepted) × (answer cs (ask (repair (recordOf t) out)) .output ≡ bytes)
+  -- A tree repairs to bytes: a repair of its record with room for one of its length is accepted, and every accepted one, whatever the room, answers the bytes and leaves the rest.
+  pub record RepairsTo (t : Tree) (bytes : List ℕ) : Type 0 where
+    pub accepts : (out : List ℕ) → length (recordOf t) ≤ length out → answer cs (ask (repair (recordOf t) out)) .number ≡ accepted
+    pub answers : (out : List ℕ) → answer cs (ask (repair (recordOf t) out)) .number ≡ accepted → AnsweredBy (ask (repair (recordOf t) out)) out bytes
