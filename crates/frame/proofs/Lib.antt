@@ -1,5 +1,6 @@
 pub mod KindWays
 pub mod LineWays
+pub mod Meanings
 pub mod LineRuns
 pub mod Examples
 pub mod NeverShort

@@ -10,16 +10,18 @@ use Rattle.monitor.specs.Call.{Question, Call, load, loadList, putRow, putRecor
 use Rattle.monitor.specs.Panel.{Panel, ifAccepted}
 use Rattle.monitor.specs.Steps.{outcome, after}
 use Rattle.monitor.specs.Book.{Book, askedNumber, bookNumber}
-use Rattle.monitor.specs.Run.{panelAfter, bookAfter}
+use Rattle.monitor.specs.Run.{panelAfter, bookAfter, Each}
 use Rattle.monitor.proofs.Stands.{Stands, same-number}
 use Rattle.monitor.proofs.Replies.{tells, answered}
 use Rattle.monitor.proofs.Histories.{stands}
 use Rattle.monitor.proofs.Demand1.{demand-1}
 use Rattle.monitor.proofs.Demand3.{demand-3}
 use Rattle.hexadecimal.specs.Text.{bytesOf, textOf}
-use Rattle.frame.specs.Frames.{toldBytes, answerOf, frameAfter, frameReply}
+use Rattle.frame.specs.Frames.{toldBytes, answerOf, frameNumber, frameAfter, frameReply}
 use Rattle.frame.specs.Lines.{isLong, textCall, lineCall, lineBytes, lineReply, lineAfter}
 use Rattle.frame.specs.Runs.{panelAfterLines, withCall, callsOf, SaidTo, Said, SaysFrame, SaysLine, Says, Demand1OfLines, Demand3OfLines}
+use Rattle.frame.specs.Meaning.{MeansLine}
+use Rattle.frame.proofs.Meanings.{line-means}
 
 -- the first byte of a reply, and the others
 abbrev head : List ℕ → ℕ
@@ -103,5 +105,29 @@ lines-answered lines line =
     let cs = callsOf lines in
     subst (λ p. Says (bookAfter cs) line (lineReply p line)) (sym (panel-after-lines lines)) (says (panelAfter cs) (bookAfter cs) (stands cs) line)
 
+-- the number of a line has its meaning
+module _ (p : Panel) (b : Book) (s : Stands p b) (line : List ℕ) where
+  number-means : (number : ℕ) (answer : List ℕ) → lineBytes p line ≡ number ∷ answer → MeansLine b line number
+  unfolding lineBytes
+  number-means number answer e = subst (MeansLine b line) (go (isLong line) e) (line-means p b s line)
+    where
+      go : (long : Bool) → cond long (oversize ∷ []) (frameReply p (textCall (bytesOf line))) ≡ number ∷ answer → cond long oversize (frameNumber p (textCall (bytesOf line))) ≡ number
+      go true q = ap head q
+      go false q = ap head q
+
+lines-mean : (lines : List (List ℕ)) (line : List ℕ) (number : ℕ) (answer : List ℕ) → lineBytes (panelAfterLines lines) line ≡ number ∷ answer → MeansLine (bookAfter (callsOf lines)) line number
+lines-mean lines line number answer e =
+    let cs = callsOf lines in
+    number-means (panelAfter cs) (bookAfter cs) (stands cs) line number answer (ap (λ p. lineBytes p line) (sym (panel-after-lines lines)) ∙ e)
+
+each-answered : (lines : List (List ℕ)) → Each (λ before line. Says (bookAfter (callsOf before)) line (lineReply (panelAfterLines before) line)) lines
+each-answered [] = tt
+each-answered (line ∷ lines) = (lines-answered lines line, each-answered lines)
+
+each-means : (lines : List (List ℕ))
+    → Each (λ before line. (number : ℕ) (answer : List ℕ) → lineBytes (panelAfterLines before) line ≡ number ∷ answer → MeansLine (bookAfter (callsOf before)) line number) lines
+each-means [] = tt
+each-means (line ∷ lines) = (lines-mean lines line, each-means lines)
+
 pub demand-3-of-lines : (lines : List (List ℕ)) → Demand3OfLines lines
-demand-3-of-lines lines = record { demand = demand-3 (callsOf lines); answered = lines-answered lines }
+demand-3-of-lines lines = record { demand = demand-3 (callsOf lines); answered = each-answered lines; numbers = each-means lines }

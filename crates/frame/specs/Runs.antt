@@ -10,11 +10,12 @@ use Rattle.disambiguation.specs.Conflicts.{conflictCount}
 use Rattle.monitor.specs.Call.{Question, Call, load, loadList, putRow, putRecord, drop, ask, fetchRecord, fetchRow, image, build, repair, judge, yield, operand}
 use Rattle.monitor.specs.Panel.{Panel, fresh}
 use Rattle.monitor.specs.Book.{Book, bookNumber}
-use Rattle.monitor.specs.Run.{bookAfter}
+use Rattle.monitor.specs.Run.{bookAfter, Each}
 use Rattle.monitor.specs.Promises.{Demand3}
 use Rattle.monitor.specs.Answers.{Records, Told, Valued}
 use Rattle.hexadecimal.specs.Text.{bytesOf, textOf}
 use Rattle.frame.specs.Lines.{isLong, textCall, lineCall, lineBytes, lineReply, lineAfter}
+use Rattle.frame.specs.Meaning.{MeansLine}
 
 -- each line gets the panel that the one before it left
 unfoldable pub panelAfterLines : List (List ℕ) → Panel
@@ -72,5 +73,7 @@ pub record Demand1OfLines (p : Panel) (line : List ℕ) : Type 0 where
 pub record Demand3OfLines (lines : List (List ℕ)) : Type 0 where
   -- demand 3 holds of the calls that the lines make;
   pub demand : Demand3 (callsOf lines)
-  -- whatever line comes next, the reply is the one that the book gives.
-  pub answered : (line : List ℕ) → Says (bookAfter (callsOf lines)) line (lineReply (panelAfterLines lines) line)
+  -- the reply to each is the one that the book gives after the lines before it;
+  pub answered : Each (λ before line. Says (bookAfter (callsOf before)) line (lineReply (panelAfterLines before) line)) lines
+  -- and its number is given under its condition, and under nothing else.
+  pub numbers : Each (λ before line. (number : ℕ) (answer : List ℕ) → lineBytes (panelAfterLines before) line ≡ number ∷ answer → MeansLine (bookAfter (callsOf before)) line number) lines

@@ -66,8 +66,8 @@ lastPut k (drop j ∷ cs) = cond (isAccepted cs (drop j) && eqb k j) none (lastP
 lastPut k (load n rules ∷ cs) = lastPut k cs
 lastPut k (ask q ∷ cs) = lastPut k cs
 
--- the statement holds of each call of a list, with the calls before it
-abbrev pub Each : (List Call → Call → Type 0) → List Call → Type 0
+-- the statement holds of each element of a list, with those before it: they follow it in the list
+abbrev pub Each : {A : Type 0} → (List A → A → Type 0) → List A → Type 0
 Each P [] = Unit {0}
 Each P (c ∷ cs) = P cs c × Each P cs
 
