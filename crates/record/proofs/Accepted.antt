@@ -2,13 +2,13 @@
 use Prim.Native.Nat.{ℕ, _≤_}
 use native.Mathlib.Omega.{arith}
 use mathlib.Core.Path.{_≡_, refl, ap, sym, _∙_}
-use mathlib.Core.Bool.{Bool, true, false, cond}
+use mathlib.Core.Bool.{false}
 use mathlib.Core.Option.{Option, none, some}
-use mathlib.Core.List.{List, [], _∷_, _++_}
+use mathlib.Core.List.{List}
 use lib.ListN.{length}
 use borrow.Author.Tests.{ltb-false}
 use Rattle.expression.specs.Limits.{mostTokens, mostRecordBytes}
-use Rattle.expression.specs.Refusal.{Check, Passed, first, accepted}
+use Rattle.expression.specs.Refusal.{Passed, accepted}
 use Rattle.expression.specs.Token.{Operators, class}
 use Rattle.expression.specs.Tree.{Tree, yield}
 use Rattle.expression.specs.Decode.{treeOf}
@@ -19,16 +19,6 @@ use Rattle.expression.proofs.Numbers.{passed-first}
 use Rattle.record.specs.TreeAt.{TreeAt}
 use Rattle.record.specs.Checks.{rowLength}
 use Rattle.record.proofs.Trees.{whole}
-
--- a list that refuses, and what comes after it
-pub first-refused : (cs ds : List Check) → (first cs ≡ accepted → ⊥) → first (cs ++ ds) ≡ first cs
-first-refused [] ds h = absurd (h refl)
-first-refused (c ∷ cs) ds h = go (c .0) (first-refused cs ds) h
-  where
-    go : (b : Bool) → ((first cs ≡ accepted → ⊥) → first (cs ++ ds) ≡ first cs) → (cond b (c .1) (first cs) ≡ accepted → ⊥)
-        → cond b (c .1) (first (cs ++ ds)) ≡ cond b (c .1) (first cs)
-    go true f h = refl
-    go false f h = f h
 
 -- t is the tree of the record
 pub record Accepted (ops : Operators) (bytes : List ℕ) (t : Tree) : Type 0 where

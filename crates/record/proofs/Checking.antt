@@ -1,25 +1,25 @@
 -- What each way through the checks of a record gives. Assumes nothing.
-use Prim.Native.Nat.{ℕ, zero, suc, _+_, _-_, _≤_, _<_}
+use Prim.Native.Nat.{ℕ, _+_, _≤_, _<_}
 use native.Mathlib.Numerals.{add-one}
 use native.Mathlib.Omega.{arith}
-use mathlib.Core.Path.{_≡_, refl, ap, sym, _∙_}
-use mathlib.Core.Bool.{Bool, true, false, not, _||_}
-use mathlib.Core.List.{List, [], _∷_}
-use lib.Dec.{eqb, ltb, leb, eqb·suc-zero}
+use mathlib.Core.Path.{_≡_, ap, sym, _∙_}
+use mathlib.Core.Bool.{Bool, true, false, not}
+use mathlib.Core.List.{List}
+use lib.Dec.{eqb, ltb, leb}
 use lib.ListN.{length, getD, drop, drop-of-length-le}
 use lib.Seq.{drop-cons}
 use borrow.Author.Needs.{needs}
 use borrow.Author.Tests.{ltb-true, ltb-false, lt-ltb, le-ltb, le-leb, lt-leb, eq-eqb, ne-eqb}
-use mir.Syntax.{w8, w16, w64}
+use mir.Syntax.{w8, w16}
 use mir.Val.{Fits}
-use Rattle.expression.specs.Lists.{anyHolds, oneIf, howMany}
+use Rattle.expression.specs.Lists.{oneIf, howMany}
 use Rattle.expression.specs.Limits.{mostOperators, mostRecordBytes}
-use Rattle.expression.specs.Token.{Class, opening, closing, firstReading, Operators, operators, class}
+use Rattle.expression.specs.Token.{opening, closing, firstReading, Operators, operators, class}
 use Rattle.expression.specs.Checks.{strangeInRecord}
 use Rattle.expression.proofs.Looking.{Looked, looked-none, looked-more, looked-all}
 use Rattle.expression.proofs.Cond.{by-cond}
-use Rattle.expression.proofs.Classes.{by-class, class-reading}
-use Rattle.record.specs.Checks.{strangerInRecord, behind, lists, rowLength}
+use Rattle.expression.proofs.Classes.{class-reading}
+use Rattle.record.specs.Checks.{strangerInRecord, rowLength}
 
 -- a stranger, by the tests of its byte
 module _ (n byte : ℕ) where
@@ -56,91 +56,9 @@ by-count ops bytes e q = q ∙ ap (λ m. strangerInRecord (operators m) bytes) e
 
 pub ruleset stranger-ways = (by-count, needs)
 
-or-left : (a b : Bool) → (a || b) ≡ false → a ≡ false
-or-left true b e = e
-or-left false b e = refl
-
-or-right : (a b : Bool) → (a || b) ≡ false → b ≡ false
-or-right true b e = let z : _≡_ {A = ℕ} 0 1 = cc in absurd (omega arith)
-or-right false b e = e
-
--- where none is a stranger, each is none
-plain-byte : (p : ℕ → Bool) (bytes : List ℕ) (at : ℕ) → anyHolds p bytes ≡ false → at < length bytes → p (getD bytes at 0) ≡ false
-plain-byte p [] at e h = absurd (omega arith)
-plain-byte p (c ∷ bytes) zero e h = or-left (p c) (anyHolds p bytes) e
-plain-byte p (c ∷ bytes) (suc at) e h = plain-byte p bytes at (or-right (p c) (anyHolds p bytes) e) (omega arith)
-
--- the trees due behind a byte
-pub more-one : (byte : ℕ) → byte < opening → 1 ≡ oneIf (ltb byte opening)
-more-one byte h = rw (lt-ltb byte opening h)
-
-pub more-none : (byte : ℕ) → opening ≤ byte → 0 ≡ oneIf (ltb byte opening)
-more-none byte h = rw (le-ltb byte opening h)
-
-pub fewer-none : (byte : ℕ) → byte < firstReading → 0 ≡ oneIf (leb firstReading byte)
-fewer-none byte h = rw (lt-leb firstReading byte h)
-
-pub fewer-one : (byte : ℕ) → firstReading ≤ byte → 1 ≡ oneIf (leb firstReading byte)
-fewer-one byte h = rw (le-leb firstReading byte h)
-
-behind-is : (ops : Operators) (c d : ℕ) → strangeInRecord (class ops c) ≡ false → behind (class ops c) d ≡ suc d + oneIf (ltb c opening) - oneIf (leb firstReading c)
-behind-is ops c d =
-    by-class ops (λ y. strangeInRecord y ≡ false → behind y d ≡ suc d + oneIf (ltb c opening) - oneIf (leb firstReading c)) c
-    (λ h _ _. rw (lt-ltb c opening h, lt-leb firstReading c (omega arith)) (omega arith))
-    (λ e _. rw (le-ltb c opening (omega arith), lt-leb firstReading c (omega arith)) (omega arith))
-    (λ _ e. cc)
-    (λ h _ _. rw (le-ltb c opening (omega arith), le-leb firstReading c h) (omega arith))
-    (λ e. cc)
-
 one-small : (b : Bool) → oneIf b ≤ 1
 one-small true = omega arith
 one-small false = omega arith
-
-module _ (at due byte : ℕ) (some : due ≡ 0 → ⊥) {more fewer : ℕ} (m : more ≡ oneIf (ltb byte opening)) (f : fewer ≡ oneIf (leb firstReading byte)) where
-  pub fewer-fits : fewer ≤ due + more
-  fewer-fits = omega (arith, some, one-small (leb firstReading byte))
-
-  pub due-on : due ≤ at + 1 → due + more - fewer ≤ at + 1 + 1
-  due-on small = omega (arith, one-small (ltb byte opening))
-
-pub more-fits : (bytes : List ℕ) (at due byte : ℕ) {more : ℕ} → length bytes ≤ mostRecordBytes → at < length bytes → due ≤ at + 1 → more ≡ oneIf (ltb byte opening)
-    → Fits w64 (due + more)
-more-fits bytes at due byte h d small m = omega (arith, one-small (ltb byte opening))
-
-none-left : (k : ℕ → Class) (d : ℕ) → eqb d 0 ≡ lists k d []
-unfolding lists
-none-left k zero = refl
-none-left k (suc d) = eqb·suc-zero d
-
-none-due : (k : ℕ → Class) (c : ℕ) (cs : List ℕ) → false ≡ lists k 0 (c ∷ cs)
-unfolding lists
-none-due k c cs = refl
-
-lists-step : (ops : Operators) (c : ℕ) (cs : List ℕ) (due : ℕ) → strangeInRecord (class ops c) ≡ false → (due ≡ 0 → ⊥)
-    → lists (class ops) due (c ∷ cs) ≡ lists (class ops) (due + oneIf (ltb c opening) - oneIf (leb firstReading c)) cs
-unfolding lists
-lists-step ops c cs zero e h = absurd (h refl)
-lists-step ops c cs (suc d) e h = rw e (ap (λ x. lists (class ops) x cs) (behind-is ops c d e))
-
--- What is due at the place is listed from there on.
-module _ (ops : Operators) (bytes : List ℕ) (at due : ℕ) (same : lists (class ops) due (drop at bytes) ≡ lists (class ops) 1 bytes) where
-  pub too-early : at < length bytes → due ≡ 0 → false ≡ lists (class ops) 1 bytes
-  too-early h e =
-      none-due (class ops) (getD bytes at 0) (drop (suc at) bytes) ∙ ap (λ d. lists (class ops) d (getD bytes at 0 ∷ drop (suc at) bytes)) (sym e)
-      ∙ ap (lists (class ops) due) (sym (drop-cons bytes at 0 h)) ∙ same
-
-  pub goes-on : {more fewer : ℕ} → at < length bytes → strangerInRecord ops bytes ≡ false → (due ≡ 0 → ⊥)
-      → more ≡ oneIf (ltb (getD bytes at 0) opening) → fewer ≡ oneIf (leb firstReading (getD bytes at 0))
-      → lists (class ops) (due + more - fewer) (drop (at + 1) bytes) ≡ lists (class ops) 1 bytes
-  unfolding strangerInRecord
-  goes-on h e some m f =
-      ap (λ d. lists (class ops) d (drop (at + 1) bytes)) (omega (arith, m, f))
-      ∙ ap (λ i. lists (class ops) (due + oneIf (ltb (getD bytes at 0) opening) - oneIf (leb firstReading (getD bytes at 0))) (drop i bytes)) (add-one at)
-      ∙ sym (lists-step ops (getD bytes at 0) (drop (suc at) bytes) due (plain-byte (λ c. strangeInRecord (class ops c)) bytes at e h) some)
-      ∙ ap (lists (class ops) due) (sym (drop-cons bytes at 0 h)) ∙ same
-
-  pub at-end : length bytes ≤ at → eqb due 0 ≡ lists (class ops) 1 bytes
-  at-end h = none-left (class ops) due ∙ ap (lists (class ops) due) (sym (drop-of-length-le bytes h)) ∙ same
 
 -- the tokens of the row
 pub opens-one : (byte : ℕ) → byte ≡ opening → 1 ≡ oneIf (eqb byte opening)

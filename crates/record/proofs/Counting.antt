@@ -26,6 +26,7 @@ use Rattle.record.proofs.Node as nodes
 use Rattle.record.proofs.Nodes.{is-other, within-as}
 use Rattle.record.proofs.Holding.{front-fits}
 use Rattle.record.proofs.Trees.{topOf, record-positive, top-node, a-reading, a-bracket, an-operator, no-tree, none-past}
+use Rattle.record.proofs.Standing.{leaf-at, bracket-at, operator-at, onward, operands-in, widened, joined-in}
 
 -- the sides
 module _ (sheet : List ℕ) (o : ℕ) where
@@ -80,13 +81,12 @@ pub not-counted : {A : Type 0} {sheet bytes : List ℕ} {from before to r : ℕ}
     → TreeAt (operatorsOf sheet) bytes from t to → A
 not-counted {to = to} t e h x = absurd (omega (arith, h .counted t to x .0, x .ends, record-positive t))
 
--- 0 where no tree stands
+-- the refusal where no tree stands
 none-here : (sheet : List ℕ) {bytes : List ℕ} {from : ℕ} (before : ℕ) → ((t : Tree) (to : ℕ) → TreeAt (operatorsOf sheet) bytes from t to → ⊥) → Counts sheet bytes from before noTree
 none-here sheet before never =
     record {
       counted = λ t to k. absurd (never t to k);
-      onward = λ e. absurd (e refl);
-      within = omega arith;
+      found = λ e. absurd (e refl);
       small = λ e. absurd (e refl);
     }
 
@@ -95,12 +95,12 @@ past-end sheet size held from before h = none-here sheet before (λ t to x. none
 
 module _ (sheet bytes : List ℕ) (from before : ℕ) {x : Node} (found : x ≡ nodeAt (operatorsOf sheet) bytes from) where
   pub a-leaf : {a : ℕ} → length bytes ≤ mostRecordBytes → before ≤ from → x ≡ node.Reading a → Counts sheet bytes from before ((from + 1) * base + before)
-  a-leaf most low is =
+  a-leaf {a} most low is =
       let d = within-as (operatorsOf sheet) bytes from found is refl in
+      let end : tallyEnd ((from + 1) * base + before) ≡ from + 1 = omega arith in
       record {
         counted = λ t to h. let u = a-reading (operatorsOf sheet) bytes from found is t h in (omega (arith, u .1), omega (arith, ap (conflictsIn sheet) (u .0)));
-        onward = λ e. omega arith;
-        within = omega arith;
+        found = λ e. (reading a, rw (sym end) at (leaf-at (operatorsOf sheet) bytes from found is));
         small = λ e. omega arith;
       }
 
@@ -111,8 +111,7 @@ module _ (sheet bytes : List ℕ) (from before : ℕ) {x : Node} (found : x ≡ 
             let u = a-bracket (operatorsOf sheet) bytes from found is t k in
             let a = h .counted (u .0) to (u .2) in
             (a .0, omega (arith, a .1, ap (conflictsIn sheet) (u .1)));
-        onward = λ e. let k = h .onward e in omega arith;
-        within = h .within;
+        found = λ e. let (u, y) = h .found e in (bracket u, bracket-at (operatorsOf sheet) bytes from found is u y);
         small = h .small;
       }
 
@@ -120,26 +119,32 @@ module _ (sheet bytes : List ℕ) (from before : ℕ) {x : Node} (found : x ≡ 
       → Counts sheet bytes from before noTree
   other p q r = none-here sheet before (λ t to k. no-tree (operatorsOf sheet) bytes from found (is-other x p q r) t k)
 
-  module _ (o first l : ℕ) (is : x ≡ node.Operator o) (h : Counts sheet bytes (from + 1) (before + first) l) where
-    pub left-refused : l ≡ noTree → Counts sheet bytes from before noTree
-    left-refused e = none-here sheet before (λ t to k. let u = an-operator (operatorsOf sheet) bytes from found is t k in not-counted (u .0) e h (u .4))
+-- The left operand is counted within a byte less.
+module _ (sheet : List ℕ) (size : ℕ) (held : List ℕ) (from before : ℕ) {x : Node} (found : x ≡ nodeAt (operatorsOf sheet) (front size held) from) (o first l : ℕ)
+    (is : x ≡ node.Operator o) (h : Counts sheet (front (size - 1) held) (from + 1) (before + first) l) where
+  pub left-refused : l ≡ noTree → Counts sheet (front size held) from before noTree
+  left-refused e = none-here sheet before (λ t to k. let u = operands-in (operatorsOf sheet) size held from found is t k in not-counted (u .0) e h (u .4))
 
-    pub an-infix : {second r : ℕ} → first ≡ onLeft sheet o (nodeAt (operatorsOf sheet) bytes (from + 1)) → (l ≡ noTree → ⊥)
-        → second ≡ onRight sheet o (nodeAt (operatorsOf sheet) bytes (tallyEnd l)) → Counts sheet bytes (tallyEnd l) (tallyCount l + second) r → Counts sheet bytes from before r
-    an-infix {second} {r} first-is some second-is g =
-        record {
-          counted = λ t to k.
-              let u = an-operator (operatorsOf sheet) bytes from found is t k in
-              let a = h .counted (u .0) (u .2) (u .4) in
-              let x : TreeAt (operatorsOf sheet) bytes (tallyEnd l) (u .1) to = rw (sym (a .0)) at (u .5) in
-              let b = g .counted (u .1) to x in
-              let f : first ≡ _ = first-is ∙ ap (onLeft sheet o) (top-node (operatorsOf sheet) bytes (from + 1) (u .0) (u .4)) ∙ left-count sheet o (u .0) in
-              let s : second ≡ _ = second-is ∙ ap (onRight sheet o) (top-node (operatorsOf sheet) bytes (tallyEnd l) (u .1) x) ∙ right-count sheet o (u .1) in
-              (b .0, omega (arith, b .1, a .1, f, s, ap (conflictsIn sheet) (u .3)));
-          onward = λ e. let a = h .onward some in let b = g .onward e in omega arith;
-          within = g .within;
-          small = g .small;
-        }
+  pub an-infix : {second r : ℕ} → first ≡ onLeft sheet o (nodeAt (operatorsOf sheet) (front size held) (from + 1)) → (l ≡ noTree → ⊥)
+      → second ≡ onRight sheet o (nodeAt (operatorsOf sheet) (front size held) (tallyEnd l)) → Counts sheet (front size held) (tallyEnd l) (tallyCount l + second) r
+      → Counts sheet (front size held) from before r
+  an-infix {second} {r} first-is some second-is g =
+      record {
+        counted = λ t to k.
+            let u = operands-in (operatorsOf sheet) size held from found is t k in
+            let a = h .counted (u .0) (u .2) (u .4) in
+            let y : TreeAt (operatorsOf sheet) (front size held) (from + 1) (u .0) (u .2) = widened (operatorsOf sheet) size held from found is (u .0) (u .4) in
+            let x : TreeAt (operatorsOf sheet) (front size held) (tallyEnd l) (u .1) to = rw (sym (a .0)) at (u .5) in
+            let b = g .counted (u .1) to x in
+            let f : first ≡ _ = first-is ∙ ap (onLeft sheet o) (top-node (operatorsOf sheet) (front size held) (from + 1) (u .0) y) ∙ left-count sheet o (u .0) in
+            let s : second ≡ _ = second-is ∙ ap (onRight sheet o) (top-node (operatorsOf sheet) (front size held) (tallyEnd l) (u .1) x) ∙ right-count sheet o (u .1) in
+            (b .0, omega (arith, b .1, a .1, f, s, ap (conflictsIn sheet) (u .3)));
+        found = λ e.
+            let (u, a) = h .found some in
+            let (v, b) = g .found e in
+            (binary o u v, joined-in (operatorsOf sheet) size held from found is u v a b);
+        small = g .small;
+      }
 
 -- A left operand that is a reading, two places on: no call is made for it.
 module _ (sheet bytes : List ℕ) (from : ℕ) {o a : ℕ} {x y : Node} (found : x ≡ nodeAt (operatorsOf sheet) bytes from) (is : x ≡ node.Operator o)
@@ -147,6 +152,7 @@ module _ (sheet bytes : List ℕ) (from : ℕ) {o a : ℕ} {x y : Node} (found :
   pub a-leaf-infix : (before : ℕ) {second r : ℕ} → second ≡ onRight sheet o (nodeAt (operatorsOf sheet) bytes (from + 2))
       → Counts sheet bytes (from + 2) (before + second) r → Counts sheet bytes from before r
   a-leaf-infix before {second} {r} second-is g =
+      let two : from + 1 + 1 ≡ from + 2 = omega arith in
       record {
         counted = λ t to k.
             let u = an-operator (operatorsOf sheet) bytes from found is t k in
@@ -156,15 +162,17 @@ module _ (sheet bytes : List ℕ) (from : ℕ) {o a : ℕ} {x y : Node} (found :
             let b = g .counted (u .1) to z in
             let s : second ≡ _ = second-is ∙ ap (onRight sheet o) (top-node (operatorsOf sheet) bytes (from + 2) (u .1) z) ∙ right-count sheet o (u .1) in
             (b .0, omega (arith, b .1, s, ap (conflictsIn sheet) (u .3 ∙ ap (λ l. binary o l (u .1)) (v .0))));
-        onward = λ e. let b = g .onward e in omega arith;
-        within = g .within;
+        found = λ e.
+            let (v, b) = g .found e in
+            let c : TreeAt (operatorsOf sheet) bytes (from + 1) (reading a) (from + 2) = rw two at (leaf-at (operatorsOf sheet) bytes (from + 1) next leaf) in
+            (binary o (reading a) v, operator-at (operatorsOf sheet) bytes from found is (reading a) v c b);
         small = g .small;
       }
 
 -- what the sums and the calls ask
 module _ (from : ℕ) {sheet bytes : List ℕ} {before l : ℕ} (h : Counts sheet bytes (from + 1) before l) (some : l ≡ noTree → ⊥) where
   pub mid-falls : {size t : ℕ} → from < size → size - from ≡ t → size - tallyEnd l < t
-  mid-falls low e = omega (arith, h .onward some)
+  mid-falls low e = let (t, x) = h .found some in omega (arith, onward (operatorsOf sheet) bytes (from + 1) t x)
 
   pub second-low : {second : ℕ} → second ≤ 1 → tallyCount l + second ≤ tallyEnd l
   second-low small = omega (arith, h .small some)

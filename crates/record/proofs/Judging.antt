@@ -1,44 +1,73 @@
 -- What each way through `judge` gives. Assumes nothing.
-use Prim.Native.Nat.{ℕ, _≤_}
+use Prim.Native.Nat.{ℕ, _≤_, _<_}
 use native.Mathlib.Nat.{zero-add}
+use native.Mathlib.Omega.{arith}
 use mathlib.Core.Path.{_≡_, sym, _∙_}
+use mathlib.Core.Bool.{Bool, true, false}
+use mathlib.Core.Option.{some}
 use mathlib.Core.List.{List, _++_}
 use lib.ListN.{length, take}
 use borrow.Author.Needs.{needs}
 use borrow.Author.Tests.{ne-eqb}
-use Rattle.expression.specs.Limits.{mostRecordBytes}
-use Rattle.expression.specs.Refusal.{accepted, noTree}
+use Rattle.expression.specs.Limits.{mostTokens, mostRecordBytes}
+use Rattle.expression.specs.Refusal.{accepted, oversize, stranger, noTree}
+use Rattle.expression.specs.Token.{class}
+use Rattle.expression.specs.Tree.{Tree}
+use Rattle.expression.specs.Decode.{treeOf}
 use Rattle.expression.specs.Checks.{recordNumber}
 use Rattle.sheet.specs.Layout.{operatorsOf}
 use Rattle.record.specs.Held.{front}
-use Rattle.record.specs.Counts.{tallyCount, Counts}
+use Rattle.record.specs.Checks.{strangerInRecord, rowLength}
+use Rattle.record.specs.Counts.{tallyEnd, tallyCount, Counts}
 use Rattle.record.specs.Answers.{judgement}
-use Rattle.record.proofs.Accepted.{accepted-tree}
+use Rattle.record.specs.declared.Judgement.{Judgement}
+use Rattle.record.proofs.Trees.{whole}
+use Rattle.record.proofs.Standing.{read-back}
+use Rattle.record.proofs.Numbering as numbering
 use Rattle.record.proofs.Holding.{front-copied}
 use Rattle.record.proofs.Counting.{not-counted}
 
-module _ (sheet bytes : List ℕ) {number : ℕ} (known : number ≡ recordNumber (operatorsOf sheet) bytes) where
-  pub record-refused : (number ≡ accepted → ⊥) → record { number = number; count = 0 } ≡ judgement sheet bytes
+module _ (sheet bytes : List ℕ) where
+  refused : (number : ℕ) → number ≡ recordNumber (operatorsOf sheet) bytes → (number ≡ accepted → ⊥) → record { number = number; count = 0 } ≡ judgement sheet bytes
   unfolding judgement
-  record-refused h = rw (← known, ne-eqb number accepted h)
+  refused number known h = rw (← known, ne-eqb number accepted h)
 
-  pub length-fits : number ≡ accepted → length bytes ≤ mostRecordBytes
-  length-fits e = let (t, a) = accepted-tree (operatorsOf sheet) bytes (sym known ∙ e) in a .bytes-fit
+  pub too-long : {r : Judgement} → mostRecordBytes < length bytes → r ≡ record { number = oversize; count = 0 } → r ≡ judgement sheet bytes
+  too-long h e = e ∙ refused oversize (numbering.too-long (operatorsOf sheet) bytes h) (λ z. omega arith)
 
-  module _ (held : List ℕ) (r : ℕ) (e : number ≡ accepted) (rest : List ℕ) (copied : held ≡ take (length bytes) bytes ++ rest)
-      (h : Counts sheet (front (length bytes) held) 0 0 r) where
-    on-bytes : Counts sheet bytes 0 0 r
-    on-bytes = rw (front-copied bytes held rest copied) at h
+  module _ {s : Bool} (fits : length bytes ≤ mostRecordBytes) (tested : s ≡ strangerInRecord (operatorsOf sheet) bytes) where
+    pub strange : {r : Judgement} → s ≡ true → r ≡ record { number = stranger; count = 0 } → r ≡ judgement sheet bytes
+    strange q e = e ∙ refused stranger (numbering.strange (operatorsOf sheet) bytes fits tested q) (λ z. omega arith)
 
-    pub never-refused : r ≡ noTree → record { number = noTree; count = 0 } ≡ judgement sheet bytes
-    never-refused p = let (t, a) = accepted-tree (operatorsOf sheet) bytes (sym known ∙ e) in not-counted t p on-bytes (a .stands)
+    module _ (q : s ≡ false) (held : List ℕ) (v : ℕ) (rest : List ℕ) (copied : held ≡ take (length bytes) bytes ++ rest)
+        (h : Counts sheet (front (length bytes) held) 0 0 v) where
+      on-bytes : Counts sheet bytes 0 0 v
+      on-bytes = rw (front-copied bytes held rest copied) at h
 
-    pub judged : record { number = accepted; count = tallyCount r } ≡ judgement sheet bytes
-    unfolding judgement
-    judged =
-        let (t, a) = accepted-tree (operatorsOf sheet) bytes (sym known ∙ e) in
-        let k = on-bytes .counted t (length bytes) (a .stands) in
-        let c : tallyCount r ≡ _ = k .1 ∙ zero-add _ in
-        rw (sym known ∙ e, a .read, c)
+      none : ((t : Tree) → treeOf (class (operatorsOf sheet)) bytes ≡ some t → ⊥) → record { number = noTree; count = 0 } ≡ judgement sheet bytes
+      none never = refused noTree (numbering.none-number (operatorsOf sheet) bytes fits tested q never) (λ z. omega arith)
 
-pub ruleset judge-ways = (record-refused, length-fits, never-refused, judged, needs)
+      pub walk-refused : {r : Judgement} → v ≡ noTree → r ≡ record { number = noTree; count = 0 } → r ≡ judgement sheet bytes
+      walk-refused p e = e ∙ none (λ t read. not-counted t p on-bytes (whole (operatorsOf sheet) bytes t read))
+
+      pub ends-early : {r : Judgement} → (tallyEnd v ≡ length bytes → ⊥) → r ≡ record { number = noTree; count = 0 } → r ≡ judgement sheet bytes
+      ends-early n e = e ∙ none (λ t read. n (on-bytes .counted t (length bytes) (whole (operatorsOf sheet) bytes t read) .0))
+
+      module _ {tokens : ℕ} (given : v ≡ noTree → ⊥) (end : tallyEnd v ≡ length bytes) (row : tokens ≡ rowLength bytes) where
+        the-tree : (t : Tree) × (treeOf (class (operatorsOf sheet)) bytes ≡ some t)
+        the-tree = let (t, x) = on-bytes .found given in (t, read-back (operatorsOf sheet) bytes t x end)
+
+        pub row-too-long : {r : Judgement} → mostTokens < tokens → r ≡ record { number = oversize; count = 0 } → r ≡ judgement sheet bytes
+        row-too-long l e =
+            let (t, read) = the-tree in
+            e ∙ refused oversize (numbering.long-number (operatorsOf sheet) bytes fits tested q t read row l) (λ z. omega arith)
+
+        pub judged : tokens ≤ mostTokens → record { number = accepted; count = tallyCount v } ≡ judgement sheet bytes
+        unfolding judgement
+        judged l =
+            let (t, read) = the-tree in
+            let known = numbering.read-number (operatorsOf sheet) bytes fits tested q t read row l in
+            let c : tallyCount v ≡ _ = on-bytes .counted t (length bytes) (whole (operatorsOf sheet) bytes t read) .1 ∙ zero-add _ in
+            rw (sym known, read, c)
+
+pub ruleset judge-ways = (too-long, strange, walk-refused, ends-early, row-too-long, judged, needs)

@@ -1,8 +1,8 @@
 pub mod Nodes
 pub mod Holding
 pub mod Trees
+pub mod Standing
 pub mod Reaching
-pub mod OneTree
 pub mod Checking
 pub mod Numbering
 pub mod Writing

@@ -1,5 +1,5 @@
 -- The node at a place, by the byte that stands there. Assumes nothing.
-use Prim.Native.Nat.{ℕ, _≤_, _<_, _+_, _^_}
+use Prim.Native.Nat.{ℕ, _≤_, _<_}
 use native.Mathlib.Omega.{arith}
 use native.Mathlib.Decide.{decLt}
 use mathlib.Core.Path.{_≡_, refl, ap, sym, _∙_}
@@ -9,7 +9,7 @@ use mathlib.Core.Logic.{⊎-elim}
 use lib.ListN.{length, getD}
 use borrow.Author.Needs.{needs}
 use borrow.Author.Tests.{lt-ltb, le-ltb}
-use mir.Syntax.{w8, w64}
+use mir.Syntax.{w8}
 use mir.Val.{Fits}
 use types.Run.{OneOf}
 use denote.Enum.Declared.{tagOf}
@@ -76,10 +76,5 @@ is-other node.Bracket p q r = absurd (⊎-elim (λ w. omega arith) (⊎-elim (λ
 is-other (node.Operator o) p q r = absurd (⊎-elim (λ w. omega arith) (⊎-elim (λ w. omega arith) (λ w. omega arith)) r)
 is-other node.Other p q r = refl
 
--- what a walk that goes on past a node asks
-module _ (ops : Operators) (bytes : List ℕ) (at : ℕ) {x y : Node} (found : x ≡ nodeAt ops bytes at) (is : x ≡ y) where
-  pub within-as : isOther y ≡ false → at < length bytes
-  within-as h = within ops bytes at (ap isOther (sym found ∙ is) ∙ h)
-
-  pub next-fits : length bytes < 2 ^ 64 → isOther y ≡ false → Fits w64 (at + 1)
-  next-fits r h = let d = within-as h in omega arith
+pub within-as : (ops : Operators) (bytes : List ℕ) (at : ℕ) {x y : Node} → x ≡ nodeAt ops bytes at → x ≡ y → isOther y ≡ false → at < length bytes
+within-as ops bytes at found is h = within ops bytes at (ap isOther (sym found ∙ is) ∙ h)

@@ -1,22 +1,33 @@
 -- What each way through `record_number` gives. Assumes nothing.
 use Prim.Native.Nat.{ℕ, _≤_, _<_}
-use mathlib.Core.Path.{_≡_, refl, sym, _∙_}
-use mathlib.Core.Bool.{Bool, true, false, not}
+use mathlib.Core.Path.{_≡_, refl, ap, sym, _∙_}
+use mathlib.Core.Bool.{Bool, true, false, cond}
 use mathlib.Core.Option.{Option, none, some}
-use mathlib.Core.List.{List}
+use mathlib.Core.List.{List, [], _∷_}
+use lib.Dec.{ltb}
 use lib.ListN.{length}
 use borrow.Author.Needs.{needs}
-use borrow.Author.Tests.{lt-ltb, le-ltb, not-true, not-false}
+use borrow.Author.Tests.{lt-ltb, le-ltb}
+use types.Run.{OneOf}
+use denote.Enum.Declared.{tagOf}
 use Rattle.expression.specs.Limits.{mostTokens, mostRecordBytes}
 use Rattle.expression.specs.Refusal.{accepted, oversize, stranger, noTree}
 use Rattle.expression.specs.Token.{Operators, class}
 use Rattle.expression.specs.Tree.{Tree}
 use Rattle.expression.specs.Decode.{treeOf}
-use Rattle.expression.specs.Checks.{isNone, rowTokens, recordNumber}
+use Rattle.expression.specs.Checks.{isNone, recordNumber}
 use Rattle.expression.proofs.Classes.{brackets}
 use Rattle.expression.proofs.Lengths.{row-length-of-record}
-use Rattle.record.specs.Checks.{strangerInRecord, lists, rowLength}
-use Rattle.record.proofs.OneTree.{lists-one}
+use Rattle.record.specs.Held.{front}
+use Rattle.record.specs.Checks.{strangerInRecord, rowLength}
+use Rattle.record.specs.Reach.{reachNumber, reachEnd, Reaches}
+use Rattle.record.specs.declared.ends.Reach.{Reach}
+use Rattle.record.specs.declared.ends.Reach.the-variants.{At}
+use Rattle.record.proofs.ends.Reach as reaches
+use Rattle.record.proofs.Holding.{front-all}
+use Rattle.record.proofs.Trees.{whole}
+use Rattle.record.proofs.Standing.{read-back}
+use Rattle.record.proofs.Reaching.{not-at}
 
 module _ (ops : Operators) (bytes : List ℕ) where
   pub too-long : mostRecordBytes < length bytes → oversize ≡ recordNumber ops bytes
@@ -27,34 +38,49 @@ module _ (ops : Operators) (bytes : List ℕ) where
   unfolding recordNumber strangerInRecord
   strange h a s = rw (le-ltb mostRecordBytes (length bytes) h, sym a ∙ s)
 
-  none-read : {w : Bool} → w ≡ lists (class ops) 1 bytes → not w ≡ true → isNone (treeOf (class ops) bytes) ≡ true
-  none-read {w} a e = not-false _ (sym (lists-one (class ops) bytes) ∙ sym a ∙ not-true w e)
-
-  one-read : {w : Bool} → w ≡ lists (class ops) 1 bytes → not w ≡ false → isNone (treeOf (class ops) bytes) ≡ false
-  one-read {w} a e = not-true _ (sym (lists-one (class ops) bytes) ∙ sym a ∙ not-false w e)
-
-  pub not-one : {s w : Bool} → length bytes ≤ mostRecordBytes → s ≡ strangerInRecord ops bytes → s ≡ false
-      → w ≡ lists (class ops) 1 bytes → not w ≡ true → noTree ≡ recordNumber ops bytes
-  unfolding recordNumber strangerInRecord
-  not-one h a s b w = rw (le-ltb mostRecordBytes (length bytes) h, sym a ∙ s, none-read b w)
-
-  -- of a tree, the row's length is read off the bytes
-  pub row-is : isNone (treeOf (class ops) bytes) ≡ false → rowTokens (treeOf (class ops) bytes) ≡ rowLength bytes
-  row-is h = go (treeOf (class ops) bytes) refl h
+  none-read : ((t : Tree) → treeOf (class ops) bytes ≡ some t → ⊥) → isNone (treeOf (class ops) bytes) ≡ true
+  none-read never = go (treeOf (class ops) bytes) never
     where
-      go : (o : Option Tree) → treeOf (class ops) bytes ≡ o → isNone o ≡ false → rowTokens (treeOf (class ops) bytes) ≡ rowLength bytes
-      go none e q = cc
-      go (some t) e q = row-length-of-record (class ops) (brackets ops) bytes t e
+      go : (o : Option Tree) → ((t : Tree) → o ≡ some t → ⊥) → isNone o ≡ true
+      go none never = refl
+      go (some t) never = absurd (never t refl)
 
-  module _ {s w : Bool} {v : ℕ} (h : length bytes ≤ mostRecordBytes) (a : s ≡ strangerInRecord ops bytes) (q : s ≡ false)
-      (b : w ≡ lists (class ops) 1 bytes) (p : not w ≡ false) (e : v ≡ rowLength bytes) where
-    pub row-too-long : mostTokens < v → oversize ≡ recordNumber ops bytes
+  -- Bytes without a stranger: no tree is read, or one is, and its row's length is read off the bytes.
+  module _ {s : Bool} (h : length bytes ≤ mostRecordBytes) (a : s ≡ strangerInRecord ops bytes) (q : s ≡ false) where
+    pub none-number : ((t : Tree) → treeOf (class ops) bytes ≡ some t → ⊥) → noTree ≡ recordNumber ops bytes
     unfolding recordNumber strangerInRecord
-    row-too-long l =
-        rw (le-ltb mostRecordBytes (length bytes) h, sym a ∙ q, one-read b p, row-is (one-read b p), sym e, lt-ltb mostTokens v l)
+    none-number never = rw (le-ltb mostRecordBytes (length bytes) h, sym a ∙ q, none-read never)
 
-    pub in-order : v ≤ mostTokens → accepted ≡ recordNumber ops bytes
-    unfolding recordNumber strangerInRecord
-    in-order l = rw (le-ltb mostRecordBytes (length bytes) h, sym a ∙ q, one-read b p, row-is (one-read b p), sym e, le-ltb mostTokens v l)
+    module _ (t : Tree) (read : treeOf (class ops) bytes ≡ some t) {v : ℕ} (e : v ≡ rowLength bytes) where
+      by-row : cond (ltb mostTokens v) oversize accepted ≡ recordNumber ops bytes
+      unfolding recordNumber strangerInRecord
+      by-row = rw (le-ltb mostRecordBytes (length bytes) h, sym a ∙ q, ap isNone read, row-length-of-record (class ops) (brackets ops) bytes t read, sym e)
 
-pub ruleset record-number-ways = (too-long, strange, not-one, row-too-long, in-order, needs)
+      pub long-number : mostTokens < v → oversize ≡ recordNumber ops bytes
+      long-number l = ap (λ b. cond b oversize accepted) (sym (lt-ltb mostTokens v l)) ∙ by-row
+
+      pub read-number : v ≤ mostTokens → accepted ≡ recordNumber ops bytes
+      read-number l = ap (λ b. cond b oversize accepted) (sym (le-ltb mostTokens v l)) ∙ by-row
+
+    -- by the walk to the end of the tree
+    module _ (w : Reach) (walked : Reaches ops (front (length bytes) bytes) 0 w) where
+      on-bytes : Reaches ops bytes 0 w
+      on-bytes = rw (front-all bytes) at walked
+
+      pub walk-refused : OneOf (1 ∷ []) (tagOf reaches.the-type w) → noTree ≡ recordNumber ops bytes
+      walk-refused p = none-number (λ t e. not-at t w p on-bytes (whole ops bytes t e))
+
+      module _ {end : ℕ} (is : w ≡ At end) where
+        pub ends-early : (end ≡ length bytes → ⊥) → noTree ≡ recordNumber ops bytes
+        ends-early n = none-number (λ t e. n (sym (ap reachEnd is) ∙ on-bytes .reached t (length bytes) (whole ops bytes t e) .1))
+
+        the-tree : end ≡ length bytes → (t : Tree) × (treeOf (class ops) bytes ≡ some t)
+        the-tree e = let (t, x) = on-bytes .found (ap reachNumber is) in (t, read-back ops bytes t x (ap reachEnd is ∙ e))
+
+        pub row-too-long : {v : ℕ} → end ≡ length bytes → v ≡ rowLength bytes → mostTokens < v → oversize ≡ recordNumber ops bytes
+        row-too-long e r l = let (t, read) = the-tree e in long-number t read r l
+
+        pub in-order : {v : ℕ} → end ≡ length bytes → v ≡ rowLength bytes → v ≤ mostTokens → accepted ≡ recordNumber ops bytes
+        in-order e r l = let (t, read) = the-tree e in read-number t read r l
+
+pub ruleset record-number-ways = (too-long, strange, walk-refused, ends-early, row-too-long, in-order, needs)

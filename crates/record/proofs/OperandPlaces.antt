@@ -16,6 +16,7 @@ use Rattle.expression.specs.Token.{Operators}
 use Rattle.expression.specs.Tree.{Tree, reading, bracket, binary, recordOf}
 use Rattle.expression.specs.Checks.{recordNumber}
 use Rattle.expression.specs.Operand.{operandRecord, operandPart}
+use Rattle.record.specs.Held.{front}
 use Rattle.record.specs.Node.{nodeAt}
 use Rattle.record.specs.TreeAt.{TreeAt}
 use Rattle.record.specs.Reach.{reachEnd, Reaches}
@@ -26,6 +27,7 @@ use Rattle.record.specs.declared.ends.Reach.{Reach}
 use Rattle.record.specs.declared.ends.Reach.the-variants.{At}
 use Rattle.record.proofs.Node as nodes
 use Rattle.record.proofs.ends.Reach as reaches
+use Rattle.record.proofs.Holding.{front-all}
 use Rattle.record.proofs.Trees.{topOf, top-node, ends-within, a-bracket, an-operator}
 use Rattle.record.proofs.Accepted.{Accepted, accepted-tree}
 use Rattle.record.proofs.Reaching.{not-at}
@@ -88,18 +90,21 @@ module _ (ops : Operators) (right : Bool) (bytes : List ℕ) {number : ℕ} (kno
           none (bracket u) p q = absurd (⊎-elim (λ w. omega arith) (⊎-elim (λ w. omega arith) (λ w. omega arith)) p)
           none (binary o l r) p q = absurd (⊎-elim (λ w. omega arith) (⊎-elim (λ w. omega arith) (λ w. omega arith)) q)
 
-      module _ {o : ℕ} (is : x ≡ node.Operator o) (w : Reach) (h : Reaches ops bytes 1 w) where
+      module _ {o : ℕ} (is : x ≡ node.Operator o) (w : Reach) (walked : Reaches ops (front (length bytes) bytes) 1 w) where
+        on-bytes : Reaches ops bytes 1 w
+        on-bytes = rw (front-all bytes) at walked
+
         pub never-refused : OneOf (1 ∷ []) (tagOf reaches.the-type w) → OperandAt ops right bytes (record { from = 0; to = 0 })
         never-refused p =
             let (t, a) = accepted-tree ops bytes (sym known ∙ e) in
             let u = an-operator ops bytes 0 found is t (a .stands) in
-            not-at (u .0) w p h (u .4)
+            not-at (u .0) w p on-bytes (u .4)
 
         pub operator-right : {mid : ℕ} → w ≡ At mid → right ≡ true → OperandAt ops right bytes (record { from = mid; to = length bytes })
         operator-right {mid} q r =
             let (t, a) = accepted-tree ops bytes (sym known ∙ e) in
             let u = an-operator ops bytes 0 found is t (a .stands) in
-            let m : u .2 ≡ mid = sym (h .reached (u .0) (u .2) (u .4) .1) ∙ ap reachEnd q in
+            let m : u .2 ≡ mid = sym (on-bytes .reached (u .0) (u .2) (u .4) .1) ∙ ap reachEnd q in
             standing t (u .1) mid (length bytes) a (rw m at (u .5)) (ap (operandRecord right) (u .3) ∙ ap (λ b. operandRecord b (binary o (u .0) (u .1))) r)
             (λ f. absurd (true≢false (sym r ∙ f))) (λ f. refl)
 
@@ -107,7 +112,7 @@ module _ (ops : Operators) (right : Bool) (bytes : List ℕ) {number : ℕ} (kno
         operator-left {mid} q r =
             let (t, a) = accepted-tree ops bytes (sym known ∙ e) in
             let u = an-operator ops bytes 0 found is t (a .stands) in
-            let m : u .2 ≡ mid = sym (h .reached (u .0) (u .2) (u .4) .1) ∙ ap reachEnd q in
+            let m : u .2 ≡ mid = sym (on-bytes .reached (u .0) (u .2) (u .4) .1) ∙ ap reachEnd q in
             standing t (u .0) 1 mid a (rw m at (u .4)) (ap (operandRecord right) (u .3) ∙ ap (λ b. operandRecord b (binary o (u .0) (u .1))) r)
             (λ f. refl) (λ f. absurd (true≢false (sym f ∙ r)))
 

@@ -7,13 +7,14 @@ use mathlib.Core.Option.{some}
 use mathlib.Core.List.{List, _∷_, _++_, append-assoc, append-nil}
 use lib.ListN.{length, getD, drop, length-drop, length-append}
 use lib.Seq.{getD-drop, drop-drop, drop-append-seam, drop-length}
+use Rattle.expression.specs.Refusal.{accepted, noTree}
 use Rattle.expression.specs.Token.{opening, Operators, class}
 use Rattle.expression.specs.Tree.{Tree, reading, bracket, binary, recordOf}
 use Rattle.expression.specs.Decode.{treeOf}
 use Rattle.expression.proofs.Classes.{brackets}
 use Rattle.expression.proofs.RecordsAndTrees.{record-treeOf}
 use Rattle.record.specs.Held.{front}
-use Rattle.record.specs.Node.{nodeOf, nodeAt}
+use Rattle.record.specs.Node.{nodeOf, nodeAt, nodeNumber, nodeByte}
 use Rattle.record.specs.TreeAt.{TreeAt}
 use Rattle.record.specs.declared.Node.{Node}
 use Rattle.record.specs.declared.Node.the-variants as node
@@ -129,6 +130,25 @@ module _ (ops : Operators) (bytes : List ℕ) (from : ℕ) {x : Node} (found : x
       go (reading b) q = let z : _≡_ {A = ℕ} 0 1 = cc in absurd (omega arith)
       go (bracket u) q = let z : _≡_ {A = ℕ} 0 1 = cc in absurd (omega arith)
       go (binary p l r) q = let z : _≡_ {A = ℕ} 0 1 = cc in absurd (omega arith)
+
+-- Where a tree stands, the node has the number of no refusal, and its byte is the first of the tree's record.
+pub tree-node : (ops : Operators) (bytes : List ℕ) (from : ℕ) (t : Tree) {to : ℕ} → TreeAt ops bytes from t to
+    → (nodeNumber (nodeAt ops bytes from) ≡ accepted) × (nodeByte (nodeAt ops bytes from) ≡ getD (recordOf t) 0 0)
+tree-node ops bytes from t x = let e = top-node ops bytes from t x in (ap nodeNumber e ∙ number t, ap nodeByte e ∙ byte t)
+  where
+    number : (t : Tree) → nodeNumber (topOf t) ≡ accepted
+    number (reading a) = refl
+    number (bracket t) = refl
+    number (binary o l r) = refl
+
+    byte : (t : Tree) → nodeByte (topOf t) ≡ getD (recordOf t) 0 0
+    byte (reading a) = refl
+    byte (bracket t) = refl
+    byte (binary o l r) = refl
+
+-- Where the node's number is 7, none stands.
+pub refused-node : (ops : Operators) (bytes : List ℕ) (from : ℕ) → nodeNumber (nodeAt ops bytes from) ≡ noTree → (t : Tree) {to : ℕ} → TreeAt ops bytes from t to → ⊥
+refused-node ops bytes from e t x = omega (arith, e, tree-node ops bytes from t x .0)
 
 -- past the end of the record no tree stands
 pub none-past : (ops : Operators) (size : ℕ) (held : List ℕ) (from : ℕ) → size ≤ from → (t : Tree) {to : ℕ} → TreeAt ops (front size held) from t to → ⊥

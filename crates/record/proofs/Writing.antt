@@ -23,9 +23,10 @@ use Rattle.record.specs.Rows.{writtenEnd, writtenLast, Writes}
 use Rattle.record.specs.declared.Node.{Node}
 use Rattle.record.specs.declared.Node.the-variants as node
 use Rattle.record.proofs.Node as nodes
-use Rattle.record.proofs.Nodes.{is-other, within-as}
+use Rattle.record.proofs.Nodes.{is-other}
 use Rattle.record.proofs.Holding.{front-fits}
-use Rattle.record.proofs.Trees.{record-positive, a-reading, a-bracket, an-operator, no-tree, none-past}
+use Rattle.record.proofs.Trees.{record-positive, ends-within, a-reading, a-bracket, an-operator, no-tree, none-past}
+use Rattle.record.proofs.Standing.{leaf-at, bracket-at, operator-at, onward, operands-in, joined-in}
 
 -- a list that is set part by part
 pub sets-append : (v w d : List ℕ) (i : ℕ) → sets d i (v ++ w) ≡ sets (sets d i v) (i + length v) w
@@ -55,14 +56,13 @@ pub not-written : {A : Type 0} {ops : Operators} {bytes before after : List ℕ}
     → TreeAt ops bytes from t to → at + length (yield t) ≤ mostTokens → A
 not-written {to = to} t e h x room = absurd (omega (arith, h .wrote t to x room .0, x .ends, record-positive t))
 
--- 0 where no tree stands with room
+-- the refusal where no tree stands with room
 none-here : {ops : Operators} {bytes : List ℕ} {from at : ℕ} (before after : List ℕ)
     → ((t : Tree) (to : ℕ) → TreeAt ops bytes from t to → at + length (yield t) ≤ mostTokens → ⊥) → Writes ops bytes from before at after noTree
 none-here before after never =
     record {
       wrote = λ t to x room. absurd (never t to x room);
-      onward = λ e. absurd (e refl);
-      within = omega arith;
+      found = λ e. absurd (e refl);
     }
 
 pub past-end : (ops : Operators) (size : ℕ) (held : List ℕ) (from : ℕ) (before : List ℕ) (at : ℕ) → size ≤ from → Writes ops (front size held) from before at before noTree
@@ -79,13 +79,12 @@ module _ (ops : Operators) (bytes : List ℕ) (from : ℕ) {x : Node} (found : x
 
   pub a-leaf : {a : ℕ} → x ≡ node.Reading a → at < mostTokens → Writes ops bytes from before at (set before at a) ((from + 1) * base + (at + 1))
   a-leaf {a} is low =
-      let d = within-as ops bytes from found is refl in
+      let end : writtenEnd ((from + 1) * base + (at + 1)) ≡ from + 1 = omega arith in
       record {
         wrote = λ t to h room.
             let u = a-reading ops bytes from found is t h in
             (omega (arith, u .1), omega (arith, ap (λ v. length (yield v)) (u .0)), ap (λ v. sets before at (yield v)) (sym (u .0)));
-        onward = λ e. omega arith;
-        within = omega arith;
+        found = λ e. (reading a, rw (sym end) at (leaf-at ops bytes from found is), omega arith);
       }
 
   module _ (after : List ℕ) (w : ℕ) (is : x ≡ node.Bracket) (h : Writes ops bytes (from + 1) (set before at opening) (at + 1) after w) where
@@ -117,41 +116,10 @@ module _ (ops : Operators) (bytes : List ℕ) (from : ℕ) {x : Node} (found : x
                 ap (λ d. set d (writtenLast w) closing) (a .2) ∙ ap (λ j. set (sets (set before at opening) (at + 1) (yield (u .0))) j closing) (a .1)
                     ∙ set-bracket before (yield (u .0)) at ∙ ap (λ v. sets before at (yield v)) (sym (u .1)),
               );
-          onward = λ _. omega (arith, e, h .onward some);
-          within = omega (arith, e, h .within);
-        }
-
-  module _ (after : List ℕ) (w : ℕ) {o : ℕ} (is : x ≡ node.Operator o) (h : Writes ops bytes (from + 1) before at after w) where
-    pub left-refused : w ≡ noTree → Writes ops bytes from before at after noTree
-    left-refused e =
-        none-here before after λ t to k room.
-        let u = an-operator ops bytes from found is t k in
-        not-written (u .0) e h (u .4) (omega (arith, operator-tokens o t (u .0) (u .1) (u .3)))
-
-    pub left-full : mostTokens ≤ writtenLast w → Writes ops bytes from before at after noTree
-    left-full over =
-        none-here before after λ t to k room.
-        let u = an-operator ops bytes from found is t k in
-        let m = operator-tokens o t (u .0) (u .1) (u .3) in
-        omega (arith, h .wrote (u .0) (u .2) (u .4) (omega arith) .1)
-
-    pub an-infix : {r : ℕ} (last : List ℕ) → (w ≡ noTree → ⊥) → Writes ops bytes (writtenEnd w) (set after (writtenLast w) o) (writtenLast w + 1) last r
-        → Writes ops bytes from before at last r
-    an-infix last some g =
-        record {
-          wrote = λ t to k room.
-              let u = an-operator ops bytes from found is t k in
-              let m = operator-tokens o t (u .0) (u .1) (u .3) in
-              let a = h .wrote (u .0) (u .2) (u .4) (omega arith) in
-              let b = g .wrote (u .1) to (rw (sym (a .0)) at (u .5)) (omega (arith, a .1)) in (
-                b .0,
-                b .1 ∙ omega (arith, a .1),
-                b .2 ∙ ap (λ d. sets (set d (writtenLast w) o) (writtenLast w + 1) (yield (u .1))) (a .2)
-                    ∙ ap (λ j. sets (set (sets before at (yield (u .0))) j o) (j + 1) (yield (u .1))) (a .1)
-                    ∙ set-operator before (yield (u .0)) (yield (u .1)) at o ∙ ap (λ v. sets before at (yield v)) (sym (u .3)),
-              );
-          onward = λ e. omega (arith, h .onward some, g .onward e);
-          within = g .within;
+          found = λ _.
+              let (u, y, room) = h .found some in
+              let a = h .wrote u (writtenEnd w) y room in
+              (bracket u, rw (sym e) at (bracket-at ops bytes from found is u y), omega (arith, a .1, bracket-tokens (bracket u) u refl));
         }
 
   -- a left operand that is a reading, two places on: no call is made for it
@@ -172,6 +140,7 @@ module _ (ops : Operators) (bytes : List ℕ) (from : ℕ) {x : Node} (found : x
     pub a-leaf-infix : {r : ℕ} (laid last : List ℕ) → laid ≡ set (set before at a) (at + 1) o → Writes ops bytes (from + 2) laid (at + 1 + 1) last r
         → Writes ops bytes from before at last r
     a-leaf-infix laid last set-is g =
+        let two : from + 1 + 1 ≡ from + 2 = omega arith in
         record {
           wrote = λ t to k room.
               let u = leaf-tokens t k in
@@ -182,16 +151,56 @@ module _ (ops : Operators) (bytes : List ℕ) (from : ℕ) {x : Node} (found : x
                 b .2 ∙ ap (λ d. sets d (at + 1 + 1) (yield (u .0))) set-is ∙ ap (λ j. sets (set (set before at a) j o) (j + 1) (yield (u .0))) (add-one at)
                     ∙ ap (λ j. sets (set (set before at a) (suc at) o) j (yield (u .0))) (add-one (suc at)) ∙ ap (λ v. sets before at (yield v)) (sym (u .1)),
               );
-          onward = λ e. omega (arith, g .onward e);
-          within = g .within;
+          found = λ e.
+              let (v, z, room) = g .found e in
+              let c : TreeAt ops bytes (from + 1) (reading a) (from + 2) = rw two at (leaf-at ops bytes (from + 1) next leaf) in
+              (binary o (reading a) v, operator-at ops bytes from found is (reading a) v c z, omega arith);
         }
+
+-- The left operand is written within a byte less.
+module _ (ops : Operators) (size : ℕ) (held : List ℕ) (from : ℕ) {x : Node} (found : x ≡ nodeAt ops (front size held) from) (before : List ℕ) (at : ℕ)
+    (after : List ℕ) (w : ℕ) {o : ℕ} (is : x ≡ node.Operator o) (h : Writes ops (front (size - 1) held) (from + 1) before at after w) where
+  pub left-refused : w ≡ noTree → Writes ops (front size held) from before at after noTree
+  left-refused e =
+      none-here before after λ t to k room.
+      let u = operands-in ops size held from found is t k in
+      not-written (u .0) e h (u .4) (omega (arith, operator-tokens o t (u .0) (u .1) (u .3)))
+
+  pub left-full : mostTokens ≤ writtenLast w → Writes ops (front size held) from before at after noTree
+  left-full over =
+      none-here before after λ t to k room.
+      let u = operands-in ops size held from found is t k in
+      let m = operator-tokens o t (u .0) (u .1) (u .3) in
+      omega (arith, h .wrote (u .0) (u .2) (u .4) (omega arith) .1)
+
+  pub an-infix : {r : ℕ} (last : List ℕ) → (w ≡ noTree → ⊥) → Writes ops (front size held) (writtenEnd w) (set after (writtenLast w) o) (writtenLast w + 1) last r
+      → Writes ops (front size held) from before at last r
+  an-infix last some g =
+      record {
+        wrote = λ t to k room.
+            let u = operands-in ops size held from found is t k in
+            let m = operator-tokens o t (u .0) (u .1) (u .3) in
+            let a = h .wrote (u .0) (u .2) (u .4) (omega arith) in
+            let b = g .wrote (u .1) to (rw (sym (a .0)) at (u .5)) (omega (arith, a .1)) in (
+              b .0,
+              b .1 ∙ omega (arith, a .1),
+              b .2 ∙ ap (λ d. sets (set d (writtenLast w) o) (writtenLast w + 1) (yield (u .1))) (a .2)
+                  ∙ ap (λ j. sets (set (sets before at (yield (u .0))) j o) (j + 1) (yield (u .1))) (a .1)
+                  ∙ set-operator before (yield (u .0)) (yield (u .1)) at o ∙ ap (λ v. sets before at (yield v)) (sym (u .3)),
+            );
+        found = λ e.
+            let (u, y, room) = h .found some in
+            let (v, z, more) = g .found e in
+            let a = h .wrote u (writtenEnd w) y room in
+            (binary o u v, joined-in ops size held from found is u v y z, omega (arith, a .1, operator-tokens o (binary o u v) u v refl));
+      }
 
 -- what the sums and the measure ask
 module _ (from : ℕ) {ops : Operators} {bytes before after : List ℕ} {at w : ℕ} (h : Writes ops bytes (from + 1) before at after w) where
   pub mid-falls : {size t : ℕ} → (w ≡ noTree → ⊥) → from < size → size - from ≡ t → size - writtenEnd w < t
-  mid-falls some low e = omega (arith, h .onward some)
+  mid-falls some low e = let (t, x, _) = h .found some in omega (arith, onward ops bytes (from + 1) t x)
 
-  pub closed-fits : length bytes ≤ mostRecordBytes → Fits w64 (w + 1)
-  closed-fits most = omega (arith, h .within)
+  pub closed-fits : (w ≡ noTree → ⊥) → length bytes ≤ mostRecordBytes → Fits w64 (w + 1)
+  closed-fits some most = let (t, x, _) = h .found some in omega (arith, ends-within ops bytes (from + 1) t (writtenEnd w) x)
 
 pub ruleset write-row-ways = (past-end, full, other, a-leaf, inner-refused, inner-full, a-bracketed, left-refused, left-full, an-infix, leaf-full, a-leaf-infix, front-fits, closed-fits, needs)

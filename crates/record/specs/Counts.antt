@@ -1,9 +1,8 @@
 -- The conflict count of the tree at a place of a record, under a sheet. Assumes nothing.
-use Prim.Native.Nat.{ℕ, _+_, _/_, _%_, _≤_, _<_}
+use Prim.Native.Nat.{ℕ, _+_, _/_, _%_, _<_}
 use mathlib.Core.Path.{_≡_}
 use mathlib.Core.Bool.{Bool, not}
 use mathlib.Core.List.{List}
-use lib.ListN.{length}
 use Rattle.expression.specs.Lists.{oneIf}
 use Rattle.expression.specs.Refusal.{noTree}
 use Rattle.expression.specs.Tree.{Tree}
@@ -46,7 +45,6 @@ tallyCount r = r % base
 pub record Counts (sheet bytes : List ℕ) (from before : ℕ) (r : ℕ) : Type 0 where
   -- where a tree stands, its end, and its conflicts added
   pub counted : (t : Tree) (to : ℕ) → TreeAt (operatorsOf sheet) bytes from t to → (tallyEnd r ≡ to) × (tallyCount r ≡ before + conflictsIn sheet t)
-  -- a place that is given lies further on, and the count is below it
-  pub onward : (r ≡ noTree → ⊥) → from < tallyEnd r
-  pub within : tallyEnd r ≤ length bytes
+  -- where an end is given, a tree stands up to it, and the count is below the end
+  pub found : (r ≡ noTree → ⊥) → (t : Tree) × TreeAt (operatorsOf sheet) bytes from t (tallyEnd r)
   pub small : (r ≡ noTree → ⊥) → tallyCount r < tallyEnd r

@@ -1,8 +1,8 @@
 -- Where the tree at a place of a record ends. Assumes nothing.
-use Prim.Native.Nat.{ℕ, _<_}
+use Prim.Native.Nat.{ℕ}
 use mathlib.Core.Path.{_≡_}
 use mathlib.Core.List.{List}
-use Rattle.expression.specs.Refusal.{accepted}
+use Rattle.expression.specs.Refusal.{accepted, noTree}
 use Rattle.expression.specs.Token.{Operators}
 use Rattle.expression.specs.Tree.{Tree}
 use Rattle.record.specs.TreeAt.{TreeAt}
@@ -23,5 +23,7 @@ reachEnd (Refused number) = 0
 pub record Reaches (ops : Operators) (bytes : List ℕ) (from : ℕ) (r : Reach) : Type 0 where
   -- where a tree stands, its end
   pub reached : (t : Tree) (to : ℕ) → TreeAt ops bytes from t to → (reachNumber r ≡ accepted) × (reachEnd r ≡ to)
-  -- a place that is given lies further on
-  pub onward : reachNumber r ≡ accepted → from < reachEnd r
+  -- where an end is given, a tree stands up to it
+  pub found : reachNumber r ≡ accepted → (t : Tree) × TreeAt ops bytes from t (reachEnd r)
+  -- and a refusal has one number
+  pub refused : (reachNumber r ≡ accepted → ⊥) → reachNumber r ≡ noTree

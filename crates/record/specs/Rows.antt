@@ -1,5 +1,5 @@
 -- The row of the tree at a place of a record, written into as many bytes as a row has at most. Assumes nothing.
-use Prim.Native.Nat.{ℕ, _+_, _/_, _%_, _≤_, _<_}
+use Prim.Native.Nat.{ℕ, _+_, _/_, _%_, _≤_}
 use mathlib.Core.Path.{_≡_}
 use mathlib.Core.List.{List}
 use lib.ListN.{length}
@@ -24,6 +24,5 @@ pub record Writes (ops : Operators) (bytes : List ℕ) (from : ℕ) (before : Li
   -- where a tree stands and its row has room, the row is set from there on, and all else is as it was
   pub wrote : (t : Tree) (to : ℕ) → TreeAt ops bytes from t to → at + length (yield t) ≤ mostTokens
       → (writtenEnd r ≡ to) × (writtenLast r ≡ at + length (yield t)) × (after ≡ sets before at (yield t))
-  -- a place that is given lies further on
-  pub onward : (r ≡ noTree → ⊥) → from < writtenEnd r
-  pub within : writtenEnd r ≤ length bytes
+  -- where an end is given, a tree stands up to it and its row has room
+  pub found : (r ≡ noTree → ⊥) → (t : Tree) × TreeAt ops bytes from t (writtenEnd r) × (at + length (yield t) ≤ mostTokens)

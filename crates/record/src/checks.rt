@@ -1,15 +1,14 @@
-// The checks of a record: strangers, exactly one tree, the length of its row.
+// The checks of a record: strangers, the length of its row.
 ghost use mathlib.Core.Path.{_≡_};
-ghost use mathlib.Core.Bool.{false};
 ghost use Prim.Native.Nat.{_≤_};
-ghost use lib.Dec.{eqb, leb, ltb};
+ghost use lib.Dec.{eqb};
 ghost use lib.ListN.{length};
 ghost use Rattle.expression.specs.Lists.{oneIf};
 ghost use Rattle.expression.specs.Limits.{mostRecordBytes};
-ghost use Rattle.expression.specs.Token.{opening, firstReading, operators, class};
+ghost use Rattle.expression.specs.Token.{opening, operators, class};
 ghost use Rattle.expression.specs.Checks.{strangeInRecord};
 ghost use Rattle.sheet.specs.Layout.{operatorsOf};
-ghost use Rattle.record.specs.Checks.{strangerInRecord, lists, rowLength};
+ghost use Rattle.record.specs.Checks.{strangerInRecord, rowLength};
 use expression::token;
 use sheet::layout::SHEET_WORDS;
 
@@ -44,45 +43,6 @@ pub fn has_stranger(sheet: &[u32; SHEET_WORDS], bytes: &[u8]) -> bool
     ensures { λ r. ⌜ r ≡ strangerInRecord (operatorsOf (now (sheet .entry))) (now (bytes .entry)) ⌝ }
 {
     any_strange(sheet::operator_count(sheet), bytes)
-}
-
-// 1 where a tree more is due behind the byte, as behind an operator; else 0.
-fn one_more(byte: u8) -> usize
-    ensures { λ r. ⌜ r ≡ oneIf (ltb byte opening) ⌝ }
-{
-    if byte < token::OPENING {
-        return 1;
-    }
-    0
-}
-
-// 1 where a tree fewer is due behind the byte, as behind a reading; else 0.
-fn one_fewer(byte: u8) -> usize
-    ensures { λ r. ⌜ r ≡ oneIf (leb firstReading byte) ⌝ }
-{
-    if byte < token::FIRST_READING {
-        return 0;
-    }
-    1
-}
-
-// Bytes with no stranger are exactly one tree over the sheet's operators: the trees due are counted, and none is due too early.
-pub fn is_tree(sheet: &[u32; SHEET_WORDS], bytes: &[u8]) -> bool
-    requires { ⌜ length (now bytes) ≤ mostRecordBytes ⌝ }
-    requires { ⌜ strangerInRecord (operatorsOf (now sheet)) (now bytes) ≡ false ⌝ }
-    ensures { λ r. ⌜ r ≡ lists (class (operatorsOf (now (sheet .entry)))) 1 (now (bytes .entry)) ⌝ }
-{
-    let mut due = 1;
-    let mut at = 0;
-    while at < bytes.len() {
-        if due == 0 {
-            return false;
-        }
-        let byte = bytes[at];
-        due = due + one_more(byte) - one_fewer(byte);
-        at += 1;
-    }
-    due == 0
 }
 
 // 1 where the byte opens a bracket, else 0.

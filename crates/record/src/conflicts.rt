@@ -58,7 +58,7 @@ fn on_right(
 }
 
 // The place after the tree times the base, and the count so far with the tree's: a tree has fewer conflicts than bytes.
-// A reading on the left, as in most trees, takes no call.
+// A reading on the left, as in most trees, takes no call. A left operand leaves a byte for the right one.
 pub fn count_at(
     sheet: &[u32; SHEET_WORDS],
     held: &[u8; MOST_RECORD_BYTES],
@@ -89,7 +89,7 @@ pub fn count_at(
         return count_at(sheet, held, size, at + 2, count + only);
     }
     let first = on_left(sheet, held, size, at + 1, o);
-    let left = count_at(sheet, held, size, at + 1, count + first);
+    let left = count_at(sheet, held, size - 1, at + 1, count + first);
     if left == NO_TREE {
         return NO_TREE;
     }

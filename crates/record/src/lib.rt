@@ -5,6 +5,7 @@ ghost use Rattle.expression.specs.Operand.{operandPart};
 ghost use Rattle.sheet.specs.Layout.{operatorsOf};
 ghost use Rattle.record.specs.Node.{nodeAt};
 ghost use Rattle.record.specs.Answers.{Yields, judgement};
+use crate::ends::Reach;
 use expression::limits;
 use expression::refusal;
 use expression::token;
@@ -58,7 +59,10 @@ pub fn record_number(sheet: &[u32; SHEET_WORDS], bytes: &[u8]) -> u8
     if checks::has_stranger(sheet, bytes) {
         return refusal::STRANGER;
     }
-    if !checks::is_tree(sheet, bytes) {
+    let Reach::At(end) = ends::end_at(sheet, bytes, bytes.len(), 0) else {
+        return refusal::NO_TREE;
+    };
+    if end != bytes.len() {
         return refusal::NO_TREE;
     }
     if limits::MOST_TOKENS < checks::row_length(bytes) {
@@ -74,33 +78,43 @@ pub struct Answer {
     pub length: usize,
 }
 
+// The answer of a refusal.
+fn unanswered(number: u8) -> Answer
+    ensures { λ r. ⌜ r ≡ record { number = number; length = 0 } ⌝ }
+{
+    Answer {
+        number: number,
+        length: 0,
+    }
+}
+
 // The row of the record's tree, written at the front of `out`. After a refusal `out` is as it was.
 pub fn yield_row(sheet: &[u32; SHEET_WORDS], bytes: &[u8], out: &mut [u8]) -> Answer
     ensures { λ r. ⌜ Yields (operatorsOf (now (sheet .entry))) (now (bytes .entry)) (now (out .entry)) (now (out .exit)) r ⌝ }
 {
-    let number = record_number(sheet, bytes);
-    if number != refusal::ACCEPTED {
-        return Answer {
-            number: number,
-            length: 0,
-        };
+    if limits::MOST_RECORD_BYTES < bytes.len() {
+        return unanswered(refusal::OVERSIZE);
     }
+    if checks::has_stranger(sheet, bytes) {
+        return unanswered(refusal::STRANGER);
+    }
+    // With more tokens than a row has, 7 or 1: the record's own number.
     let tokens = checks::row_length(bytes);
-    if out.len() < tokens {
-        return Answer {
-            number: refusal::SHORT,
-            length: 0,
-        };
+    if limits::MOST_TOKENS < tokens {
+        return unanswered(record_number(sheet, bytes));
     }
     let mut held = [0u8; limits::MOST_RECORD_BYTES];
     bytes::copy(bytes, &mut held);
     let mut row = [0u8; limits::MOST_TOKENS];
     let written = rows::write_row(sheet, &held, bytes.len(), 0, &mut row, 0);
     if written == held::NO_TREE {
-        return Answer {
-            number: refusal::NO_TREE,
-            length: 0,
-        };
+        return unanswered(refusal::NO_TREE);
+    }
+    if written / held::BASE != bytes.len() {
+        return unanswered(refusal::NO_TREE);
+    }
+    if out.len() < tokens {
+        return unanswered(refusal::SHORT);
     }
     bytes::copy(&row[0..tokens], out);
     Answer {
@@ -116,25 +130,38 @@ pub struct Judgement {
     pub count: u8,
 }
 
+// The judgement of a refusal.
+fn unjudged(number: u8) -> Judgement
+    ensures { λ r. ⌜ r ≡ record { number = number; count = 0 } ⌝ }
+{
+    Judgement {
+        number: number,
+        count: 0,
+    }
+}
+
 // The record judged under a sheet.
 pub fn judge(sheet: &[u32; SHEET_WORDS], bytes: &[u8]) -> Judgement
     ensures { λ r. ⌜ r ≡ judgement (now (sheet .entry)) (now (bytes .entry)) ⌝ }
 {
-    let number = record_number(sheet, bytes);
-    if number != refusal::ACCEPTED {
-        return Judgement {
-            number: number,
-            count: 0,
-        };
+    if limits::MOST_RECORD_BYTES < bytes.len() {
+        return unjudged(refusal::OVERSIZE);
+    }
+    if checks::has_stranger(sheet, bytes) {
+        return unjudged(refusal::STRANGER);
     }
     let mut held = [0u8; limits::MOST_RECORD_BYTES];
     bytes::copy(bytes, &mut held);
     let tally = conflicts::count_at(sheet, &held, bytes.len(), 0, 0);
     if tally == held::NO_TREE {
-        return Judgement {
-            number: refusal::NO_TREE,
-            count: 0,
-        };
+        return unjudged(refusal::NO_TREE);
+    }
+    if tally / held::BASE != bytes.len() {
+        return unjudged(refusal::NO_TREE);
+    }
+    let tokens = checks::row_length(bytes);
+    if limits::MOST_TOKENS < tokens {
+        return unjudged(refusal::OVERSIZE);
     }
     Judgement {
         number: refusal::ACCEPTED,

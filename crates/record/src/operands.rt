@@ -36,7 +36,7 @@ pub fn operand_part(sheet: &[u32; SHEET_WORDS], bytes: &[u8], right: bool) -> Pa
     let Node::Operator(_) = node else {
         return Part { from: 0, to: 0 };
     };
-    let left = ends::end_at(sheet, bytes, 1);
+    let left = ends::end_at(sheet, bytes, bytes.len(), 1);
     let Reach::At(mid) = left else {
         return Part { from: 0, to: 0 };
     };

@@ -26,7 +26,7 @@ fn set_two(out: &mut [u8; MOST_TOKENS], to: usize, next: usize, a: u8, b: u8)
 }
 
 // The row goes to `out` from the place `to` on. The answer is the place after the tree in the record times the base, and that
-// after its row in `out`. A reading on the left, as in most trees, takes no call.
+// after its row in `out`. A reading on the left, as in most trees, takes no call. A left operand leaves a byte for the right one.
 pub fn write_row(
     sheet: &[u32; SHEET_WORDS],
     held: &[u8; MOST_RECORD_BYTES],
@@ -75,7 +75,7 @@ pub fn write_row(
         set_two(out, to, next, a, o);
         return write_row(sheet, held, size, past, out, next + 1);
     }
-    let left = write_row(sheet, held, size, at + 1, out, to);
+    let left = write_row(sheet, held, size - 1, at + 1, out, to);
     if left == NO_TREE {
         return NO_TREE;
     }

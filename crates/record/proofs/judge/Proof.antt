@@ -1,5 +1,4 @@
 -- `record::judge` meets its contract. Assumes nothing.
-use native.Mathlib.Omega.{arith}
 use Rattle.record.proofs.Judging.{judge-ways}
 use Rattle.record.proofs.judge.Statement.{statement}
 use Rattle.record.proofs.judge.Tie as tie
@@ -10,9 +9,18 @@ judge-spec =
     (tie.spec
     (λ c κs. search judge-ways)
     (λ c. search judge-ways)
+    (λ c κs. search judge-ways)
+    (λ c κs. search judge-ways)
+    (λ c. search judge-ways)
+    (λ c. search judge-ways)
+    (λ c κs. search judge-ways)
+    (λ c κs. search judge-ways)
+    (λ c κs. search judge-ways)
+    (λ c. search judge-ways)
+    (λ c κs. search judge-ways)
     (λ c. search judge-ways)
     (λ c κs. search judge-ways)
     (λ c κs. search judge-ways)
     (λ c. search judge-ways)
-    (λ c. omega arith)
+    (λ c. search judge-ways)
     (λ c. search judge-ways))

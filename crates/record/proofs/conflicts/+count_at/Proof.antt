@@ -61,6 +61,7 @@ pub +count-at-spec : {M : Type 1} → statement M
     (λ c κs. omega arith)
     (λ c. omega arith)
     (λ c. omega arith)
+    (λ c. omega arith)
     (λ c κs. (omega arith, (omega arith, omega arith)))
     (λ c. search count-at-ways)
     (λ c κs. omega arith)

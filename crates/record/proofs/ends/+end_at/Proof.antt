@@ -1,6 +1,6 @@
 -- `record::ends::end_at` meets its contract; the bytes from the place on fall. Assumes nothing.
 use Prim.Native.Nat.{ℕ, _<_, _-_}
-use lib.ListN.{length}
+use native.Mathlib.Omega.{arith}
 use borrow.Fn.Kinds.{In}
 use borrow.Fn.PlainCycle.{Measures, is, falls, and}
 use Rattle.record.proofs.Reaching.{end-at-ways}
@@ -12,7 +12,7 @@ use Rattle.record.proofs.ends.+end_at.{statement}
 use Rattle.record.proofs.ends.+end_at.Tie.{close}
 
 abbrev μ-end-at : Measures 2 end-at-kinds.ps ℕ
-μ-end-at κs a = length (a .1 .0 .now) - a .1 .1 .0
+μ-end-at κs a = a .1 .1 .0 - a .1 .1 .1 .0
 
 abbrev end-at-at : ℕ → In 2 end-at-kinds.ps
 end-at-at t = and 2 end-at-kinds.ps (is 2 end-at-kinds.ps μ-end-at t) end-at.Pre
@@ -23,20 +23,24 @@ end-at-below t = and 2 end-at-kinds.ps (falls 2 end-at-kinds.ps _<_ μ-end-at t)
 pub +end-at-spec : {M : Type 1} → statement M
 +end-at-spec =
     close μ-end-at λ t. end-at-lts.spec (node-at-reads.Asked, node-at-reads.Learnt, end-at-below t, end-at.Post) (end-at-at t) end-at.Post
+    (λ c. omega arith)
+    (λ c. omega arith)
+    (λ c. omega arith)
     (λ c κs. search end-at-ways)
     (λ c. search end-at-ways)
     (λ c. search end-at-ways)
     (λ c. search end-at-ways)
     (λ c. search end-at-ways)
     (λ c. search end-at-ways)
-    (λ c κs. search end-at-ways)
+    (λ c κs. (search end-at-ways, omega arith))
     (λ c. search end-at-ways)
     (λ c. search end-at-ways)
     (λ c. search end-at-ways)
     (λ c. search end-at-ways)
-    (λ c κs. search end-at-ways)
+    (λ c. search end-at-ways)
+    (λ c κs. (search end-at-ways, omega arith))
     (λ c. search end-at-ways)
     (λ c. search end-at-ways)
     (λ c. search end-at-ways)
-    (λ c κs. search end-at-ways)
+    (λ c κs. (search end-at-ways, omega arith))
     (λ c. search end-at-ways)

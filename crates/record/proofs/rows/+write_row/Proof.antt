@@ -58,6 +58,7 @@ pub +write-row-spec : {M : Type 1} → statement M
     (λ c κs. (omega arith, omega arith))
     (λ c. search write-row-ways)
     (λ c. omega arith)
+    (λ c. omega arith)
     (λ c κs. (omega arith, omega arith))
     (λ c. search write-row-ways)
     (λ c. search write-row-ways)
