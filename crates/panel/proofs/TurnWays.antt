@@ -1,9 +1,10 @@
 -- What each way through a read, the end of the input and a turn gives, from what is known on it. Assumes nothing.
 use mathlib.Core.Path.{_≡_, refl, sym, ap, _∙_}
-use mathlib.Core.Bool.{Bool, false}
+use mathlib.Core.Bool.{Bool, true, false, true≢false}
 use mathlib.Core.List.{List, [], _∷_, _++_}
 use Prim.Native.Nat.{ℕ, zero, suc, _+_, _-_, _≤_, min}
 use native.Mathlib.Omega.{arith}
+use native.Mathlib.Decide.{ℕ-discrete}
 use borrow.Author.Needs.{needs}
 use borrow.Rule.Slice.PartMut.{putMid, take-put}
 use lib.ListN.{length, take, drop, length-take}
@@ -11,7 +12,7 @@ use lib.Seq.{take-take, take-nil, length-take-le}
 use Rattle.monitor.specs.Panel.{Panel}
 use Rattle.frame.specs.Lines.{lineAfter}
 use Rattle.panel.specs.Lines.{afterLines, panelAtEnd}
-use Rattle.panel.specs.Contracts.{block, mostKept, bufferBytes, Puts, Covers, Keeps, Fetches, Finishes, Turns, failed, ended, went-on, TakesLines}
+use Rattle.panel.specs.Contracts.{block, mostKept, bufferBytes, Puts, Covers, Keeps, Fetches, AnswersRead, Finishes, Passes, Turns, TakesLines}
 use Rattle.panel.proofs.BlockWays.{panel-after-append}
 
 -- ---- read_block
@@ -51,34 +52,48 @@ part-of-front [] (suc from) k n h = ap (λ s. take k (drop (suc from) s)) (take-
 part-of-front (c ∷ l) (suc from) k zero h = absurd (omega arith)
 part-of-front (c ∷ l) (suc from) k (suc n) h = part-of-front l from k n (omega arith)
 
-pub turn-fails : {p : Panel} {before after : List ℕ} {kept kept' : ℕ} {go : Bool} → (kept' ≡ 0) × (go ≡ false) → Turns p before kept after p kept' go
-turn-fails e = failed refl (e .0) (e .1)
+module _ {p : Panel} {buf : List ℕ} {kept to : ℕ} {failed : Bool} where
+  pub read-cut : {kept' : ℕ} {go : Bool} → failed ≡ true → (kept' ≡ 0) × (go ≡ false) → AnswersRead p buf kept to failed buf p kept' go
+  read-cut f e = record { cut = λ _. (refl, e .0, e .1); ended = λ g. absurd (true≢false (sym f ∙ g)); went-on = λ g. absurd (true≢false (sym f ∙ g)) }
 
-module _ {p : Panel} {before buf : List ℕ} {kept n : ℕ} (f : Fetches before kept buf n) where
-  pub turn-ends : {after : List ℕ} {later : Panel} {kept' : ℕ} {go : Bool} → Finishes p (take (kept - 0) buf) later kept' go → Turns p before kept after later kept' go
-  turn-ends e = let z : kept - 0 ≡ kept = omega arith in ended (rw (z, f .front) at e)
+  pub read-ended : {later : Panel} {kept' : ℕ} {go : Bool} → failed ≡ false → to ≡ kept → Finishes p (take (kept - 0) buf) later kept' go → AnswersRead p buf kept to failed buf later kept' go
+  read-ended f e w =
+      let z : kept - 0 ≡ kept = omega arith in
+      record { cut = λ g. absurd (true≢false (sym g ∙ f)); ended = λ _ _. rw z at w; went-on = λ _ h. absurd (h e) }
 
-  pub turn-goes-on : {after : List ℕ} {rest : ℕ} {later : Panel} {kept' : ℕ} {go : Bool} → Covers p (take (n - 0) buf) rest later go → Keeps buf rest n after kept' → (n ≡ kept → ⊥) → length buf ≡ length before → length before ≡ bufferBytes → Turns p before kept after later kept' go
-  turn-goes-on {rest = rest} {kept' = kept'} a k h l b =
-      let z : n - 0 ≡ n = omega arith in
-      let m : length (take n buf) ≡ n = length-take-le n buf (omega (arith, f .inside)) in
-      let inside : rest ≤ n = omega (arith, ap (λ i. length (take i buf)) z, a .reads .inside) in
-      went-on (take n buf) (take-take kept n buf (f .from) ∙ f .front) (omega (arith, f .from, h))
-      (record {
-        rest = rest;
-        covers = rw z at a;
-        keeps = record {
-          kept = k .kept ∙ ap (λ i. min (i - rest) mostKept) (sym m);
-          front = k .front ∙ sym (part-of-front buf rest kept' n (omega (arith, k .kept, inside)));
+  pub read-went-on : {after : List ℕ} {rest : ℕ} {later : Panel} {kept' : ℕ} {go : Bool} → failed ≡ false → (to ≡ kept → ⊥) → to ≤ length buf
+      → Covers p (take (to - 0) buf) rest later go → Keeps buf rest to after kept' → AnswersRead p buf kept to failed after later kept' go
+  read-went-on {rest = rest} {kept' = kept'} f h l a k =
+      let z : to - 0 ≡ to = omega arith in
+      let m : length (take to buf) ≡ to = length-take-le to buf l in
+      let inside : rest ≤ to = omega (arith, ap (λ i. length (take i buf)) z, a .reads .inside) in
+      record {
+        cut = λ g. absurd (true≢false (sym g ∙ f));
+        ended = λ _ e. absurd (h e);
+        went-on = λ _ _. record {
+          rest = rest;
+          covers = rw z at a;
+          keeps = record {
+            kept = k .kept ∙ ap (λ i. min (i - rest) mostKept) (sym m);
+            front = k .front ∙ sym (part-of-front buf rest kept' to (omega (arith, k .kept, inside)));
+          };
         };
-      })
+      }
+
+pub ruleset read-ways = (read-cut, read-ended, read-went-on, needs)
+
+-- a turn by what its read gave
+by-read : {p : Panel} {before after : List ℕ} {kept kept' : ℕ} {later : Panel} {go : Bool} (P : Type 0) (t : Turns p before kept after later kept' go)
+    → ((later ≡ p) × (kept' ≡ 0) × (go ≡ false) → P) → (Finishes p (take kept (t .buf)) later kept' go → P) → (Passes p (take (t .to) (t .buf)) after later kept' go → P) → P
+by-read {kept = kept} P t cut ended went-on = go-by (t .failed) refl (ℕ-discrete (t .to) kept)
+  where
+    go-by : (f : Bool) → t .failed ≡ f → Dec (t .to ≡ kept) → P
+    go-by true e d = cut (t .answers .cut e)
+    go-by false e (yes h) = ended (t .answers .ended e h)
+    go-by false e (no h) = went-on (t .answers .went-on e h)
 
 pub turn-kept : {p : Panel} {before after : List ℕ} {kept kept' : ℕ} {later : Panel} {go : Bool} → Turns p before kept after later kept' go → kept' ≤ mostKept
-turn-kept (failed s e g) = omega (arith, e)
-turn-kept (ended e) = omega (arith, e .nothing-left)
-turn-kept (went-on s e h a) = omega (arith, a .keeps .kept)
-
-pub ruleset turn-ways = (turn-fails, turn-ends, turn-goes-on, needs)
+turn-kept {kept' = kept'} t = by-read (kept' ≤ mostKept) t (λ e. omega (arith, e .1)) (λ e. omega (arith, e .nothing-left)) (λ a. omega (arith, a .keeps .kept))
 
 -- ---- run
 pub takes-none : {p : Panel} → TakesLines p p
@@ -96,8 +111,9 @@ takes-after {p} t lines e = record { lines = lines ++ t .lines; stands = e ∙ a
 
 pub takes-more : {p q later : Panel} {before after : List ℕ} {kept kept' : ℕ} {go : Bool} → TakesLines p q → Turns q before kept after later kept' go → TakesLines p later
 unfolding afterLines
-takes-more t (failed s e g) = takes-after t [] s
-takes-more {q = q} {before = before} {kept = kept} t (ended e) = let (lines, f) = at-end-takes q (take kept before) in takes-after t lines (e .stands ∙ f)
-takes-more t (went-on s e h a) = takes-after t (a .covers .lines) (a .covers .reads .stands)
+takes-more {p} {q} {later} {kept = kept} t w =
+    by-read (TakesLines p later) w (λ e. takes-after t [] (e .0))
+    (λ e. let (lines, f) = at-end-takes q (take kept (w .buf)) in takes-after t lines (e .stands ∙ f))
+    (λ a. takes-after t (a .covers .lines) (a .covers .reads .stands))
 
 pub ruleset run-ways = (turn-kept, takes-none, takes-more, needs)

@@ -84,11 +84,22 @@ pub record Passes (p : Panel) (s after : List ℕ) (later : Panel) (kept : ℕ) 
   pub covers : Covers p s rest later go
   pub keeps : Keeps s rest (length s) after kept
 
--- A turn: the read failed, and nothing was run; the input ended; or some bytes were read.
-pub data Turns (p : Panel) (before : List ℕ) (kept : ℕ) (after : List ℕ) (later : Panel) (kept' : ℕ) (go : Bool) : Type 0 where
-  failed : later ≡ p → kept' ≡ 0 → go ≡ false → Turns p before kept after later kept' go
-  ended : Finishes p (take kept before) later kept' go → Turns p before kept after later kept' go
-  went-on : (s : List ℕ) → take kept s ≡ take kept before → kept < length s → Passes p s after later kept' go → Turns p before kept after later kept' go
+-- A read put what it gave behind the kept bytes of the buffer, up to `to`, or failed, and was answered.
+pub record AnswersRead (p : Panel) (buf : List ℕ) (kept to : ℕ) (failed : Bool) (after : List ℕ) (later : Panel) (kept' : ℕ) (go : Bool) : Type 0 where
+  -- it failed: nothing is run
+  pub cut : failed ≡ true → (later ≡ p) × (kept' ≡ 0) × (go ≡ false)
+  -- it gave nothing: the input ended, and what is kept is the last line
+  pub ended : failed ≡ false → to ≡ kept → Finishes p (take kept buf) later kept' go
+  -- it gave some bytes
+  pub went-on : failed ≡ false → (to ≡ kept → ⊥) → Passes p (take to buf) after later kept' go
+
+-- A turn: some read was made, and answered.
+pub record Turns (p : Panel) (before : List ℕ) (kept : ℕ) (after : List ℕ) (later : Panel) (kept' : ℕ) (go : Bool) : Type 0 where
+  pub buf : List ℕ
+  pub to : ℕ
+  pub failed : Bool
+  pub fetches : Fetches before kept buf to
+  pub answers : AnswersRead p buf kept to failed after later kept' go
 
 -- Some lines were taken, in order: the panel is the one after them. (That they are the input's is the read call's.)
 pub record TakesLines (p later : Panel) : Type 0 where

@@ -4,7 +4,7 @@ ghost use mathlib.Core.Bool.{false};
 ghost use Prim.Native.Nat.{_≤_};
 ghost use lib.ListN.{length};
 ghost use Rattle.monitor.specs.Panel.{panel};
-ghost use Rattle.panel.specs.Contracts.{block, mostKept, bufferBytes, Covers, Keeps, Fetches, Finishes, Turns, TakesLines};
+ghost use Rattle.panel.specs.Contracts.{block, mostKept, bufferBytes, Covers, Keeps, Fetches, AnswersRead, Finishes, Turns, TakesLines};
 use frame::limits::MOST_REPLY;
 use libc::STDIN_FILENO;
 use libc::STDOUT_FILENO;
@@ -118,20 +118,19 @@ fn read_block(buf: &mut [u8], kept: usize) -> Fetched
     }
 }
 
-// One read, and the replies to the lines that it completes, written out. Where the read fails, the unfinished line is not
-// complete: it is not run.
-fn turn(
+// What a read gave is answered. Where it failed, the unfinished line is not complete and is not run; at the end of the input it
+// is the last line; else the lines that are complete now are answered, and the rest is kept.
+fn answer_read(
     sheet: &mut [u32; SHEET_WORDS],
     places: &mut [u8; STORE_BYTES],
     buf: &mut [u8],
     out: &mut [u8],
-    s: State,
+    kept: usize,
+    read: Fetched,
 ) -> State
-    requires { ⌜ (s .kept ≤ mostKept) × (length (now buf) ≡ bufferBytes) × (length (now out) ≡ block) ⌝ }
-    ensures { λ r. ⌜ Turns (panel (now (sheet .entry)) (now (places .entry))) (now (buf .entry)) (s .kept) (now (buf .exit)) (panel (now (sheet .exit)) (now (places .exit))) (r .kept) (r .go) ⌝ }
+    requires { ⌜ (kept ≤ read .to) × (read .to ≤ length (now buf)) × (length (now out) ≡ block) ⌝ }
+    ensures { λ r. ⌜ AnswersRead (panel (now (sheet .entry)) (now (places .entry))) (now (buf .entry)) kept (read .to) (read .failed) (now (buf .exit)) (panel (now (sheet .exit)) (now (places .exit))) (r .kept) (r .go) ⌝ }
 {
-    let kept = s.kept;
-    let read = read_block(buf, kept);
     if read.failed {
         return stopped();
     }
@@ -146,6 +145,22 @@ fn turn(
         kept: left,
         go: b.ok,
     }
+}
+
+// One read, and the replies to the lines that it completes, written out.
+fn turn(
+    sheet: &mut [u32; SHEET_WORDS],
+    places: &mut [u8; STORE_BYTES],
+    buf: &mut [u8],
+    out: &mut [u8],
+    s: State,
+) -> State
+    requires { ⌜ (s .kept ≤ mostKept) × (length (now buf) ≡ bufferBytes) × (length (now out) ≡ block) ⌝ }
+    ensures { λ r. ⌜ Turns (panel (now (sheet .entry)) (now (places .entry))) (now (buf .entry)) (s .kept) (now (buf .exit)) (panel (now (sheet .exit)) (now (places .exit))) (r .kept) (r .go) ⌝ }
+{
+    let kept = s.kept;
+    let read = read_block(buf, kept);
+    answer_read(sheet, places, buf, out, kept, read)
 }
 
 // Lines are taken until the input ends. A proved loop has to end, and nothing says that the input does, so the turns are counted down.
