@@ -21,8 +21,9 @@ use Rattle.places.specs.Store.{placeCount}
 use Rattle.monitor.specs.Call.{Call, load, loadList, putRow, putRecord, drop, ask, fetchRecord}
 use Rattle.monitor.specs.Panel.{placeCheck}
 use Rattle.monitor.specs.Steps.{ops, putRowNumber, putRecordNumber}
-use Rattle.monitor.specs.Book.{isBlank, blankCheck, slotRow}
+use Rattle.monitor.specs.Book.{blankCheck, slotRow}
 use Rattle.monitor.specs.Run.{panelAfter, bookAfter, isAccepted, inForce, lastPut, HoldsTree, Filled}
+use Rattle.monitor.proofs.Slots.{not-blank}
 use Rattle.monitor.proofs.Stands.{same-number}
 use Rattle.monitor.proofs.Replies.{place-passed, blank-passed}
 use Rattle.monitor.proofs.Histories.{stands, book-slot}
@@ -84,10 +85,6 @@ module _ (cs : List Call) (k : ℕ) where
       let h = put-below k cs row q in
       let (t, g) = slot-holds cs k h row q in
       (t, g .tree, holds-tree cs k h row q t g)
-
-  not-blank : (slot : Option (List ℕ)) → isBlank slot ≡ false → (row : List ℕ) × (slot ≡ some row)
-  not-blank none e = absurd (true≢false e)
-  not-blank (some row) e = (row, refl)
 
   pub filled-exactly-if-put : Filled cs k ↔ ((row : List ℕ) × (lastPut k cs ≡ some row))
   filled-exactly-if-put = (

@@ -2,7 +2,7 @@
 use Prim.Native.Nat.{ℕ, _<_, _≤_}
 use native.Mathlib.Omega.{arith}
 use mathlib.Core.Path.{_≡_, refl, ap, sym, subst, _∙_}
-use mathlib.Core.Bool.{false, not, true≢false, false≢true}
+use mathlib.Core.Bool.{not, false≢true}
 use mathlib.Core.Option.{Option, none, some}
 use mathlib.Core.List.{List, [], _∷_}
 use lib.Dec.{eqb, ltb}
@@ -31,7 +31,7 @@ use Rattle.monitor.specs.Answers.{Image, Told}
 use Rattle.monitor.specs.Run.{panelAfter, bookAfter, answer}
 use Rattle.monitor.specs.Meaning.{Accepted, AtPlace, NotBlank, WithRoom, OfRow, OfRecord, MeansAsked, Means}
 use Rattle.monitor.proofs.Uses.{count-small}
-use Rattle.monitor.proofs.Slots.{Holds}
+use Rattle.monitor.proofs.Slots.{Holds, not-blank}
 use Rattle.monitor.proofs.Stands.{Stands, same-number}
 use Rattle.monitor.proofs.Histories.{stands}
 use Rattle.monitor.proofs.Meanings.{Decides, when, decides-not-less, row-means, reads-back, record-means}
@@ -45,10 +45,6 @@ decides-blank : (slot : Option (List ℕ)) → Decides (isBlank slot) (slot ≡ 
 decides-blank none = (λ _. refl, λ _. refl)
 decides-blank (some row) = (λ e. absurd (false≢true e), λ e. ap isBlank e)
 
-not-blank-row : (slot : Option (List ℕ)) → isBlank slot ≡ false → (row : List ℕ) × (slot ≡ some row)
-not-blank-row none e = absurd (true≢false e)
-not-blank-row (some row) e = (row, refl)
-
 module _ (b : Book) where
   -- ---- 8, 9 and 10
   place-means : (Else : ℕ → Type 0) (k : ℕ) (rest : List Check) → (k < placeCount → Else (first rest)) → AtPlace b k Else (first (placeCheck k ∷ rest))
@@ -58,7 +54,7 @@ module _ (b : Book) where
   blank-means : (Else : ℕ → Type 0) (k : ℕ) (rest : List Check) → ((row : List ℕ) → b .slots k ≡ some row → Else (first rest))
       → NotBlank b k Else (first (blankCheck (b .slots k) ∷ rest))
   blank-means Else k rest f =
-      when Else (isBlank (b .slots k)) empty (first rest) (decides-blank (b .slots k)) (λ e. let (row, q) = not-blank-row (b .slots k) e in f row q)
+      when Else (isBlank (b .slots k)) empty (first rest) (decides-blank (b .slots k)) (λ e. let (row, q) = not-blank (b .slots k) e in f row q)
 
   -- there is an answer, and all that are told have this length
   room-means : (q : Question) (size : ℕ) → (a : List ℕ) → Told b q a → ((a : List ℕ) → Told b q a → length a ≡ size)

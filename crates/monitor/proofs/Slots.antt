@@ -1,8 +1,8 @@
 -- What a place holds where its slot in the book is blank or has a row. Assumes nothing.
 use Prim.Native.Nat.{ℕ, _≤_}
 use native.Mathlib.Omega.{arith}
-use mathlib.Core.Path.{_≡_, ap, sym, _∙_}
-use mathlib.Core.Bool.{false, not}
+use mathlib.Core.Path.{_≡_, refl, ap, sym, _∙_}
+use mathlib.Core.Bool.{false, not, true≢false}
 use mathlib.Core.Option.{Option, none, some}
 use mathlib.Core.List.{List, []}
 use lib.Dec.{eqb}
@@ -29,6 +29,11 @@ use Rattle.parser.proofs.InForceBuilds.{built-conflict-free}
 use Rattle.monitor.specs.Panel.{isEmpty, usesBeyond, rebuilt}
 use Rattle.monitor.specs.Book.{rowIn, isBlank}
 use Rattle.monitor.proofs.Uses.{count-small, record-not-empty, uses-yield, over-under}
+
+-- a slot that is not blank has a row
+pub not-blank : (slot : Option (List ℕ)) → isBlank slot ≡ false → (row : List ℕ) × (slot ≡ some row)
+not-blank none e = absurd (true≢false e)
+not-blank (some row) e = (row, refl)
 
 -- t is the row's tree, within the lengths, and the bytes are its record
 pub record HeldTree (ops : Operators) (rules : List Rule) (row bytes : List ℕ) (t : Tree) : Type 0 where
