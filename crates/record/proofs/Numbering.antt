@@ -1,15 +1,14 @@
 -- What each way through `record_number` gives. Assumes nothing.
-use Prim.Native.Nat.{ℕ, _≤_, _<_}
+use Prim.Native.Nat.{ℕ, _*_, _≤_, _<_}
+use native.Mathlib.Omega.{arith}
 use mathlib.Core.Path.{_≡_, refl, ap, sym, _∙_}
 use mathlib.Core.Bool.{Bool, true, false, cond}
 use mathlib.Core.Option.{Option, none, some}
-use mathlib.Core.List.{List, [], _∷_}
+use mathlib.Core.List.{List, _++_}
 use lib.Dec.{ltb}
-use lib.ListN.{length}
+use lib.ListN.{length, take}
 use borrow.Author.Needs.{needs}
 use borrow.Author.Tests.{lt-ltb, le-ltb}
-use types.Run.{OneOf}
-use denote.Enum.Declared.{tagOf}
 use Rattle.expression.specs.Limits.{mostTokens, mostRecordBytes}
 use Rattle.expression.specs.Refusal.{accepted, oversize, stranger, noTree}
 use Rattle.expression.specs.Token.{Operators, class}
@@ -18,16 +17,12 @@ use Rattle.expression.specs.Decode.{treeOf}
 use Rattle.expression.specs.Checks.{isNone, recordNumber}
 use Rattle.expression.proofs.Classes.{brackets}
 use Rattle.expression.proofs.Lengths.{row-length-of-record}
-use Rattle.record.specs.Held.{front}
+use Rattle.record.specs.Held.{front, base}
 use Rattle.record.specs.Checks.{strangerInRecord, rowLength}
-use Rattle.record.specs.Reach.{reachNumber, reachEnd, Reaches}
-use Rattle.record.specs.declared.ends.Reach.{Reach}
-use Rattle.record.specs.declared.ends.Reach.the-variants.{At}
-use Rattle.record.proofs.ends.Reach as reaches
-use Rattle.record.proofs.Holding.{front-all}
+use Rattle.record.specs.Reach.{Reaches}
+use Rattle.record.proofs.Holding.{front-copied}
 use Rattle.record.proofs.Trees.{whole}
 use Rattle.record.proofs.Standing.{read-back}
-use Rattle.record.proofs.Reaching.{not-at}
 
 module _ (ops : Operators) (bytes : List ℕ) where
   pub too-long : mostRecordBytes < length bytes → oversize ≡ recordNumber ops bytes
@@ -63,24 +58,21 @@ module _ (ops : Operators) (bytes : List ℕ) where
       read-number l = ap (λ b. cond b oversize accepted) (sym (le-ltb mostTokens v l)) ∙ by-row
 
     -- by the walk to the end of the tree
-    module _ (w : Reach) (walked : Reaches ops (front (length bytes) bytes) 0 w) where
+    module _ (held rest : List ℕ) (w : ℕ) (copied : held ≡ take (length bytes) bytes ++ rest) (walked : Reaches ops (front (length bytes) held) 0 w) where
       on-bytes : Reaches ops bytes 0 w
-      on-bytes = rw (front-all bytes) at walked
+      on-bytes = rw (front-copied bytes held rest copied) at walked
 
-      pub walk-refused : OneOf (1 ∷ []) (tagOf reaches.the-type w) → noTree ≡ recordNumber ops bytes
-      walk-refused p = none-number (λ t e. not-at t w p on-bytes (whole ops bytes t e))
+      pub not-whole : (w ≡ length bytes * base → ⊥) → noTree ≡ recordNumber ops bytes
+      not-whole n = none-number (λ t e. n (on-bytes .reached t (length bytes) (whole ops bytes t e)))
 
-      module _ {end : ℕ} (is : w ≡ At end) where
-        pub ends-early : (end ≡ length bytes → ⊥) → noTree ≡ recordNumber ops bytes
-        ends-early n = none-number (λ t e. n (sym (ap reachEnd is) ∙ on-bytes .reached t (length bytes) (whole ops bytes t e) .1))
+      module _ (is : w ≡ length bytes * base) where
+        the-tree : (t : Tree) × (treeOf (class ops) bytes ≡ some t)
+        the-tree = let (t, x) = on-bytes .found (λ e. omega arith) in (t, read-back ops bytes t x (omega arith))
 
-        the-tree : end ≡ length bytes → (t : Tree) × (treeOf (class ops) bytes ≡ some t)
-        the-tree e = let (t, x) = on-bytes .found (ap reachNumber is) in (t, read-back ops bytes t x (ap reachEnd is ∙ e))
+        pub row-too-long : {v : ℕ} → v ≡ rowLength bytes → mostTokens < v → oversize ≡ recordNumber ops bytes
+        row-too-long r l = let (t, read) = the-tree in long-number t read r l
 
-        pub row-too-long : {v : ℕ} → end ≡ length bytes → v ≡ rowLength bytes → mostTokens < v → oversize ≡ recordNumber ops bytes
-        row-too-long e r l = let (t, read) = the-tree e in long-number t read r l
+        pub in-order : {v : ℕ} → v ≡ rowLength bytes → v ≤ mostTokens → accepted ≡ recordNumber ops bytes
+        in-order r l = let (t, read) = the-tree in read-number t read r l
 
-        pub in-order : {v : ℕ} → end ≡ length bytes → v ≡ rowLength bytes → v ≤ mostTokens → accepted ≡ recordNumber ops bytes
-        in-order e r l = let (t, read) = the-tree e in read-number t read r l
-
-pub ruleset record-number-ways = (too-long, strange, walk-refused, ends-early, row-too-long, in-order, needs)
+pub ruleset record-number-ways = (too-long, strange, not-whole, row-too-long, in-order, needs)

@@ -1,9 +1,11 @@
 -- What each way through `operand_part` gives. Assumes nothing.
-use Prim.Native.Nat.{ℕ, _-_}
+use Prim.Native.Nat.{ℕ, _-_, _*_, _≤_, _<_}
 use native.Mathlib.Omega.{arith}
-use mathlib.Core.Path.{_≡_, refl, ap, sym, _∙_}
+use native.Mathlib.Decide.{ℕ-discrete}
+use mathlib.Core.Path.{_≡_, refl, ap, sym, subst, _∙_}
 use mathlib.Core.Bool.{Bool, true, false, true≢false}
-use mathlib.Core.List.{List, [], _∷_}
+use mathlib.Core.Option.{some}
+use mathlib.Core.List.{List, [], _∷_, _++_}
 use mathlib.Core.Logic.{⊎-elim}
 use lib.ListN.{length, take, drop}
 use lib.Seq.{take-at}
@@ -11,109 +13,173 @@ use borrow.Author.Needs.{needs}
 use borrow.Author.Tests.{ne-eqb}
 use types.Run.{OneOf}
 use denote.Enum.Declared.{tagOf}
-use Rattle.expression.specs.Refusal.{accepted}
-use Rattle.expression.specs.Token.{Operators}
+use Rattle.expression.specs.Limits.{mostTokens, mostRecordBytes}
+use Rattle.expression.specs.Refusal.{accepted, noTree}
+use Rattle.expression.specs.Token.{Operators, class}
 use Rattle.expression.specs.Tree.{Tree, reading, bracket, binary, recordOf}
-use Rattle.expression.specs.Checks.{recordNumber}
+use Rattle.expression.specs.Decode.{treeOf}
+use Rattle.expression.specs.Checks.{rowTokens, recordNumber}
 use Rattle.expression.specs.Operand.{operandRecord, operandPart}
-use Rattle.record.specs.Held.{front}
+use Rattle.expression.proofs.Classes.{brackets}
+use Rattle.expression.proofs.Lengths.{row-length-of-record}
+use Rattle.expression.proofs.RecordsAndTrees.{record-treeOf}
+use Rattle.expression.proofs.Numbers.{record-accepted}
+use Rattle.record.specs.Held.{front, base}
 use Rattle.record.specs.Node.{nodeAt}
 use Rattle.record.specs.TreeAt.{TreeAt}
-use Rattle.record.specs.Reach.{reachEnd, Reaches}
+use Rattle.record.specs.Checks.{rowLength}
+use Rattle.record.specs.Reach.{reachedEnd, Reaches}
 use Rattle.record.specs.Operands.{OperandAt}
 use Rattle.record.specs.declared.Node.{Node}
 use Rattle.record.specs.declared.Node.the-variants as node
-use Rattle.record.specs.declared.ends.Reach.{Reach}
-use Rattle.record.specs.declared.ends.Reach.the-variants.{At}
+use Rattle.record.specs.declared.operands.Part.{Part}
 use Rattle.record.proofs.Node as nodes
-use Rattle.record.proofs.ends.Reach as reaches
-use Rattle.record.proofs.Holding.{front-all}
-use Rattle.record.proofs.Trees.{topOf, top-node, ends-within, a-bracket, an-operator}
+use Rattle.record.proofs.Nodes.{within-as}
+use Rattle.record.proofs.Holding.{front-copied}
+use Rattle.record.proofs.Trees.{topOf, top-node, ends-within, a-bracket}
+use Rattle.record.proofs.Standing.{read-back, bracket-at, operands-in, widened, joined-in}
 use Rattle.record.proofs.Accepted.{Accepted, accepted-tree}
-use Rattle.record.proofs.Reaching.{not-at}
+use Rattle.record.proofs.Reaching.{not-reached}
 
-module _ (ops : Operators) (right : Bool) (bytes : List ℕ) {number : ℕ} (known : number ≡ recordNumber ops bytes) where
-  pub record-refused : (number ≡ accepted → ⊥) → OperandAt ops right bytes (record { from = 0; to = 0 })
+module _ (ops : Operators) (right : Bool) (bytes : List ℕ) where
+  part-of : (t : Tree) → recordNumber ops bytes ≡ accepted → treeOf (class ops) bytes ≡ some t → operandPart ops right bytes ≡ operandRecord right t
   unfolding operandPart
-  record-refused h =
-      record {
+  part-of t e read = rw (e, read)
+
+  part-refused : (recordNumber ops bytes ≡ accepted → ⊥) → operandPart ops right bytes ≡ []
+  unfolding operandPart
+  part-refused n = rw (ne-eqb (recordNumber ops bytes) accepted n)
+
+  -- no part: an accepted record has no such operand
+  nowhere : {p : Part} → ((t : Tree) → Accepted ops bytes t → operandRecord right t ≡ []) → p ≡ record { from = 0; to = 0 } → OperandAt ops right bytes p
+  nowhere none e =
+      rw e (record {
         ordered = omega arith;
         within = omega arith;
-        stands = rw (← known, ne-eqb number accepted h);
+        stands = sym (go (ℕ-discrete (recordNumber ops bytes) accepted));
         left-place = λ r l. omega arith;
         right-place = λ r l. omega arith;
-      }
+      })
+    where
+      go : Dec (recordNumber ops bytes ≡ accepted) → operandPart ops right bytes ≡ []
+      go (yes e) = let (t, a) = accepted-tree ops bytes e in part-of t e (a .read) ∙ none t a
+      go (no n) = part-refused n
 
-  module _ (e : number ≡ accepted) where
-    part-of : (t : Tree) → Accepted ops bytes t → operandPart ops right bytes ≡ operandRecord right t
-    unfolding operandPart
-    part-of t a = rw (← known, e, a .read)
+  pub too-long : {p : Part} → mostRecordBytes < length bytes → p ≡ record { from = 0; to = 0 } → OperandAt ops right bytes p
+  too-long h = nowhere (λ t a. absurd (omega (arith, a .bytes-fit)))
 
-    -- no part, and the part where a tree stands
-    empty : (t : Tree) → Accepted ops bytes t → operandRecord right t ≡ [] → OperandAt ops right bytes (record { from = 0; to = 0 })
-    empty t a q = record { ordered = omega arith; within = omega arith; stands = sym (part-of t a ∙ q); left-place = λ r l. omega arith; right-place = λ r l. omega arith }
+  pub row-too-long : {p : Part} {v : ℕ} → v ≡ rowLength bytes → mostTokens < v → p ≡ record { from = 0; to = 0 } → OperandAt ops right bytes p
+  row-too-long v l = nowhere (λ t a. absurd (omega (arith, a .row-is, a .row-fits)))
 
-    standing : (t u : Tree) (from to : ℕ) → Accepted ops bytes t → TreeAt ops bytes from u to → operandRecord right t ≡ recordOf u
+  -- the part where a tree stands, in a record whose tree is found by the walks
+  module _ {v : ℕ} (fits : length bytes ≤ mostRecordBytes) (row : v ≡ rowLength bytes) (row-fits : v ≤ mostTokens) where
+    in-order : (t : Tree) → treeOf (class ops) bytes ≡ some t → recordNumber ops bytes ≡ accepted
+    in-order t read =
+        let (r, o) = record-treeOf (class ops) (brackets ops) bytes t read in
+        record-accepted ops bytes .1
+        (t, record { over = o; recorded = r; bytes-fit = fits; tokens-fit = omega (arith, ap rowTokens read, row-length-of-record (class ops) (brackets ops) bytes t read) })
+
+    standing : (t u : Tree) (from to : ℕ) → TreeAt ops bytes 0 t (length bytes) → TreeAt ops bytes from u to → operandRecord right t ≡ recordOf u
         → (right ≡ false → from ≡ 1) → (right ≡ true → to ≡ length bytes) → OperandAt ops right bytes (record { from = from; to = to })
     standing t u from to a x q left-at right-at =
+        let read = read-back ops bytes t a refl in
         record {
           ordered = omega (arith, x .ends);
           within = ends-within ops bytes from u to x;
-          stands = ap (take (to - from)) (x .stands) ∙ take-at (recordOf u) (drop to bytes) (to - from) (omega (arith, x .ends)) ∙ sym (part-of t a ∙ q);
+          stands = ap (take (to - from)) (x .stands) ∙ take-at (recordOf u) (drop to bytes) (to - from) (omega (arith, x .ends)) ∙ sym (part-of t (in-order t read) read ∙ q);
           left-place = λ r l. left-at r;
           right-place = λ r l. right-at r;
         }
 
-    module _ {x : Node} (found : x ≡ nodeAt ops bytes 0) where
-      pub bracket-right : x ≡ node.Bracket → right ≡ true → OperandAt ops right bytes (record { from = 0; to = 0 })
-      bracket-right is r =
-          let (t, a) = accepted-tree ops bytes (sym known ∙ e) in
-          let u = a-bracket ops bytes 0 found is t (a .stands) in
-          empty t a (ap (operandRecord right) (u .1) ∙ rw r)
+  -- the record is held at the front of a copy
+  module _ (held rest : List ℕ) (copied : held ≡ take (length bytes) bytes ++ rest) {x : Node} (seen : x ≡ nodeAt ops (front (length bytes) held) 0) where
+    same : front (length bytes) held ≡ bytes
+    same = front-copied bytes held rest copied
 
-      pub bracket-left : x ≡ node.Bracket → right ≡ false → OperandAt ops right bytes (record { from = 1; to = length bytes })
-      bracket-left is r =
-          let (t, a) = accepted-tree ops bytes (sym known ∙ e) in
-          let u = a-bracket ops bytes 0 found is t (a .stands) in
-          standing t (u .0) 1 (length bytes) a (u .2) (ap (operandRecord right) (u .1) ∙ ap (λ b. operandRecord b (bracket (u .0))) r) (λ f. refl) (λ f. refl)
+    found : x ≡ nodeAt ops bytes 0
+    found = seen ∙ ap (λ b. nodeAt ops b 0) same
 
-      pub no-operand : OneOf (0 ∷ 2 ∷ 3 ∷ []) (tagOf nodes.the-type x) → OneOf (0 ∷ 1 ∷ 3 ∷ []) (tagOf nodes.the-type x)
-          → OperandAt ops right bytes (record { from = 0; to = 0 })
-      no-operand p q =
-          let (t, a) = accepted-tree ops bytes (sym known ∙ e) in
-          let top : x ≡ topOf t = found ∙ top-node ops bytes 0 t (a .stands) in
-          empty t a (none t (rw top at p) (rw top at q))
-        where
-          none : (t : Tree) → OneOf (0 ∷ 2 ∷ 3 ∷ []) (tagOf nodes.the-type (topOf t)) → OneOf (0 ∷ 1 ∷ 3 ∷ []) (tagOf nodes.the-type (topOf t))
-              → operandRecord right t ≡ []
-          none (reading b) p q = refl
-          none (bracket u) p q = absurd (⊎-elim (λ w. omega arith) (⊎-elim (λ w. omega arith) (λ w. omega arith)) p)
-          none (binary o l r) p q = absurd (⊎-elim (λ w. omega arith) (⊎-elim (λ w. omega arith) (λ w. omega arith)) q)
+    pub no-operand : {p : Part} → OneOf (0 ∷ 2 ∷ 3 ∷ []) (tagOf nodes.the-type x) → OneOf (0 ∷ 1 ∷ 3 ∷ []) (tagOf nodes.the-type x) → p ≡ record { from = 0; to = 0 }
+        → OperandAt ops right bytes p
+    no-operand p q = nowhere (λ t a. let top : x ≡ topOf t = found ∙ top-node ops bytes 0 t (a .stands) in none t (rw top at p) (rw top at q))
+      where
+        none : (t : Tree) → OneOf (0 ∷ 2 ∷ 3 ∷ []) (tagOf nodes.the-type (topOf t)) → OneOf (0 ∷ 1 ∷ 3 ∷ []) (tagOf nodes.the-type (topOf t))
+            → operandRecord right t ≡ []
+        none (reading b) p q = refl
+        none (bracket u) p q = absurd (⊎-elim (λ w. omega arith) (⊎-elim (λ w. omega arith) (λ w. omega arith)) p)
+        none (binary o l r) p q = absurd (⊎-elim (λ w. omega arith) (⊎-elim (λ w. omega arith) (λ w. omega arith)) q)
 
-      module _ {o : ℕ} (is : x ≡ node.Operator o) (w : Reach) (walked : Reaches ops (front (length bytes) bytes) 1 w) where
-        on-bytes : Reaches ops bytes 1 w
-        on-bytes = rw (front-all bytes) at walked
+    module _ (is : x ≡ node.Bracket) where
+      pub bracket-right : {p : Part} → right ≡ true → p ≡ record { from = 0; to = 0 } → OperandAt ops right bytes p
+      bracket-right r = nowhere (λ t a. ap (operandRecord right) (a-bracket ops bytes 0 found is t (a .stands) .1) ∙ rw r)
 
-        pub never-refused : OneOf (1 ∷ []) (tagOf reaches.the-type w) → OperandAt ops right bytes (record { from = 0; to = 0 })
-        never-refused p =
-            let (t, a) = accepted-tree ops bytes (sym known ∙ e) in
-            let u = an-operator ops bytes 0 found is t (a .stands) in
-            not-at (u .0) w p on-bytes (u .4)
+      module _ (w : ℕ) (walked : Reaches ops (front (length bytes) held) 1 w) where
+        inside : Reaches ops bytes 1 w
+        inside = rw same at walked
 
-        pub operator-right : {mid : ℕ} → w ≡ At mid → right ≡ true → OperandAt ops right bytes (record { from = mid; to = length bytes })
-        operator-right {mid} q r =
-            let (t, a) = accepted-tree ops bytes (sym known ∙ e) in
-            let u = an-operator ops bytes 0 found is t (a .stands) in
-            let m : u .2 ≡ mid = sym (on-bytes .reached (u .0) (u .2) (u .4) .1) ∙ ap reachEnd q in
-            standing t (u .1) mid (length bytes) a (rw m at (u .5)) (ap (operandRecord right) (u .3) ∙ ap (λ b. operandRecord b (binary o (u .0) (u .1))) r)
-            (λ f. absurd (true≢false (sym r ∙ f))) (λ f. refl)
+        pub bracket-cut : {p : Part} → (w ≡ length bytes * base → ⊥) → p ≡ record { from = 0; to = 0 } → OperandAt ops right bytes p
+        bracket-cut n = nowhere (λ t a. let u = a-bracket ops bytes 0 found is t (a .stands) in absurd (n (inside .reached (u .0) (length bytes) (u .2))))
 
-        pub operator-left : {mid : ℕ} → w ≡ At mid → right ≡ false → OperandAt ops right bytes (record { from = 1; to = mid })
-        operator-left {mid} q r =
-            let (t, a) = accepted-tree ops bytes (sym known ∙ e) in
-            let u = an-operator ops bytes 0 found is t (a .stands) in
-            let m : u .2 ≡ mid = sym (on-bytes .reached (u .0) (u .2) (u .4) .1) ∙ ap reachEnd q in
-            standing t (u .0) 1 mid a (rw m at (u .4)) (ap (operandRecord right) (u .3) ∙ ap (λ b. operandRecord b (binary o (u .0) (u .1))) r)
-            (λ f. refl) (λ f. absurd (true≢false (sym f ∙ r)))
+        pub bracket-left : {v : ℕ} → length bytes ≤ mostRecordBytes → v ≡ rowLength bytes → v ≤ mostTokens → right ≡ false → w ≡ length bytes * base
+            → OperandAt ops right bytes (record { from = 1; to = length bytes })
+        bracket-left fits row row-fits r e =
+            let (u, y) = inside .found (λ z. omega arith) in
+            let end : reachedEnd w ≡ length bytes = omega arith in
+            let a : TreeAt ops bytes 1 u (length bytes) = rw end at y in
+            standing fits row row-fits (bracket u) u 1 (length bytes) (bracket-at ops bytes 0 found is u a) a (rw r) (λ f. refl) (λ f. refl)
 
-pub ruleset operand-part-ways = (record-refused, bracket-right, bracket-left, no-operand, never-refused, operator-right, operator-left, needs)
+    pub some-bytes : {o : ℕ} → x ≡ node.Operator o → 1 ≤ length bytes
+    some-bytes is = let d = within-as ops bytes 0 found is refl in omega arith
+
+    module _ {o : ℕ} (is : x ≡ node.Operator o) (l : ℕ) (left : Reaches ops (front (length bytes - 1) held) 1 l) where
+      -- the operands of an accepted record, as the walks find them
+      operands : (t : Tree) → Accepted ops bytes t
+          → (m : Tree) × (r : Tree) × (mid : ℕ) × (t ≡ binary o m r) × TreeAt ops (front (length bytes - 1) held) 1 m mid × TreeAt ops (front (length bytes) held) mid r (length bytes)
+      operands t a = operands-in ops (length bytes) held 0 seen is t (subst (λ b. TreeAt ops b 0 t (length bytes)) (sym same) (a .stands))
+
+      pub left-cut : {p : Part} → l ≡ noTree → p ≡ record { from = 0; to = 0 } → OperandAt ops right bytes p
+      left-cut e = nowhere (λ t a. let u = operands t a in not-reached (u .0) e left (u .4))
+
+      module _ (w : ℕ) (some : l ≡ noTree → ⊥) (walked : Reaches ops (front (length bytes) held) (reachedEnd l) w) where
+        pub right-cut : {p : Part} → (w ≡ length bytes * base → ⊥) → p ≡ record { from = 0; to = 0 } → OperandAt ops right bytes p
+        right-cut n =
+            nowhere (λ t a.
+            let u = operands t a in
+            let e : u .2 ≡ reachedEnd l = omega (arith, left .reached (u .0) (u .2) (u .4)) in
+            absurd (n (walked .reached (u .1) (length bytes) (rw e at (u .5)))))
+
+        module _ {v : ℕ} (fits : length bytes ≤ mostRecordBytes) (row : v ≡ rowLength bytes) (row-fits : v ≤ mostTokens) (e : w ≡ length bytes * base) where
+          end : reachedEnd w ≡ length bytes
+          end = omega arith
+
+          both : (m : Tree) × (r : Tree) × TreeAt ops bytes 0 (binary o m r) (length bytes) × TreeAt ops bytes 1 m (reachedEnd l) × TreeAt ops bytes (reachedEnd l) r (length bytes)
+          both =
+              let (m, a) = left .found some in
+              let (r, b) = walked .found (λ z. omega arith) in
+              let c : TreeAt ops (front (length bytes) held) (reachedEnd l) r (length bytes) = rw end at b in
+              (m, r, rw same at (joined-in ops (length bytes) held 0 seen is m r a c), rw same at (widened ops (length bytes) held 0 seen is m a), rw same at c)
+
+          pub operator-right : right ≡ true → OperandAt ops right bytes (record { from = reachedEnd l; to = length bytes })
+          operator-right r =
+              let (m, n, a, b, c) = both in
+              standing fits row row-fits (binary o m n) n (reachedEnd l) (length bytes) a c (rw r) (λ f. absurd (true≢false (sym r ∙ f))) (λ f. refl)
+
+          pub operator-left : right ≡ false → OperandAt ops right bytes (record { from = 1; to = reachedEnd l })
+          operator-left r =
+              let (m, n, a, b, c) = both in
+              standing fits row row-fits (binary o m n) m 1 (reachedEnd l) a b (rw r) (λ f. refl) (λ f. absurd (true≢false (sym f ∙ r)))
+
+pub ruleset operand-part-ways = (
+  too-long,
+  row-too-long,
+  no-operand,
+  bracket-right,
+  bracket-cut,
+  bracket-left,
+  some-bytes,
+  left-cut,
+  right-cut,
+  operator-right,
+  operator-left,
+  needs,
+)

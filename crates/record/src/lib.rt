@@ -5,7 +5,6 @@ ghost use Rattle.expression.specs.Operand.{operandPart};
 ghost use Rattle.sheet.specs.Layout.{operatorsOf};
 ghost use Rattle.record.specs.Node.{nodeAt};
 ghost use Rattle.record.specs.Answers.{Yields, judgement};
-use crate::ends::Reach;
 use expression::limits;
 use expression::refusal;
 use expression::token;
@@ -59,10 +58,9 @@ pub fn record_number(sheet: &[u32; SHEET_WORDS], bytes: &[u8]) -> u8
     if checks::has_stranger(sheet, bytes) {
         return refusal::STRANGER;
     }
-    let Reach::At(end) = ends::end_at(sheet, bytes, bytes.len(), 0) else {
-        return refusal::NO_TREE;
-    };
-    if end != bytes.len() {
+    let mut held = [0u8; limits::MOST_RECORD_BYTES];
+    bytes::copy(bytes, &mut held);
+    if ends::end_at(sheet, &held, bytes.len(), 0) != bytes.len() * held::BASE {
         return refusal::NO_TREE;
     }
     if limits::MOST_TOKENS < checks::row_length(bytes) {

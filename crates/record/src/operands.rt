@@ -1,12 +1,14 @@
 // Where the operands of a record's top node stand.
+ghost use mathlib.Core.Path.{_≡_};
 ghost use Rattle.sheet.specs.Layout.{operatorsOf};
 ghost use Rattle.record.specs.Operands.{OperandAt};
 use crate::Node;
+use crate::checks;
 use crate::ends;
-use crate::ends::Reach;
-use crate::node_at;
-use crate::record_number;
-use expression::refusal;
+use crate::held::BASE;
+use crate::held::NO_TREE;
+use crate::held::node_in;
+use expression::limits;
 use sheet::layout::SHEET_WORDS;
 
 // A part of a record, from a place up to another.
@@ -16,34 +18,52 @@ pub struct Part {
     pub to: usize,
 }
 
-// The place of the left or of the right operand. A bracket's tree counts as its left; nowhere where there is none.
+// The empty part.
+fn nowhere() -> Part
+    ensures { λ r. ⌜ r ≡ record { from = 0; to = 0 } ⌝ }
+{
+    Part { from: 0, to: 0 }
+}
+
+// The place of the left or of the right operand. A bracket's tree counts as its left; nowhere where there is none, and where
+// the record is refused: each operand is walked to its end once, and a stranger is no tree.
 pub fn operand_part(sheet: &[u32; SHEET_WORDS], bytes: &[u8], right: bool) -> Part
     ensures { λ r. ⌜ OperandAt (operatorsOf (now (sheet .entry))) right (now (bytes .entry)) r ⌝ }
 {
-    if record_number(sheet, bytes) != refusal::ACCEPTED {
-        return Part { from: 0, to: 0 };
+    if limits::MOST_RECORD_BYTES < bytes.len() {
+        return nowhere();
     }
-    let node = node_at(sheet, bytes, 0);
+    if limits::MOST_TOKENS < checks::row_length(bytes) {
+        return nowhere();
+    }
+    let mut held = [0u8; limits::MOST_RECORD_BYTES];
+    bytes::copy(bytes, &mut held);
+    let size = bytes.len();
+    let node = node_in(sheet, &held, size, 0);
     if let Node::Bracket = node {
         if right {
-            return Part { from: 0, to: 0 };
+            return nowhere();
         }
-        return Part {
-            from: 1,
-            to: bytes.len(),
-        };
+        if ends::end_at(sheet, &held, size, 1) != size * BASE {
+            return nowhere();
+        }
+        return Part { from: 1, to: size };
     }
     let Node::Operator(_) = node else {
-        return Part { from: 0, to: 0 };
+        return nowhere();
     };
-    let left = ends::end_at(sheet, bytes, bytes.len(), 1);
-    let Reach::At(mid) = left else {
-        return Part { from: 0, to: 0 };
-    };
+    let left = ends::end_at(sheet, &held, size - 1, 1);
+    if left == NO_TREE {
+        return nowhere();
+    }
+    let mid = left / BASE;
+    if ends::end_at(sheet, &held, size, mid) != size * BASE {
+        return nowhere();
+    }
     if right {
         return Part {
             from: mid,
-            to: bytes.len(),
+            to: size,
         };
     }
     Part { from: 1, to: mid }

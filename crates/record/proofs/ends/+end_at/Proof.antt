@@ -1,13 +1,14 @@
 -- `record::ends::end_at` meets its contract; the bytes from the place on fall. Assumes nothing.
 use Prim.Native.Nat.{ℕ, _<_, _-_}
 use native.Mathlib.Omega.{arith}
+use borrow.Author.Needs.{needs}
 use borrow.Fn.Kinds.{In}
 use borrow.Fn.PlainCycle.{Measures, is, falls, and}
-use Rattle.record.proofs.Reaching.{end-at-ways}
+use Rattle.record.proofs.Reaching.{mid-falls, end-at-ways}
 use Rattle.record.proofs.ends.end_at.Reads as end-at
 use Rattle.record.proofs.ends.end_at.Kinds as end-at-kinds
 use Rattle.record.proofs.ends.+end_at.Lts-end_at as end-at-lts
-use Rattle.record.proofs.node_at.Reads as node-at-reads
+use Rattle.record.proofs.held.node_in.Reads as node-in
 use Rattle.record.proofs.ends.+end_at.{statement}
 use Rattle.record.proofs.ends.+end_at.Tie.{close}
 
@@ -22,25 +23,28 @@ end-at-below t = and 2 end-at-kinds.ps (falls 2 end-at-kinds.ps _<_ μ-end-at t)
 
 pub +end-at-spec : {M : Type 1} → statement M
 +end-at-spec =
-    close μ-end-at λ t. end-at-lts.spec (node-at-reads.Asked, node-at-reads.Learnt, end-at-below t, end-at.Post) (end-at-at t) end-at.Post
+    close μ-end-at λ t. end-at-lts.spec (node-in.Asked, node-in.Learnt, end-at-below t, end-at.Post) (end-at-at t) end-at.Post
+    (λ c. search end-at-ways)
+    (λ c κs. omega arith)
+    (λ c. search end-at-ways)
     (λ c. omega arith)
     (λ c. omega arith)
+    (λ c. search end-at-ways)
+    (λ c. search end-at-ways)
     (λ c. omega arith)
-    (λ c κs. search end-at-ways)
+    (λ c κs. (omega arith, omega arith))
     (λ c. search end-at-ways)
     (λ c. search end-at-ways)
     (λ c. search end-at-ways)
+    (λ c. omega arith)
+    (λ c κs. omega arith)
     (λ c. search end-at-ways)
+    (λ c. omega arith)
+    (λ c κs. (omega arith, omega arith))
     (λ c. search end-at-ways)
-    (λ c κs. (search end-at-ways, omega arith))
+    (λ c. omega arith)
+    (λ c. omega arith)
+    (λ c κs. (omega arith, omega arith))
     (λ c. search end-at-ways)
-    (λ c. search end-at-ways)
-    (λ c. search end-at-ways)
-    (λ c. search end-at-ways)
-    (λ c. search end-at-ways)
-    (λ c κs. (search end-at-ways, omega arith))
-    (λ c. search end-at-ways)
-    (λ c. search end-at-ways)
-    (λ c. search end-at-ways)
-    (λ c κs. (search end-at-ways, omega arith))
+    (λ c κs. (search (mid-falls, needs), omega arith))
     (λ c. search end-at-ways)
