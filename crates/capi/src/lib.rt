@@ -1,7 +1,7 @@
 // The calls for C and Rust, under names of their own. They take numbers and addresses alone: a list is an address and a length.
 ghost use mathlib.Core.Path.{_≡_};
 ghost use Rattle.sheet.specs.Layout.{operatorsOf};
-ghost use Rattle.monitor.specs.Call.{load, putRow, putRecord, fetchRecord, fetchRow, image, build, repair, yield};
+ghost use Rattle.monitor.specs.Call.{load, putRow, putRecord, fetchRecord, fetchRow, image, build, repair, yield, shortestRow};
 ghost use Rattle.monitor.specs.Panel.{panel};
 ghost use Rattle.monitor.specs.Contracts.{Changes, Drops, AnswersInto, AnswersUnder, AnswersFrom, Judges, NumbersOperand, PlacesOperand};
 ghost use Rattle.frame.specs.Contracts.{Replies};
@@ -123,6 +123,17 @@ pub extern "C" fn tihvomen_yield(sheet: &[u32; SHEET_WORDS], bytes: &[u8], out: 
     ensures { λ r. ⌜ AnswersUnder (now (sheet .entry)) (yield (now (bytes .entry)) (now (out .entry))) r (now (out .exit)) ⌝ }
 {
     monitor::yield_row(sheet, bytes, out)
+}
+
+#[no_mangle]
+pub extern "C" fn tihvomen_shortest_row(
+    sheet: &[u32; SHEET_WORDS],
+    bytes: &[u8],
+    out: &mut [u8],
+) -> Answer
+    ensures { λ r. ⌜ AnswersUnder (now (sheet .entry)) (shortestRow (now (bytes .entry)) (now (out .entry))) r (now (out .exit)) ⌝ }
+{
+    monitor::shortest_row(sheet, bytes, out)
 }
 
 // The number of an operand call, for either side.

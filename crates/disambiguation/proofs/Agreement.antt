@@ -16,12 +16,12 @@ module _ (k : ℕ → Class) where
   abbrev pub Agree : (ℕ → ℕ → Bool) → (ℕ → ℕ → Bool) → Type 0
   Agree S T = (a b : ℕ) → k a ≡ Infix → k b ≡ Infix → S a b ≡ T a b
 
-  seen-right-infix : (t : Tree) → Over k t → All (λ o. k o ≡ Infix) (seenFromRight t)
+  pub seen-right-infix : (t : Tree) → Over k t → All (λ o. k o ≡ Infix) (seenFromRight t)
   seen-right-infix (reading a) h = tt
   seen-right-infix (bracket t) h = tt
   seen-right-infix (binary o l r) h = (h .0, tt)
 
-  seen-left-infix : (t : Tree) → Over k t → All (λ o. k o ≡ Infix) (seenFromLeft t)
+  pub seen-left-infix : (t : Tree) → Over k t → All (λ o. k o ≡ Infix) (seenFromLeft t)
   seen-left-infix (reading a) h = tt
   seen-left-infix (bracket t) h = tt
   seen-left-infix (binary o l r) h = (h .0, tt)

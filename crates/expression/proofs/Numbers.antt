@@ -1,6 +1,7 @@
 -- When a row and a record are accepted, in the terms of rows and trees. Assumes nothing.
 use Prim.Native.Nat.{ℕ, _≤_, _<_}
 use native.Mathlib.Omega.{arith}
+use native.Mathlib.Decide.{ℕ-discrete}
 use mathlib.Core.Path.{_≡_, refl, ap, sym, _∙_}
 use mathlib.Core.Bool.{Bool, true, false, cond, true≢false}
 use mathlib.Core.Logic.{_↔_}
@@ -16,7 +17,7 @@ use Rattle.expression.specs.Tree.{Tree, yield, recordOf, Over}
 use Rattle.expression.specs.Grammar.{Row}
 use Rattle.expression.specs.RowTest.{isRow}
 use Rattle.expression.specs.Decode.{treeOf}
-use Rattle.expression.specs.Checks.{isNone, rowTokens, shortCheck, rowChecks, recordChecks, rowNumber, recordNumber}
+use Rattle.expression.specs.Checks.{isNone, rowTokens, shortCheck, rowChecks, recordChecks, rowNumber, recordNumber, repairNumber}
 use Rattle.expression.proofs.Classes.{brackets}
 use Rattle.expression.proofs.RecordsAndTrees.{treeOf-record, record-treeOf}
 use Rattle.expression.proofs.RowTestDecides.{isRow-exactly-if-row}
@@ -58,6 +59,14 @@ first-short cs answer room e n h = first-append cs (shortCheck answer room ∷ [
 
 pub first-roomy : (cs : List Check) (answer room : ℕ) → first cs ≡ accepted → Numbered cs → answer ≤ room → first (cs ++ (shortCheck answer room ∷ [])) ≡ accepted
 first-roomy cs answer room e n h = first-append cs (shortCheck answer room ∷ []) (passed-first cs n e) ∙ rw (le-ltb room answer h)
+
+-- with room for every answer, 10 is never the number
+pub first-enough : (cs : List Check) (answer room : ℕ) → Numbered cs → (first cs ≡ accepted → answer ≤ room) → first (cs ++ (shortCheck answer room ∷ [])) ≡ first cs
+first-enough cs answer room n h = go (ℕ-discrete (first cs) accepted)
+  where
+    go : Dec (first cs ≡ accepted) → first (cs ++ (shortCheck answer room ∷ [])) ≡ first cs
+    go (yes e) = first-roomy cs answer room e n (h e) ∙ sym e
+    go (no e) = first-refused cs (shortCheck answer room ∷ []) e
 
 module _ (ops : Operators) where
   pub row-numbered : (tokens : List ℕ) → Numbered (rowChecks ops tokens)
@@ -113,3 +122,9 @@ module _ (ops : Operators) where
           (record-has-no-stranger (class ops) bytes t q, (rw q, (rw q (le-ltb mostTokens (length (yield t)) (r .tokens-fit)), tt))),
         ),
   )
+
+  -- a repair with room for every record
+  pub repair-number : (bytes : List ℕ) (room : ℕ) → mostRecordBytes ≤ room → repairNumber ops bytes room ≡ recordNumber ops bytes
+  unfolding repairNumber recordNumber
+  repair-number bytes room h =
+      first-enough (recordChecks ops bytes) (length bytes) room (record-numbered bytes) (λ e. let (t, r) = record-accepted bytes .0 e in omega (arith, r .bytes-fit))

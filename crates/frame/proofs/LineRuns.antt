@@ -6,7 +6,7 @@ use mathlib.Core.List.{List, [], _∷_}
 use mathlib.Core.Option.{Option, none, some}
 use borrow.Author.Tests.{ne-eqb}
 use Rattle.expression.specs.Refusal.{accepted, oversize}
-use Rattle.monitor.specs.Call.{Question, Call, load, loadList, putRow, putRecord, drop, ask, fetchRecord, fetchRow, image, build, repair, judge, yield, operand}
+use Rattle.monitor.specs.Call.{Question, Call, load, loadList, putRow, putRecord, drop, ask, fetchRecord, fetchRow, image, build, repair, judge, yield, operand, shortestRow}
 use Rattle.monitor.specs.Panel.{Panel, ifAccepted}
 use Rattle.monitor.specs.Steps.{outcome, after}
 use Rattle.monitor.specs.Book.{Book, askedNumber, bookNumber}
@@ -75,6 +75,7 @@ module _ (p : Panel) (b : Book) (s : Stands p b) where
   said-to (repair bytes out) z = tells p b s (repair bytes out) z
   said-to (yield bytes out) z = tells p b s (yield bytes out) z
   said-to (operand right bytes) z = tells p b s (operand right bytes) z
+  said-to (shortestRow bytes out) z = tells p b s (shortestRow bytes out) z
 
   said : (c : Call) → bookNumber b c ≡ accepted → Said b c (answerOf p c)
   said (load n rules) z = refl

@@ -7,7 +7,7 @@ use lib.Dec.{eqb}
 use lib.ListN.{replicate}
 use Rattle.expression.specs.Refusal.{frame}
 use Rattle.places.specs.Store.{slotBytes}
-use Rattle.monitor.specs.Call.{Question, Call, load, loadList, putRow, putRecord, drop, ask, fetchRecord, fetchRow, image, build, repair, judge, yield, operand}
+use Rattle.monitor.specs.Call.{Question, Call, load, loadList, putRow, putRecord, drop, ask, fetchRecord, fetchRow, image, build, repair, judge, yield, operand, shortestRow}
 use Rattle.monitor.specs.Panel.{Panel, ifAccepted}
 use Rattle.monitor.specs.Steps.{told, outcome, after}
 
@@ -59,6 +59,7 @@ module _ (p : Panel) where
   toldBytes (repair bytes out) = told p (repair bytes out) .answer
   toldBytes (yield bytes out) = told p (yield bytes out) .answer
   toldBytes (operand right bytes) = told p (operand right bytes) .answer
+  toldBytes (shortestRow bytes out) = told p (shortestRow bytes out) .answer
 
   abbrev pub answerOf : Call → List ℕ
   answerOf (load n rules) = []

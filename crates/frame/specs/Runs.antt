@@ -7,7 +7,7 @@ use mathlib.Core.Option.{Option, none, some}
 use Rattle.expression.specs.Refusal.{accepted, oversize, frame}
 use Rattle.expression.specs.Tree.{Tree}
 use Rattle.disambiguation.specs.Conflicts.{conflictCount}
-use Rattle.monitor.specs.Call.{Question, Call, load, loadList, putRow, putRecord, drop, ask, fetchRecord, fetchRow, image, build, repair, judge, yield, operand}
+use Rattle.monitor.specs.Call.{Question, Call, load, loadList, putRow, putRecord, drop, ask, fetchRecord, fetchRow, image, build, repair, judge, yield, operand, shortestRow}
 use Rattle.monitor.specs.Panel.{Panel, fresh}
 use Rattle.monitor.specs.Book.{Book, bookNumber}
 use Rattle.monitor.specs.Run.{bookAfter, Each}
@@ -42,6 +42,7 @@ module _ (b : Book) where
   SaidTo (repair bytes out) answer = Told b (repair bytes out) answer
   SaidTo (yield bytes out) answer = Told b (yield bytes out) answer
   SaidTo (operand right bytes) answer = Told b (operand right bytes) answer
+  SaidTo (shortestRow bytes out) answer = Told b (shortestRow bytes out) answer
 
   -- and to any call
   abbrev pub Said : Call → List ℕ → Type 0

@@ -19,10 +19,11 @@ use Rattle.record.specs.Answers.{Yields, judgement}
 use Rattle.record.specs.declared.Answer.{Answer}
 use Rattle.record.specs.declared.Judgement.{Judgement}
 use Rattle.parser.specs.Answers.{AnswersBuild, AnswersRepair}
+use Rattle.brackets.specs.Shortest.{AnswersShortest}
 use Rattle.places.specs.Store.{placeCount, slotBytes, held, imageOf, drawn}
 use Rattle.places.proofs.Images.{length-image}
 use Rattle.places.proofs.Laws.{held-length}
-use Rattle.monitor.specs.Call.{Question, lentBefore, fetchRecord, fetchRow, image, build, repair, yield}
+use Rattle.monitor.specs.Call.{Question, lentBefore, fetchRecord, fetchRow, image, build, repair, yield, shortestRow}
 use Rattle.monitor.specs.Panel.{Panel, panel, isEmpty}
 use Rattle.monitor.specs.Steps.{fetchRecordNumber, fetchRowNumber, imageNumber, told}
 use Rattle.monitor.specs.Contracts.{AnswersInto, AnswersUnder, AnswersFrom, Judges}
@@ -53,7 +54,7 @@ module _ (p : Panel) (q : Question) where
   as-told number answer e a n l o =
       record { numbered = n ∙ e; measured = l ∙ ap₂ lengthAfter (n ∙ e) a; output = o ∙ ap₂ (λ x y. outputAfter x y (lentBefore q)) (n ∙ e) a }
 
--- ---- build, repair, yield: what the lower crates promise is the run's answer
+-- ---- build, repair, yield, the shortest row: what the lower crates promise is the run's answer
 module _ (sheet : List ℕ) {bytes before later : List ℕ} {r : Answer} where
   pub build-answered : AnswersBuild sheet bytes before later r → AnswersUnder sheet (build bytes before) r later
   build-answered a = record { answers = λ places. as-told (panel sheet places) (build bytes before) _ _ refl refl (a .numbered) (a .measured) (a .output) }
@@ -64,7 +65,10 @@ module _ (sheet : List ℕ) {bytes before later : List ℕ} {r : Answer} where
   pub yield-answered : Yields (operatorsOf sheet) bytes before later r → AnswersUnder sheet (yield bytes before) r later
   yield-answered a = record { answers = λ places. as-told (panel sheet places) (yield bytes before) _ _ refl refl (a .numbered) (a .measured) (a .output) }
 
-pub ruleset under-sheet-ways = (build-answered, repair-answered, yield-answered, needs)
+  pub shortest-answered : AnswersShortest sheet bytes before later r → AnswersUnder sheet (shortestRow bytes before) r later
+  shortest-answered a = record { answers = λ places. as-told (panel sheet places) (shortestRow bytes before) _ _ refl refl (a .numbered) (a .measured) (a .output) }
+
+pub ruleset under-sheet-ways = (build-answered, repair-answered, yield-answered, shortest-answered, needs)
 
 -- ---- judge
 pub judged : (sheet bytes : List ℕ) {r : Judgement} → r ≡ judgement sheet bytes → Judges sheet bytes r

@@ -15,6 +15,7 @@ pub mod MeaningsBook
 pub mod Demand1
 pub mod Demand2
 pub mod Demand3
+pub mod ShortestRows
 pub mod AnswerWays
 pub mod StoreWays
 pub mod LoadWays

@@ -1,6 +1,7 @@
 -- Each number that the book gives has its meaning, and so has each number of a run. Assumes nothing.
 use Prim.Native.Nat.{ℕ, _<_, _≤_}
 use native.Mathlib.Omega.{arith}
+use native.Mathlib.Nat.{le-antisymm}
 use mathlib.Core.Path.{_≡_, refl, ap, sym, subst, _∙_}
 use mathlib.Core.Bool.{not, false≢true}
 use mathlib.Core.Option.{Option, none, some}
@@ -11,7 +12,7 @@ use borrow.Author.Tests.{ltb-true, lt-ltb, not-false}
 use Rattle.expression.specs.Limits.{mostTokens}
 use Rattle.expression.specs.Refusal.{Check, first, accepted, place, empty, short}
 use Rattle.expression.specs.Token.{closing, class}
-use Rattle.expression.specs.Tree.{Tree, recordOf}
+use Rattle.expression.specs.Tree.{Tree, recordOf, Over}
 use Rattle.expression.specs.Tree as tree
 use Rattle.expression.specs.Decode.{treeOf}
 use Rattle.expression.specs.Checks.{shortCheck, recordBytes, rowTokens, rowChecks, recordChecks, recordNumber, buildNumber, repairNumber, yieldNumber}
@@ -21,9 +22,12 @@ use Rattle.expression.proofs.Lengths.{record-length, same-row-same-length}
 use Rattle.disambiguation.specs.Conflicts.{ConflictFreeTree}
 use Rattle.disambiguation.specs.ExactlyOne.{HasOne, EveryRowHasOne}
 use Rattle.parser.proofs.InForceBuilds.{built-conflict-free}
+use Rattle.brackets.specs.SameMeaning.{ShortestRow}
+use Rattle.brackets.specs.Shortest.{shortestBy, shortestNumber}
+use Rattle.brackets.proofs.InForceShortest.{shortest-of-tree}
 use Rattle.places.specs.Store.{placeCount, slotBytes, held, imageOf}
 use Rattle.places.proofs.Images.{length-image}
-use Rattle.monitor.specs.Call.{Question, Call, lentBefore, load, loadList, putRow, putRecord, drop, ask, fetchRecord, fetchRow, image, build, repair, judge, yield, operand}
+use Rattle.monitor.specs.Call.{Question, Call, lentBefore, load, loadList, putRow, putRecord, drop, ask, fetchRecord, fetchRow, image, build, repair, judge, yield, operand, shortestRow}
 use Rattle.monitor.specs.Panel.{Panel, placeCheck}
 use Rattle.monitor.specs.Steps.{reply}
 use Rattle.monitor.specs.Book.{Book, rowIn, isBlank, blankCheck, slotRow, SlotTree, askedNumber, bookNumber}
@@ -70,7 +74,8 @@ module _ (b : Book) where
   free-length : {row : List ℕ} {t : Tree} → ConflictFreeTree (b .operators) (b .rules) row t → length (recordOf t) ≡ recordBytes row
   free-length {t = t} c = record-length (class (b .operators)) (brackets (b .operators)) t (c .over) ∙ ap recordBytes (c .yields)
 
-  module _ (every : EveryRowHasOne (b .operators) (b .rules)) (trees : SlotsHaveTrees b) where
+  module _ (every : EveryRowHasOne (b .operators) (b .rules)) (trees : SlotsHaveTrees b)
+      (shortens : (t : Tree) → Over (class (b .operators)) t → ShortestRow (b .operators) (b .rules) (tree.yield t) (shortestBy (b .rules) (some t))) where
     slot-tree : (k : ℕ) (row : List ℕ) → k < placeCount → b .slots k ≡ some row → (t : Tree) × SlotTree b k t
     slot-tree k row h q = let (_, (t, c)) = trees k row h q in (t, rw (ap rowIn q) c)
 
@@ -92,7 +97,7 @@ module _ (b : Book) where
             (λ a t. let (u, d, e) : Image b k (some row) a = rw q at t in ap length e ∙ with-tree row q u d)
 
     asked-means : (q : Question) → MeansAsked b q (askedNumber b q)
-    unfolding recordNumber buildNumber repairNumber yieldNumber
+    unfolding recordNumber buildNumber repairNumber yieldNumber shortestNumber
     asked-means (fetchRecord k out) =
         place-means (NotBlank b k (WithRoom b (fetchRecord k out))) k (blankCheck (b .slots k) ∷ shortCheck (recordBytes (slotRow b k)) (length out) ∷ [])
         (λ h. blank-means (WithRoom b (fetchRecord k out)) k (shortCheck (recordBytes (slotRow b k)) (length out) ∷ [])
@@ -124,6 +129,16 @@ module _ (b : Book) where
         room-means (yield bytes out) (rowTokens (treeOf (class (b .operators)) bytes)) (tree.yield t) (t, r, refl)
         (λ a s. let (u, x, e) = s in ap length e ∙ sym (ap rowTokens (reads-back b bytes u x))))
     asked-means (operand right bytes) = record-means b Accepted bytes [] (λ _ _. refl)
+    asked-means (shortestRow bytes out) =
+        record-means b (WithRoom b (shortestRow bytes out)) bytes (shortCheck (length (shortestBy (b .rules) (treeOf (class (b .operators)) bytes))) (length out) ∷ [])
+        (λ t r.
+        let is = ap (shortestBy (b .rules)) (reads-back b bytes t r) in
+        room-means (shortestRow bytes out) (length (shortestBy (b .rules) (treeOf (class (b .operators)) bytes))) (shortestBy (b .rules) (some t)) (t, r, shortens t (r .0))
+        (λ a s.
+        let (u, x, h) = s in
+        let g = shortens u (x .0) in
+        le-antisymm (h .fewest (shortestBy (b .rules) (some u)) (g .means-same)) (g .fewest a (h .means-same))
+        ∙ ap length (sym (ap (shortestBy (b .rules)) (reads-back b bytes u x)))))
 
     -- The book's number of a call means what document 01 says.
     pub book-means : (c : Call) → Means b c (bookNumber b c)
@@ -146,7 +161,7 @@ module _ (p : Panel) (b : Book) (s : Stands p b) where
       go (t, g) = (g .tokens-fit, (t, g .tree))
 
   pub reply-means : (c : Call) → Means b c (reply p c .number)
-  reply-means c = subst (Means b c) (sym (same-number p b s c)) (book-means b every-row slots-have-trees c)
+  reply-means c = subst (Means b c) (sym (same-number p b s c)) (book-means b every-row slots-have-trees (shortest-of-tree (p .sheet) (b .operators) (b .rules) (s .in-force)) c)
 
 -- After every list of calls the number of a call has its meaning.
 pub means : (cs : List Call) (c : Call) → Means (bookAfter cs) c (answer cs c .number)

@@ -1,6 +1,7 @@
 -- Where every row has exactly one conflict-free tree, the book gives one answer to a call. Assumes nothing.
 use Prim.Native.Nat.{ℕ}
 use native.Mathlib.Decide.{ℕ-discrete}
+use native.Mathlib.Nat.{le-antisymm}
 use mathlib.Core.Path.{_≡_, ap, sym, subst, _∙_}
 use mathlib.Core.Option.{Option, none, some}
 use mathlib.Core.List.{List, [], _++_}
@@ -16,8 +17,9 @@ use Rattle.expression.proofs.RecordsAndTrees.{record-injective}
 use Rattle.expression.proofs.RowsAndTrees.{row-exactly-if-yielded}
 use Rattle.disambiguation.specs.Conflicts.{conflictCount, ConflictFreeTree}
 use Rattle.disambiguation.specs.ExactlyOne.{EveryRowHasExactlyOne}
+use Rattle.brackets.specs.SameMeaning.{ShortestRow}
 use Rattle.places.specs.Store.{imageOf}
-use Rattle.monitor.specs.Call.{Question, Call, lentBefore, load, loadList, putRow, putRecord, drop, ask, fetchRecord, fetchRow, image, build, repair, judge, yield, operand, Reply}
+use Rattle.monitor.specs.Call.{Question, Call, lentBefore, load, loadList, putRow, putRecord, drop, ask, fetchRecord, fetchRow, image, build, repair, judge, yield, operand, shortestRow, Reply}
 use Rattle.monitor.specs.Book.{Book, slotRow, askedNumber}
 use Rattle.monitor.specs.Answers.{Lent, Valued, Records, Image, Told, Count, Part, Silent, Rest, Answers}
 
@@ -70,6 +72,10 @@ module _ (b : Book) (one : EveryRowHasExactlyOne (b .operators) (b .rules)) wher
   one-built : (row : List ℕ) (f : Tree → List ℕ) → OfOne (λ x. (t : Tree) × ConflictFreeTree (b .operators) (b .rules) row t × (x ≡ f t))
   one-built row f x y (t, ht, e) (u, hu, d) = e ∙ ap f (one-tree row t u ht hu) ∙ sym d
 
+  -- and the shortest row
+  one-shortest : (row : List ℕ) → OfOne (ShortestRow (b .operators) (b .rules) row)
+  one-shortest row x y hx hy = hy .only x (hx .means-same) (le-antisymm (hx .fewest y (hy .means-same)) (hy .fewest x (hx .means-same)))
+
   one-image : (k : ℕ) (slot : Option (List ℕ)) → OfOne (Image b k slot)
   one-image k none x y e d = e ∙ sym d
   one-image k (some row) x y e d = one-built (slotRow b k) (λ t. imageOf (recordOf t)) x y e d
@@ -85,6 +91,8 @@ module _ (b : Book) (one : EveryRowHasExactlyOne (b .operators) (b .rules)) wher
   one-told (judge bytes) x y e d = e ∙ sym d
   one-told (yield bytes out) x y e d = one-read bytes tree.yield x y e d
   one-told (operand right bytes) x y e d = e ∙ sym d
+  one-told (shortestRow bytes out) x y (t, r, h) (t′, r′, h′) =
+      one-shortest (tree.yield t) x y h (subst (λ row. ShortestRow (b .operators) (b .rules) row y) (sym (ap tree.yield (one-recorded bytes t t′ r r′))) h′)
 
   one-count : (q : Question) → OfOne (Count b q)
   one-count (judge bytes) x y e d =
@@ -96,6 +104,7 @@ module _ (b : Book) (one : EveryRowHasExactlyOne (b .operators) (b .rules)) wher
   one-count (repair bytes out) x y e d = e ∙ sym d
   one-count (yield bytes out) x y e d = e ∙ sym d
   one-count (operand right bytes) x y e d = e ∙ sym d
+  one-count (shortestRow bytes out) x y e d = e ∙ sym d
 
   one-part : (q : Question) → OfOne (Part b q)
   one-part (operand right bytes) x y e d =
@@ -107,6 +116,7 @@ module _ (b : Book) (one : EveryRowHasExactlyOne (b .operators) (b .rules)) wher
   one-part (repair bytes out) x y e d = e ∙ sym d
   one-part (judge bytes) x y e d = e ∙ sym d
   one-part (yield bytes out) x y e d = e ∙ sym d
+  one-part (shortestRow bytes out) x y e d = e ∙ sym d
 
   silent-same : (r s : Reply) → r .number ≡ s .number → Silent b r → Silent b s → r ≡ s
   silent-same r s n f g = same-reply r s n (f .length ∙ sym (g .length)) (f .output ∙ sym (g .output)) (f .count ∙ sym (g .count)) (f .part ∙ sym (g .part))

@@ -1,7 +1,7 @@
 -- Where a panel value stands for a book, each call answers what the book does. Assumes nothing.
 use Prim.Native.Nat.{ℕ, _<_}
 use native.Mathlib.Omega.{arith}
-use mathlib.Core.Path.{_≡_, refl, ap, sym, _∙_}
+use mathlib.Core.Path.{_≡_, refl, ap, sym, subst, _∙_}
 use mathlib.Core.Bool.{Bool, true, false, not, cond}
 use mathlib.Core.Option.{Option, none, some}
 use mathlib.Core.List.{List, [], _∷_, _++_}
@@ -23,8 +23,11 @@ use Rattle.expression.proofs.Numbers.{Numbered, record-accepted, row-numbered, 
 use Rattle.disambiguation.specs.Conflicts.{conflictCount}
 use Rattle.sheet.proofs.Laws.{count-by-relation}
 use Rattle.record.specs.Answers.{judgement, countIn}
+use Rattle.brackets.specs.SameMeaning.{ShortestRow}
+use Rattle.brackets.specs.Shortest.{shortestBy, shortestNumber}
+use Rattle.brackets.proofs.InForceShortest.{shortest-by-rules, shortest-of-tree}
 use Rattle.places.specs.Store.{placeCount, slotBytes, held, imageOf}
-use Rattle.monitor.specs.Call.{Question, Call, lentBefore, load, loadList, putRow, putRecord, drop, ask, fetchRecord, fetchRow, image, build, repair, judge, yield, operand}
+use Rattle.monitor.specs.Call.{Question, Call, lentBefore, load, loadList, putRow, putRecord, drop, ask, fetchRecord, fetchRow, image, build, repair, judge, yield, operand, shortestRow}
 use Rattle.monitor.specs.Panel.{Panel, placeCheck}
 use Rattle.monitor.specs.Steps.{ops, told, outcome, reply}
 use Rattle.monitor.specs.Book.{Book, rowIn, isBlank, blankCheck, slotRow, SlotTree, askedNumber}
@@ -95,7 +98,7 @@ module _ (p : Panel) (b : Book) (s : Stands p b) where
 
   -- The bytes of each accepted answer are those that the book gives.
   pub tells : (q : Question) → askedNumber b q ≡ accepted → Told b q (told p q .answer)
-  unfolding buildNumber rowNumber repairNumber yieldNumber recordNumber
+  unfolding buildNumber rowNumber repairNumber yieldNumber recordNumber shortestNumber
   tells (fetchRecord k out) z = let (row, q, (t, g)) = found k (shortCheck (recordBytes (slotRow b k)) (length out) ∷ []) z in (t, slot-tree k row q t g, g .recorded)
   tells (fetchRow k out) z =
       let (row, q, (t, g)) = found k (shortCheck (length (slotRow b k)) (length out) ∷ []) z in
@@ -120,6 +123,11 @@ module _ (p : Panel) (b : Book) (s : Stands p b) where
       (t, r, ap (λ o. rowOf (treeOf (class o) bytes)) (same-operators p b s) ∙ ap rowOf q)
   tells (judge bytes) z = refl
   tells (operand right bytes) z = refl
+  tells (shortestRow bytes out) z =
+      let e = front-accepted (recordChecks (b .operators) bytes) (shortCheck (length (shortestBy (b .rules) (treeOf (class (b .operators)) bytes))) (length out) ∷ []) (record-numbered (b .operators) bytes) z in
+      let (t, r, q) = recorded bytes e in
+      let same = shortest-by-rules (p .sheet) (b .operators) (b .rules) (s .in-force) bytes ∙ ap (shortestBy (b .rules)) q in
+      (t, r, subst (ShortestRow (b .operators) (b .rules) (tree.yield t)) (sym same) (shortest-of-tree (p .sheet) (b .operators) (b .rules) (s .in-force) t (r .0)))
 
   judge-count : (bytes : List ℕ) → Count b (judge bytes) (told p (judge bytes) .count)
   unfolding judgement
@@ -152,6 +160,7 @@ module _ (p : Panel) (b : Book) (s : Stands p b) where
   count (repair bytes out) = refl
   count (yield bytes out) = refl
   count (operand right bytes) = refl
+  count (shortestRow bytes out) = refl
 
   part : (q : Question) → Part b q (told p q .part)
   part (operand right bytes) = operand-part right bytes
@@ -162,6 +171,7 @@ module _ (p : Panel) (b : Book) (s : Stands p b) where
   part (repair bytes out) = refl
   part (judge bytes) = refl
   part (yield bytes out) = refl
+  part (shortestRow bytes out) = refl
 
   pub answered : (q : Question) → Answered b q (reply p (ask q))
   answered q =

@@ -19,10 +19,12 @@ use Rattle.disambiguation.specs.SheetChecks.{ruleBytes}
 use Rattle.disambiguation.proofs.RuleBytes.{rules-back, list-oversize, list-whole}
 use Rattle.sheet.specs.InForce.{InForce}
 use Rattle.sheet.proofs.Laws.{fresh-in-force}
+use Rattle.brackets.specs.Shortest.{shortestNumber}
+use Rattle.brackets.proofs.InForceShortest.{shortest-by-rules}
 use Rattle.places.specs.Store.{placeCount, storeBytes, held}
 use Rattle.places.specs.Store as store
 use Rattle.places.proofs.Laws.{held-fresh}
-use Rattle.monitor.specs.Call.{Question, Call, load, loadList, putRow, putRecord, drop, ask, fetchRecord, fetchRow, image, build, repair, judge, yield, operand}
+use Rattle.monitor.specs.Call.{Question, Call, load, loadList, putRow, putRecord, drop, ask, fetchRecord, fetchRow, image, build, repair, judge, yield, operand, shortestRow}
 use Rattle.monitor.specs.Panel.{Panel, fresh, placeCheck, isEmpty, emptyCheck, usesBeyond, sheetChecks}
 use Rattle.monitor.specs.Steps.{ops, loadNumber, putRowNumber, putRecordNumber, dropNumber, fetchRecordNumber, fetchRowNumber, imageNumber, told, reply}
 use Rattle.monitor.specs.Book.{Book, blank, rowIn, isBlank, blankCheck, slotRow, askedNumber, bookNumber}
@@ -133,6 +135,8 @@ module _ (p : Panel) (b : Book) (s : Stands p b) where
   same-asked (judge bytes) = ap (λ o. recordNumber o bytes) same-operators
   same-asked (yield bytes out) = ap (λ o. yieldNumber o bytes (length out)) same-operators
   same-asked (operand right bytes) = ap (λ o. recordNumber o bytes) same-operators
+  same-asked (shortestRow bytes out) =
+      ap₂ (λ o answer. shortestNumber o bytes answer (length out)) same-operators (shortest-by-rules (p .sheet) (b .operators) (b .rules) (s .in-force) bytes)
 
   pub same-number : (c : Call) → reply p c .number ≡ bookNumber b c
   unfolding putRowNumber putRecordNumber

@@ -4,7 +4,6 @@ use mathlib.Core.Bool.{Bool, true, false, not}
 use mathlib.Core.List.{List, [], _∷_, _++_}
 use Prim.Native.Nat.{ℕ, suc, _+_, _-_, _<_, _≤_}
 use native.Mathlib.Omega.{arith}
-use native.Mathlib.Decide.{ℕ-discrete}
 use native.Mathlib.Numerals.{add-one}
 use native.Mathlib.Nat.{le-antisymm}
 use lib.Dec.{eqb}
@@ -13,12 +12,11 @@ use lib.Seq.{take-at}
 use borrow.Author.Tests.{lt-ltb, le-ltb, ne-eqb}
 use borrow.Author.Needs.{needs}
 use Rattle.expression.specs.Lists.{oneIf}
-use Rattle.expression.specs.Refusal.{Check, first, accepted}
 use Rattle.expression.specs.Lent.{outputAfter, lengthAfter}
 use Rattle.expression.specs.Limits.{mostRecordBytes}
 use Rattle.expression.specs.Token.{closing, Operators}
-use Rattle.expression.specs.Checks.{shortCheck, recordBytes, rowChecks, recordChecks, rowNumber, recordNumber, buildNumber, repairNumber}
-use Rattle.expression.proofs.Numbers.{Numbered, first-refused, first-roomy, row-numbered, record-numbered, row-accepted, record-accepted}
+use Rattle.expression.specs.Checks.{recordBytes, rowChecks, rowNumber, recordNumber, buildNumber}
+use Rattle.expression.proofs.Numbers.{first-enough, row-numbered, row-accepted, repair-number}
 use Rattle.sheet.specs.Layout.{operatorsOf}
 use Rattle.sheet.specs.Relation.{closesIn}
 use Rattle.record.specs.declared.Answer.{Answer}
@@ -32,13 +30,6 @@ use Rattle.monitor.specs.Contracts.{Changes, Drops, afterRecord, StoresR
 use Rattle.monitor.proofs.AnswerWays.{empty-true, empty-false}
 
 -- ---- the numbers with room for every record
-enough : (cs : List Check) (answer room : ℕ) → Numbered cs → (first cs ≡ accepted → answer ≤ room) → first (cs ++ (shortCheck answer room ∷ [])) ≡ first cs
-enough cs answer room n h = go (ℕ-discrete (first cs) 0)
-  where
-    go : Dec (first cs ≡ 0) → first (cs ++ (shortCheck answer room ∷ [])) ≡ first cs
-    go (yes e) = first-roomy cs answer room e n (h e) ∙ sym e
-    go (no e) = first-refused cs (shortCheck answer room ∷ []) e
-
 few-bytes : (row : List ℕ) → recordBytes row ≤ length row
 few-bytes [] = omega arith
 few-bytes (c ∷ cs) = go (not (eqb c closing)) (few-bytes cs)
@@ -50,12 +41,7 @@ few-bytes (c ∷ cs) = go (not (eqb c closing)) (few-bytes cs)
 pub build-number : (ops : Operators) (row : List ℕ) (room : ℕ) → mostRecordBytes ≤ room → buildNumber ops row room ≡ rowNumber ops row
 unfolding buildNumber rowNumber
 build-number ops row room h =
-    enough (rowChecks ops row) (recordBytes row) room (row-numbered ops row) (λ e. let k = row-accepted ops row .0 e .0 in omega (arith, few-bytes row))
-
-pub repair-number : (ops : Operators) (bytes : List ℕ) (room : ℕ) → mostRecordBytes ≤ room → repairNumber ops bytes room ≡ recordNumber ops bytes
-unfolding repairNumber recordNumber
-repair-number ops bytes room h =
-    enough (recordChecks ops bytes) (length bytes) room (record-numbered ops bytes) (λ e. let (t, r) = record-accepted ops bytes .0 e in omega (arith, r .bytes-fit))
+    first-enough (rowChecks ops row) (recordBytes row) room (row-numbered ops row) (λ e. let k = row-accepted ops row .0 e .0 in omega (arith, few-bytes row))
 
 -- ---- an answer at the front of the buffer
 module _ {r : Answer} (answer before : List ℕ) {after : List ℕ} (measured : r .length ≡ lengthAfter (r .number) answer) (output : after ≡ outputAfter (r .number) answer before) (zero : r .number ≡ 0) where

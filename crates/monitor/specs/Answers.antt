@@ -10,8 +10,9 @@ use Rattle.expression.specs.Tree.{Tree, recordOf, Over}
 use Rattle.expression.specs.Tree as tree
 use Rattle.expression.specs.Operand.{operandRecord}
 use Rattle.disambiguation.specs.Conflicts.{conflictCount, ConflictFreeTree}
+use Rattle.brackets.specs.SameMeaning.{ShortestRow}
 use Rattle.places.specs.Store.{imageOf}
-use Rattle.monitor.specs.Call.{Question, Call, lentBefore, load, loadList, putRow, putRecord, ask, fetchRecord, fetchRow, image, build, repair, judge, yield, operand, Reply}
+use Rattle.monitor.specs.Call.{Question, Call, lentBefore, load, loadList, putRow, putRecord, ask, fetchRecord, fetchRow, image, build, repair, judge, yield, operand, shortestRow, Reply}
 use Rattle.monitor.specs.Call as call
 use Rattle.monitor.specs.Book.{Book, slotRow, SlotTree, askedNumber, bookNumber}
 
@@ -46,6 +47,7 @@ module _ (b : Book) where
   Told (judge bytes) answer = answer ≡ []
   Told (yield bytes out) answer = (t : Tree) × Records bytes t × (answer ≡ tree.yield t)
   Told (operand right bytes) answer = answer ≡ []
+  Told (shortestRow bytes out) answer = (t : Tree) × Records bytes t × ShortestRow (b .operators) (b .rules) (tree.yield t) answer
 
   -- a judge's count
   abbrev pub Count : Question → ℕ → Type 0
@@ -57,6 +59,7 @@ module _ (b : Book) where
   Count (repair bytes out) count = count ≡ 0
   Count (yield bytes out) count = count ≡ 0
   Count (operand right bytes) count = count ≡ 0
+  Count (shortestRow bytes out) count = count ≡ 0
 
   -- an operand's part
   abbrev pub Part : Question → List ℕ → Type 0
@@ -68,6 +71,7 @@ module _ (b : Book) where
   Part (repair bytes out) part = part ≡ []
   Part (judge bytes) part = part ≡ []
   Part (yield bytes out) part = part ≡ []
+  Part (shortestRow bytes out) part = part ≡ []
 
   -- The reply to a question, beside its number: the whole lent output with the answer's length, the count and the part;
   pub record Answered (q : Question) (r : Reply) : Type 0 where

@@ -15,8 +15,9 @@ use Rattle.expression.specs.Checks.{shortCheck, recordBytes, rowChecks, recordC
 use Rattle.disambiguation.specs.Rules.{Rule}
 use Rattle.disambiguation.specs.Conflicts.{ConflictFreeTree}
 use Rattle.disambiguation.specs.SheetChecks.{rulesOf}
+use Rattle.brackets.specs.Shortest.{shortestBy, shortestNumber}
 use Rattle.places.specs.Store.{slotBytes}
-use Rattle.monitor.specs.Call.{Question, Call, load, loadList, putRow, putRecord, drop, ask, fetchRecord, fetchRow, image, build, repair, judge, yield, operand}
+use Rattle.monitor.specs.Call.{Question, Call, load, loadList, putRow, putRecord, drop, ask, fetchRecord, fetchRow, image, build, repair, judge, yield, operand, shortestRow}
 use Rattle.monitor.specs.Panel.{placeCheck, inUseCheck, sheetChecks, listChecks, ifAccepted}
 
 -- n with the rest of what tells the operators, the rules, and the slots, each blank or with one row
@@ -60,6 +61,7 @@ module _ (b : Book) where
   askedNumber (judge bytes) = recordNumber (b .operators) bytes
   askedNumber (yield bytes out) = yieldNumber (b .operators) bytes (length out)
   askedNumber (operand right bytes) = recordNumber (b .operators) bytes
+  askedNumber (shortestRow bytes out) = shortestNumber (b .operators) bytes (shortestBy (b .rules) (treeOf (class (b .operators)) bytes)) (length out)
 
   -- and of each call
   abbrev pub bookNumber : Call → ℕ

@@ -14,6 +14,8 @@ pub data Question : Type 0 where
   judge : (bytes : List ℕ) → Question
   yield : (bytes : List ℕ) (out : List ℕ) → Question
   operand : (right : Bool) (bytes : List ℕ) → Question
+  -- document 02, W1
+  shortestRow : (bytes : List ℕ) (out : List ℕ) → Question
 
 -- All calls. `loadList` is the load whose rules come as a list of records.
 pub data Call : Type 0 where
@@ -34,6 +36,7 @@ lentBefore (repair bytes out) = out
 lentBefore (judge bytes) = []
 lentBefore (yield bytes out) = out
 lentBefore (operand right bytes) = []
+lentBefore (shortestRow bytes out) = out
 
 -- the same of any call
 abbrev pub lentTo : Call → List ℕ

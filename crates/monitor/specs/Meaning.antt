@@ -15,7 +15,7 @@ use Rattle.disambiguation.specs.Rules.{Rule, priority, right}
 use Rattle.disambiguation.specs.ExactlyOne.{SomeRowHasNone, EveryRowHasOne, SomeRowHasTwo}
 use Rattle.disambiguation.specs.SheetChecks.{rulesOf}
 use Rattle.places.specs.Store.{placeCount}
-use Rattle.monitor.specs.Call.{Question, Call, lentBefore, load, loadList, putRow, putRecord, drop, ask, fetchRecord, fetchRow, image, build, repair, judge, yield, operand}
+use Rattle.monitor.specs.Call.{Question, Call, lentBefore, load, loadList, putRow, putRecord, drop, ask, fetchRecord, fetchRow, image, build, repair, judge, yield, operand, shortestRow}
 use Rattle.monitor.specs.Book.{Book}
 use Rattle.monitor.specs.Answers.{Records, Told}
 
@@ -84,6 +84,7 @@ module _ (b : Book) where
   MeansAsked (judge bytes) = OfRecord bytes Accepted
   MeansAsked (yield bytes out) = OfRecord bytes (WithRoom (yield bytes out))
   MeansAsked (operand right bytes) = OfRecord bytes Accepted
+  MeansAsked (shortestRow bytes out) = OfRecord bytes (WithRoom (shortestRow bytes out))
 
   -- The number of a call is given under its condition, and under nothing else. 1 of a sheet: n over 32, or over 2,048 rules; 2: its bytes end within a rule.
   abbrev pub Means : Call → ℕ → Type 0

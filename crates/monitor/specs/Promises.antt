@@ -1,6 +1,6 @@
--- Demands 1, 2 and 3 of the panel's calls, on one page. Assumes nothing.
+-- Demands 1, 2 and 3 of the panel's calls, and what the requests of document 02 add to them, on one page. Assumes nothing.
 --     Demand 1 speaks of every panel value and every call with any bytes: no call has a `requires`, and each is proved to end.
---     Demands 2 and 3 speak of the panel after every list of calls, refused ones included, from a fresh panel. A list has the last call first.
+--     Demands 2 and 3 and the requests speak of the panel after every list of calls, refused ones included, from a fresh panel. A list has the last call first.
 use Prim.Native.Nat.{ℕ, _≤_}
 use mathlib.Core.Path.{_≡_}
 use mathlib.Core.Logic.{_↔_, _⊎_}
@@ -18,7 +18,8 @@ use Rattle.disambiguation.specs.Conflicts.{conflictCount, ConflictFreeTree}
 use Rattle.disambiguation.specs.ExactlyOne.{SomeRowHasNone, SomeRowHasTwo, EveryRowHasExactlyOne}
 use Rattle.disambiguation.specs.SheetChecks.{rulesOf, InOrder, ListInOrder}
 use Rattle.sheet.specs.InForce.{InForce}
-use Rattle.monitor.specs.Call.{Call, Reply, lentTo, load, loadList, putRecord, ask, build, repair, judge, yield}
+use Rattle.brackets.specs.SameMeaning.{ShortestRow}
+use Rattle.monitor.specs.Call.{Call, Reply, lentTo, load, loadList, putRecord, ask, build, repair, judge, yield, shortestRow}
 use Rattle.monitor.specs.Panel.{Panel}
 use Rattle.monitor.specs.Steps.{after, reply}
 use Rattle.monitor.specs.Answers.{Answers}
@@ -93,3 +94,11 @@ module _ (cs : List Call) where
     -- Two trees over the operators of the sheet in force, within the lengths, repair to the same bytes exactly when their rows are the same.
     pub same-bytes : (t u : Tree) → Over (class ops) t → Over (class ops) u → Within t → Within u
         → ((bytes : List ℕ) × RepairsTo cs t bytes × RepairsTo cs u bytes) ↔ (tree.yield t ≡ tree.yield u)
+
+  -- W1, rows with no spare brackets. Within the lengths, and with room for the answer,
+  pub record ShortestRows : Type 0 where
+    -- a record is answered by a row over the sheet's operators that means the same as its tree's row; every row of any length that means the same has at least as many
+    -- tokens, and one with as many is that row. It has no more tokens than the tree's row.
+    pub shortened : (t : Tree) → Over (class ops) t → Within t
+        → (row : List ℕ) × ShortestRow ops rules (tree.yield t) row × (length row ≤ length (tree.yield t))
+        × ((out : List ℕ) → length row ≤ length out → AnsweredBy cs (ask (shortestRow (recordOf t) out)) out row)

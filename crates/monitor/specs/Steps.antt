@@ -14,8 +14,9 @@ use Rattle.sheet.specs.Relation.{closesIn}
 use Rattle.sheet.specs.Loading.{sheetOf}
 use Rattle.record.specs.Answers.{judgement}
 use Rattle.parser.specs.Build.{built}
+use Rattle.brackets.specs.Shortest.{shortestOf, shortestNumber}
 use Rattle.places.specs.Store.{placeCount, slotBytes, held, imageOf, stored}
-use Rattle.monitor.specs.Call.{Question, Call, lentTo, load, loadList, putRow, putRecord, drop, ask, fetchRecord, fetchRow, image, build, repair, judge, yield, operand, Reply}
+use Rattle.monitor.specs.Call.{Question, Call, lentTo, load, loadList, putRow, putRecord, drop, ask, fetchRecord, fetchRow, image, build, repair, judge, yield, operand, shortestRow, Reply}
 use Rattle.monitor.specs.Panel.{Panel, panel, placeCheck, emptyCheck, inUseCheck, sheetChecks, ifAccepted, rebuilt, rebuiltTo}
 
 -- What a call gives: its number; accepted, the bytes that it writes into its lent output; a judge's count; an operand's part.
@@ -97,6 +98,7 @@ module _ (p : Panel) where
   told (judge bytes) = record { number = recordNumber ops bytes; answer = []; count = judgement (p .sheet) bytes .count; part = [] }
   told (yield bytes out) = answered (yieldNumber ops bytes (length out)) (rowOf (treeOf (class ops) bytes))
   told (operand right bytes) = record { number = recordNumber ops bytes; answer = []; count = 0; part = operandPart ops right bytes }
+  told (shortestRow bytes out) = answered (shortestNumber ops bytes (shortestOf (p .sheet) bytes) (length out)) (shortestOf (p .sheet) bytes)
 
   -- and to all calls.
   abbrev pub outcome : Call → Outcome

@@ -1,6 +1,6 @@
 // The panel's calls: the sheet in force and the sixteen places are lent. After a refusal the panel and a lent output are as they were.
 ghost use mathlib.Core.Bool.{Bool};
-ghost use Rattle.monitor.specs.Call.{load, putRow, putRecord, fetchRecord, fetchRow, image, build, repair, yield};
+ghost use Rattle.monitor.specs.Call.{load, putRow, putRecord, fetchRecord, fetchRow, image, build, repair, yield, shortestRow};
 ghost use Rattle.monitor.specs.Panel.{panel};
 ghost use Rattle.monitor.specs.Contracts.{Changes, Drops, AnswersInto, AnswersUnder, AnswersFrom, Judges, NumbersOperand, FindsOperand, PlacesOperand};
 use expression::limits::MOST_RECORD_BYTES;
@@ -192,6 +192,13 @@ pub fn yield_row(sheet: &[u32; SHEET_WORDS], bytes: &[u8], out: &mut [u8]) -> An
     ensures { λ r. ⌜ AnswersUnder (now (sheet .entry)) (yield (now (bytes .entry)) (now (out .entry))) r (now (out .exit)) ⌝ }
 {
     record::yield_row(sheet, bytes, out)
+}
+
+// The shortest row that means the same as the record's row, at the front of `out`.
+pub fn shortest_row(sheet: &[u32; SHEET_WORDS], bytes: &[u8], out: &mut [u8]) -> Answer
+    ensures { λ r. ⌜ AnswersUnder (now (sheet .entry)) (shortestRow (now (bytes .entry)) (now (out .entry))) r (now (out .exit)) ⌝ }
+{
+    brackets::shortest_row(sheet, bytes, out)
 }
 
 // The number of an operand call.

@@ -3,13 +3,12 @@ use mathlib.Core.Path.{_≡_, refl, sym, ap, ap₂, _∙_}
 use mathlib.Core.List.{List, [], _∷_, _++_}
 use Prim.Native.Nat.{ℕ, _+_, _-_, _<_, _≤_}
 use native.Mathlib.Omega.{arith}
-use native.Mathlib.Decide.{ℕ-discrete}
 use lib.ListN.{length, take, drop, length-drop, length-append}
 use lib.Seq.{take-at, length-take-le}
 use borrow.Author.Tests.{ne-eqb}
 use borrow.Author.Needs.{needs}
 use Rattle.expression.specs.Limits.{mostTokens}
-use Rattle.expression.specs.Refusal.{first, accepted}
+use Rattle.expression.specs.Refusal.{accepted}
 use Rattle.expression.specs.Token.{Operators, class}
 use Rattle.expression.specs.Grammar.{Row}
 use Rattle.expression.specs.Decode.{treeOf}
@@ -19,7 +18,7 @@ use Rattle.expression.proofs.Classes.{brackets}
 use Rattle.expression.proofs.RecordsAndTrees.{treeOf-record}
 use Rattle.expression.proofs.RowsAndTrees.{row-exactly-if-yielded}
 use Rattle.expression.proofs.Lengths.{record-length}
-use Rattle.expression.proofs.Numbers.{first-refused, first-short, first-roomy, record-numbered, record-accepted}
+use Rattle.expression.proofs.Numbers.{first-refused, first-short, first-roomy, first-enough, record-numbered, record-accepted}
 use Rattle.sheet.specs.Layout.{operatorsOf}
 use Rattle.sheet.specs.Relation.{closesIn}
 use Rattle.record.specs.Answers.{Yields}
@@ -54,14 +53,9 @@ module _ (ops : Operators) (bytes : List ℕ) where
   -- with room for every row, 10 is no number of a yield
   pub yield-number : (room : ℕ) → mostTokens ≤ room → yieldNumber ops bytes room ≡ recordNumber ops bytes
   unfolding recordNumber yieldNumber
-  yield-number room h = go (ℕ-discrete (first (recordChecks ops bytes)) 0)
-    where
-      go : Dec (first (recordChecks ops bytes) ≡ 0)
-          → first (recordChecks ops bytes ++ (shortCheck (rowTokens (treeOf (class ops) bytes)) room ∷ [])) ≡ first (recordChecks ops bytes)
-      go (yes e) =
-          let a = accepted-record e in
-          first-roomy (recordChecks ops bytes) (rowTokens (treeOf (class ops) bytes)) room e (record-numbered ops bytes) (omega (arith, a .fits, a .tokens)) ∙ sym e
-      go (no e) = first-refused (recordChecks ops bytes) (shortCheck (rowTokens (treeOf (class ops) bytes)) room ∷ []) e
+  yield-number room h =
+      first-enough (recordChecks ops bytes) (rowTokens (treeOf (class ops) bytes)) room (record-numbered ops bytes)
+      (λ e. let a = accepted-record e in omega (arith, a .fits, a .tokens))
 
 module _ (sheet bytes out row : List ℕ) {row′ : List ℕ} {y : Answer} (room : mostTokens ≤ length row) (yields : Yields (operatorsOf sheet) bytes row row′ y) where
   number-is : y .number ≡ recordNumber (operatorsOf sheet) bytes

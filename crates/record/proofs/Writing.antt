@@ -33,11 +33,11 @@ pub sets-append : (v w d : List ℕ) (i : ℕ) → sets d i (v ++ w) ≡ sets (s
 sets-append [] w d i = rw add-zero
 sets-append (x ∷ v) w d i = sets-append v w (set d i x) (suc i) ∙ rw (suc-add, add-suc)
 
-set-bracket : (d v : List ℕ) (i : ℕ) → set (sets (set d i opening) (i + 1) v) (i + 1 + length v) closing ≡ sets d i (opening ∷ v ++ (closing ∷ []))
+pub set-bracket : (d v : List ℕ) (i : ℕ) → set (sets (set d i opening) (i + 1) v) (i + 1 + length v) closing ≡ sets d i (opening ∷ v ++ (closing ∷ []))
 set-bracket d v i =
     ap (λ j. set (sets (set d i opening) j v) (j + length v) closing) (add-one i) ∙ sym (sets-append v (closing ∷ []) (set d i opening) (suc i))
 
-set-operator : (d v w : List ℕ) (i o : ℕ) → sets (set (sets d i v) (i + length v) o) (i + length v + 1) w ≡ sets d i (v ++ o ∷ w)
+pub set-operator : (d v w : List ℕ) (i o : ℕ) → sets (set (sets d i v) (i + length v) o) (i + length v + 1) w ≡ sets d i (v ++ o ∷ w)
 set-operator d v w i o = ap (λ j. sets (set (sets d i v) (i + length v) o) j w) (add-one (i + length v)) ∙ sym (sets-append v (o ∷ w) d i)
 
 pub yield-positive : (t : Tree) → 1 ≤ length (yield t)

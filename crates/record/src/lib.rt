@@ -13,7 +13,7 @@ use sheet::layout::SHEET_WORDS;
 mod checks;
 mod conflicts;
 mod ends;
-mod held;
+pub mod held;
 pub mod operands;
 mod rows;
 

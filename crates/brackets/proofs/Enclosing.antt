@@ -1,0 +1,111 @@
+-- A tree with just the brackets that it needs: once bare the same tree, over the same operators, without a conflict. Assumes nothing.
+use Prim.Native.Nat.{ℕ, _+_}
+use native.Mathlib.Omega.{arith}
+use mathlib.Core.Path.{_≡_, refl, ap₂, _∙_}
+use mathlib.Core.Bool.{Bool, true, false, _||_, true≢false}
+use mathlib.Core.List.{List, [], _∷_}
+use Rattle.expression.specs.Lists.{oneIf, anyHolds, howMany, All}
+use Rattle.expression.specs.Token.{Class}
+use Rattle.expression.specs.Tree.{Tree, reading, bracket, binary, Over}
+use Rattle.disambiguation.specs.Edges.{seenFromRight, seenFromLeft}
+use Rattle.disambiguation.specs.Conflicts.{conflicts}
+use Rattle.disambiguation.proofs.Agreement.{Agree, seen-right-infix, seen-left-infix}
+use Rattle.brackets.specs.SameMeaning.{bare}
+use Rattle.brackets.specs.Enclosed.{around, leftOf, rightOf, enclosed}
+
+-- a test holds of some element exactly if it counts one
+pub none-counted : (p : ℕ → Bool) (xs : List ℕ) → anyHolds p xs ≡ false → howMany p xs ≡ 0
+none-counted p [] e = refl
+none-counted p (x ∷ xs) e = go (p x) (none-counted p xs) e
+  where
+    go : (b : Bool) → (anyHolds p xs ≡ false → howMany p xs ≡ 0) → (b || anyHolds p xs) ≡ false → oneIf b + howMany p xs ≡ 0
+    go true f e = absurd (true≢false e)
+    go false f e = omega (arith, f e)
+
+pub counted-none : (p : ℕ → Bool) (xs : List ℕ) → howMany p xs ≡ 0 → anyHolds p xs ≡ false
+counted-none p [] e = refl
+counted-none p (x ∷ xs) e = go (p x) (counted-none p xs) e
+  where
+    go : (b : Bool) → (howMany p xs ≡ 0 → anyHolds p xs ≡ false) → oneIf b + howMany p xs ≡ 0 → (b || anyHolds p xs) ≡ false
+    go true f e = absurd (omega arith)
+    go false f e = f (omega arith)
+
+-- tests that agree on the elements of a list
+pub any-agree : {P : ℕ → Type 0} (p q : ℕ → Bool) → ((x : ℕ) → P x → p x ≡ q x) → (xs : List ℕ) → All P xs → anyHolds p xs ≡ anyHolds q xs
+any-agree p q f [] h = refl
+any-agree p q f (x ∷ xs) h = ap₂ _||_ (f x (h .0)) (any-agree p q f xs (h .1))
+
+-- ---- a pair of brackets more or less
+bare-around : (needed : Bool) (t : Tree) → bare (around needed t) ≡ bare t
+bare-around true t = refl
+bare-around false t = refl
+
+over-around : (k : ℕ → Class) (needed : Bool) (t : Tree) → Over k t → Over k (around needed t)
+over-around k true t h = h
+over-around k false t h = h
+
+module _ (L R : ℕ → ℕ → Bool) where
+  free-around : (needed : Bool) (t : Tree) → conflicts L R t ≡ 0 → conflicts L R (around needed t) ≡ 0
+  free-around true t h = h
+  free-around false t h = h
+
+  -- with its brackets, an operand shows no conflict
+  left-shows-none : (o : ℕ) (t : Tree) → howMany (L o) (seenFromRight (leftOf L R o t)) ≡ 0
+  left-shows-none o t = go (anyHolds (L o) (seenFromRight t)) (none-counted (L o) (seenFromRight t))
+    where
+      go : (needed : Bool) → (needed ≡ false → howMany (L o) (seenFromRight t) ≡ 0) → howMany (L o) (seenFromRight (around needed t)) ≡ 0
+      go true h = refl
+      go false h = h refl
+
+  right-shows-none : (o : ℕ) (t : Tree) → howMany (R o) (seenFromLeft (rightOf L R o t)) ≡ 0
+  right-shows-none o t = go (anyHolds (R o) (seenFromLeft t)) (none-counted (R o) (seenFromLeft t))
+    where
+      go : (needed : Bool) → (needed ≡ false → howMany (R o) (seenFromLeft t) ≡ 0) → howMany (R o) (seenFromLeft (around needed t)) ≡ 0
+      go true h = refl
+      go false h = h refl
+
+  -- ---- of the whole tree
+  pub bare-enclosed : (t : Tree) → bare (enclosed L R t) ≡ bare t
+  bare-enclosed (reading a) = refl
+  bare-enclosed (bracket t) = bare-enclosed t
+  bare-enclosed (binary o l r) =
+      ap₂ (binary o) (bare-around (anyHolds (L o) (seenFromRight (enclosed L R l))) (enclosed L R l) ∙ bare-enclosed l)
+      (bare-around (anyHolds (R o) (seenFromLeft (enclosed L R r))) (enclosed L R r) ∙ bare-enclosed r)
+
+  pub over-enclosed : (k : ℕ → Class) (t : Tree) → Over k t → Over k (enclosed L R t)
+  over-enclosed k (reading a) h = h
+  over-enclosed k (bracket t) h = over-enclosed k t h
+  over-enclosed k (binary o l r) h = (
+    h .0,
+    over-around k (anyHolds (L o) (seenFromRight (enclosed L R l))) (enclosed L R l) (over-enclosed k l (h .1)),
+    over-around k (anyHolds (R o) (seenFromLeft (enclosed L R r))) (enclosed L R r) (over-enclosed k r (h .2)),
+  )
+
+  pub enclosed-free : (t : Tree) → conflicts L R (enclosed L R t) ≡ 0
+  enclosed-free (reading a) = refl
+  enclosed-free (bracket t) = enclosed-free t
+  enclosed-free (binary o l r) =
+      omega (
+        arith,
+        left-shows-none o (enclosed L R l),
+        right-shows-none o (enclosed L R r),
+        free-around (anyHolds (L o) (seenFromRight (enclosed L R l))) (enclosed L R l) (enclosed-free l),
+        free-around (anyHolds (R o) (seenFromLeft (enclosed L R r))) (enclosed L R r) (enclosed-free r),
+      )
+
+  -- the brackets that were there do not matter
+  pub enclosed-bare : (t : Tree) → enclosed L R (bare t) ≡ enclosed L R t
+  enclosed-bare (reading a) = refl
+  enclosed-bare (bracket t) = enclosed-bare t
+  enclosed-bare (binary o l r) = ap₂ (λ l r. binary o (leftOf L R o l) (rightOf L R o r)) (enclosed-bare l) (enclosed-bare r)
+
+-- Relations that agree on the operators of a tree give it the same brackets.
+module _ (k : ℕ → Class) (L R S T : ℕ → ℕ → Bool) (left : Agree k L S) (right : Agree k R T) where
+  pub enclosed-agree : (t : Tree) → Over k t → enclosed L R t ≡ enclosed S T t
+  enclosed-agree (reading a) h = refl
+  enclosed-agree (bracket t) h = enclosed-agree t h
+  enclosed-agree (binary o l r) h =
+      ap₂ (λ a b. binary o (around a (enclosed L R l)) (around b (enclosed L R r)))
+      (any-agree (L o) (S o) (λ b. left o b (h .0)) (seenFromRight (enclosed L R l)) (seen-right-infix k (enclosed L R l) (over-enclosed L R k l (h .1))))
+      (any-agree (R o) (T o) (λ b. right o b (h .0)) (seenFromLeft (enclosed L R r)) (seen-left-infix k (enclosed L R r) (over-enclosed L R k r (h .2))))
+      ∙ ap₂ (λ l r. binary o (leftOf S T o l) (rightOf S T o r)) (enclosed-agree l (h .1)) (enclosed-agree r (h .2))

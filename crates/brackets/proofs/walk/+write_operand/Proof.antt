@@ -1,0 +1,52 @@
+-- `brackets::walk::write_operand` meets its contract; what is due falls. Assumes nothing.
+use Prim.Native.Nat.{ℕ, _<_}
+use borrow.Fn.Kinds.{In}
+use borrow.Fn.PlainCycle.{Measures, is, falls, and}
+use Rattle.brackets.proofs.Walking.{due, write-operand-ways}
+use Rattle.brackets.proofs.walk.write_operand.Reads as write-operand
+use Rattle.brackets.proofs.walk.write_operand.Kinds as write-operand-kinds
+use Rattle.brackets.proofs.walk.+write_operand.Lts-write_operand as write-operand-lts
+use Rattle.brackets.proofs.walk.shows.Reads as shows
+use Rattle.brackets.proofs.walk.top_at.Reads as top-at
+use Rattle.brackets.proofs.walk.+write_operand.{statement}
+use Rattle.brackets.proofs.walk.+write_operand.Tie.{close}
+
+abbrev μ-write-operand : Measures 3 write-operand-kinds.ps ℕ
+μ-write-operand κs a = due (a .1 .1 .0) (a .1 .1 .1 .0)
+
+abbrev write-operand-at : ℕ → In 3 write-operand-kinds.ps
+write-operand-at t = and 3 write-operand-kinds.ps (is 3 write-operand-kinds.ps μ-write-operand t) write-operand.Pre
+
+abbrev write-operand-below : ℕ → In 3 write-operand-kinds.ps
+write-operand-below t = and 3 write-operand-kinds.ps (falls 3 write-operand-kinds.ps _<_ μ-write-operand t) write-operand.Pre
+
+pub +write-operand-spec : {M : Type 1} → statement M
++write-operand-spec =
+    close μ-write-operand λ t. write-operand-lts.spec (top-at.Asked, top-at.Learnt, write-operand-below t, write-operand.Post, shows.Asked, shows.Learnt) (write-operand-at t) write-operand.Post
+    (λ c κs. search write-operand-ways)
+    (λ c. search write-operand-ways)
+    (λ c. search write-operand-ways)
+    (λ c. search write-operand-ways)
+    (λ c. search write-operand-ways)
+    (λ c. search write-operand-ways)
+    (λ c. search write-operand-ways)
+    (λ c. search write-operand-ways)
+    (λ c. search write-operand-ways)
+    (λ c. search write-operand-ways)
+    (λ c κs. (search write-operand-ways, search write-operand-ways))
+    (λ c. search write-operand-ways)
+    (λ c. search write-operand-ways)
+    (λ c. search write-operand-ways)
+    (λ c κs. search write-operand-ways)
+    (λ c. search write-operand-ways)
+    (λ c. search write-operand-ways)
+    (λ c κs. (search write-operand-ways, search write-operand-ways))
+    (λ c. search write-operand-ways)
+    (λ c. search write-operand-ways)
+    (λ c. search write-operand-ways)
+    (λ c. search write-operand-ways)
+    (λ c κs. (search write-operand-ways, search write-operand-ways))
+    (λ c. search write-operand-ways)
+    (λ c. search write-operand-ways)
+    (λ c κs. (search write-operand-ways, search write-operand-ways))
+    (λ c. search write-operand-ways)

@@ -1,0 +1,3 @@
+pub mod SameMeaning
+pub mod Enclosed
+pub mod Shortest
