@@ -38,6 +38,9 @@ static bool check_rows_of(const struct panel *p) {
     struct panel_answer built = panel_build(p, tokens, sizeof tokens, out, sizeof out);
     CHECK(panel_build(p, strange_row, sizeof strange_row, out, sizeof out).number == PANEL_STRANGER);
     CHECK(panel_repair(p, strange_record, sizeof strange_record, out, sizeof out).number == PANEL_STRANGER);
+    CHECK(panel_shortest_row(p, strange_record, sizeof strange_record, out, sizeof out).number == PANEL_STRANGER);
+    CHECK(panel_shortest_row(p, tree, sizeof tree, out, sizeof out).number == built.number);
+    CHECK(panel_shortest_row(p, tree, sizeof tree, out, sizeof out).length <= sizeof tokens);
     CHECK(panel_repair(p, tree, sizeof tree, out, sizeof out).number == built.number);
     if (built.number != PANEL_ACCEPTED)
         return false;

@@ -29,6 +29,9 @@ static bool wrote(struct panel_answer answer, const uint8_t *bytes, size_t lengt
 static void check_trees(const struct panel *p, uint8_t *out) {
     static const uint8_t torn[] = {0x01, 0x00, 0x80, 0x81, 0x82};
     static const uint8_t repaired[] = {0x00, 0x80, 0x01, 0x81, 0x82};
+    /* (80) 00 ((81 01 82)): all brackets are spare. */
+    static const uint8_t spare[] = {0x00, 0x20, 0x80, 0x20, 0x20, 0x01, 0x81, 0x82};
+    static const uint8_t bare[] = {0x80, 0x00, 0x81, 0x01, 0x82};
     CHECK(wrote(panel_build(p, row, sizeof row, out, 300), record, sizeof record, out, 300));
     CHECK(wrote(panel_build(p, row, sizeof row, out, sizeof record), record, sizeof record, out, 300));
     CHECK(untouched(panel_build(p, row, sizeof row, out, sizeof record - 1), PANEL_SHORT, out, 300));
@@ -38,6 +41,11 @@ static void check_trees(const struct panel *p, uint8_t *out) {
     CHECK(untouched(panel_repair(p, NULL, 0, NULL, 0), PANEL_NO_TREE, out, 300));
     CHECK(wrote(panel_yield(p, record, sizeof record, out, 300), row, sizeof row, out, 300));
     CHECK(untouched(panel_yield(p, record, sizeof record, out, 6), PANEL_SHORT, out, 300));
+    CHECK(wrote(panel_shortest_row(p, record, sizeof record, out, 300), row, sizeof row, out, 300));
+    CHECK(wrote(panel_shortest_row(p, spare, sizeof spare, out, 300), bare, sizeof bare, out, 300));
+    CHECK(wrote(panel_shortest_row(p, spare, sizeof spare, out, sizeof bare), bare, sizeof bare, out, 300));
+    CHECK(untouched(panel_shortest_row(p, spare, sizeof spare, out, sizeof bare - 1), PANEL_SHORT, out, 300));
+    CHECK(untouched(panel_shortest_row(p, NULL, 0, NULL, 0), PANEL_NO_TREE, out, 300));
     CHECK(panel_judge(p, torn, sizeof torn).number == PANEL_ACCEPTED);
     CHECK(panel_judge(p, torn, sizeof torn).count == 1);
     CHECK(panel_judge(p, row, sizeof row).number == PANEL_STRANGER);

@@ -190,6 +190,18 @@ static inline struct panel_answer panel_yield(
     return panel_answered(tihvomen_yield(p->sheet.words, from, length, panel_into(out, room, &spare), room));
 }
 
+/*
+ * Writes the shortest row that means the same as the record's row: the conflict-free trees of the two agree once their
+ * brackets are taken out. No other row that means the same is as short. It has at most as many tokens as the record's
+ * row. Numbers: 1, 3, 7, 1, 10.
+ */
+static inline struct panel_answer panel_shortest_row(
+    const struct panel *p, const uint8_t *record, size_t length, uint8_t *out, size_t room) {
+    uint8_t spare = 0;
+    const uint8_t *from = panel_from(record, length);
+    return panel_answered(tihvomen_shortest_row(p->sheet.words, from, length, panel_into(out, room, &spare), room));
+}
+
 /* Counts the pairs of a node and a side in the record's tree that show an excluded pattern. Numbers: 1, 3, 7, 1. */
 static inline struct panel_judgement panel_judge(const struct panel *p, const uint8_t *record, size_t length) {
     struct panel_raw_judgement raw = tihvomen_judge(p->sheet.words, panel_from(record, length), length);

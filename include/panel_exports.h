@@ -51,6 +51,7 @@ struct panel_raw_answer tihvomen_build(const uint32_t *sheet, const uint8_t *row
 struct panel_raw_answer tihvomen_repair(const uint32_t *sheet, const uint8_t *record, size_t, uint8_t *out, size_t);
 struct panel_raw_judgement tihvomen_judge(const uint32_t *sheet, const uint8_t *record, size_t);
 struct panel_raw_answer tihvomen_yield(const uint32_t *sheet, const uint8_t *record, size_t, uint8_t *out, size_t);
+struct panel_raw_answer tihvomen_shortest_row(const uint32_t *sheet, const uint8_t *record, size_t, uint8_t *out, size_t);
 uint8_t tihvomen_operand_number(const uint32_t *sheet, const uint8_t *record, size_t);
 struct panel_raw_part tihvomen_operand(const uint32_t *sheet, const uint8_t *record, size_t, bool right);
 size_t tihvomen_reply(uint32_t *sheet, uint8_t *places, const uint8_t *line, size_t, uint8_t *out);

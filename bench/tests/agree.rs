@@ -31,7 +31,7 @@ fn call(random: &mut Random, proved: &mut tihvomen::Panel, fast: &mut fast::Pane
     let n = proved.operators();
     let place = random.below(18) as u8;
     let number = |refusal: tihvomen::Refusal| refusal.number();
-    match random.below(14) {
+    match random.below(15) {
         0 | 1 => {
             let (n, rules) = if random.once_in(2) { sheet(random, n) } else { (n, good_rules(random, n)) };
             assert_eq!(proved.load(n, &rules).map_err(number), fast.load(n, &rules));
@@ -63,6 +63,10 @@ fn call(random: &mut Random, proved: &mut tihvomen::Panel, fast: &mut fast::Pane
             written(random, |out| proved.yield_row_into(&record, out), |out| fast.yield_row(&record, out));
         }
         12 => {
+            let record = record(random, n);
+            written(random, |out| proved.shortest_row_into(&record, out), |out| fast.shortest_row(&record, out));
+        }
+        13 => {
             let record = record(random, n);
             assert_eq!(proved.judge(&record).map_err(number), fast.judge(&record));
         }

@@ -61,6 +61,13 @@ mod exports {
         pub fn tihvomen_repair(sheet: &Sheet, record: *const u8, length: usize, out: *mut u8, room: usize) -> Answer;
         pub fn tihvomen_judge(sheet: &Sheet, record: *const u8, length: usize) -> Judgement;
         pub fn tihvomen_yield(sheet: &Sheet, record: *const u8, length: usize, out: *mut u8, room: usize) -> Answer;
+        pub fn tihvomen_shortest_row(
+            sheet: &Sheet,
+            record: *const u8,
+            length: usize,
+            out: *mut u8,
+            room: usize,
+        ) -> Answer;
         pub fn tihvomen_operand_number(sheet: &Sheet, record: *const u8, length: usize) -> u8;
         pub fn tihvomen_operand(sheet: &Sheet, record: *const u8, length: usize, right: bool) -> Part;
         pub fn tihvomen_reply(
@@ -149,6 +156,12 @@ pub fn judge(sheet: &Sheet, record: &[u8]) -> Judgement {
 pub fn yield_row(sheet: &Sheet, record: &[u8], out: &mut [u8]) -> Answer {
     // SAFETY: `record` is read and `out` written within their lengths; they do not overlap.
     unsafe { exports::tihvomen_yield(sheet, record.as_ptr(), record.len(), out.as_mut_ptr(), out.len()) }
+}
+
+#[inline]
+pub fn shortest_row(sheet: &Sheet, record: &[u8], out: &mut [u8]) -> Answer {
+    // SAFETY: `record` is read and `out` written within their lengths; they do not overlap.
+    unsafe { exports::tihvomen_shortest_row(sheet, record.as_ptr(), record.len(), out.as_mut_ptr(), out.len()) }
 }
 
 #[inline]

@@ -137,6 +137,18 @@ impl Panel {
         length(linked::yield_row(&self.sheet, record, out))
     }
 
+    /// The shortest row that means the same as the record's row: the conflict-free trees of the two agree once their brackets
+    /// are taken out. No other row that means the same is as short. Refusals: 1, 3, 7, 1.
+    pub fn shortest_row(&self, record: &[u8]) -> Result<Vec<u8>, Refusal> {
+        gathered(|out| self.shortest_row_into(record, out))
+    }
+
+    /// The same at the front of a lent output; answers its length. Refusals: 1, 3, 7, 1, 10.
+    #[inline]
+    pub fn shortest_row_into(&self, record: &[u8], out: &mut [u8]) -> Result<usize, Refusal> {
+        length(linked::shortest_row(&self.sheet, record, out))
+    }
+
     /// The record of an operand of the top node, as that part of `record`; empty where the top node has no such operand.
     /// Refusals: 1, 3, 7, 1.
     #[inline]

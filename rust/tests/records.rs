@@ -28,6 +28,7 @@ fn refused(panel: &Panel, record: &[u8], refusal: Refusal) {
     assert_eq!(panel.yield_row(record), Err(refusal), "the row of {record:02x?}");
     assert_eq!(panel.judge(record), Err(refusal), "the count of {record:02x?}");
     assert_eq!(panel.repair(record), Err(refusal), "the repair of {record:02x?}");
+    assert_eq!(panel.shortest_row(record), Err(refusal), "the shortest row of {record:02x?}");
     assert_eq!(panel.operand(record, Side::Left), Err(refusal), "the left operand of {record:02x?}");
     assert_eq!(panel.operand(record, Side::Right), Err(refusal), "the right operand of {record:02x?}");
     assert_eq!(panel.clone().put_record(0, record), Err(refusal), "the put of {record:02x?}");

@@ -19,6 +19,7 @@ fn main() {
                 panel.yield_row_into(record, &mut out).is_ok(),
                 panel.judge(record).is_ok(),
                 panel.operand(record, Side::Right).is_ok(),
+                panel.shortest_row_into(record, &mut out).is_ok(),
             ];
             assert!(!accepted.contains(&false));
             made += 1;

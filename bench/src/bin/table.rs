@@ -49,7 +49,7 @@ fn load(both: &mut Both, name: &str, groups: u8) {
     line(name, &[rules(groups)], |rules| proved.load(32, rules), |rules| fast.load(32, rules));
 }
 
-/// Build, repair, judge, yield and the right operand.
+/// Build, repair, judge, yield, the shortest row and the right operand.
 fn trees(both: &Both, size: &str, tokens: usize, shape: Shape) {
     let Both { proved, fast } = both;
     let (rows, records) = (rows(tokens, shape), records(tokens, shape));
@@ -59,6 +59,8 @@ fn trees(both: &Both, size: &str, tokens: usize, shape: Shape) {
     line(&format!("judge, {size}"), &records, |record| proved.judge(record), |record| fast.judge(record));
     let yield_row = |record: &[u8], out: &mut [u8]| proved.yield_row_into(record, out);
     written(&format!("yield, {size}"), &records, yield_row, |record, out| fast.yield_row(record, out));
+    let shortest = |record: &[u8], out: &mut [u8]| proved.shortest_row_into(record, out);
+    written(&format!("shortest row, {size}"), &records, shortest, |record, out| fast.shortest_row(record, out));
     let operand = |record: &[u8]| proved.operand(record, Side::Right).map(<[u8]>::len);
     line(&format!("operand, {size}"), &records, operand, |record| fast.operand(record, true).map(<[u8]>::len));
 }

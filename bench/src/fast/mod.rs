@@ -148,6 +148,17 @@ impl Panel {
     }
 
     #[inline(never)]
+    pub fn shortest_row(&self, bytes: &[u8], out: &mut [u8]) -> Answer {
+        let tokens = record::check(&self.sheet, bytes)?;
+        let (mut row, mut tree) = ([0; 256], [0; 256]);
+        record::write_row(bytes, &mut row);
+        row::build(&self.sheet, &row[..tokens], &mut tree[..bytes.len()]);
+        let length = record::write_shortest(&self.sheet, &tree[..bytes.len()], &mut row);
+        out.get_mut(..length).ok_or(10)?.copy_from_slice(&row[..length]);
+        Ok(length)
+    }
+
+    #[inline(never)]
     pub fn judge(&self, bytes: &[u8]) -> Result<u8, u8> {
         record::check(&self.sheet, bytes)?;
         Ok(record::conflicts(&self.sheet, bytes))

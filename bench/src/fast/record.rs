@@ -82,6 +82,45 @@ pub fn write_row(bytes: &[u8], out: &mut [u8]) {
     }
 }
 
+/// Writes the shortest row of a conflict-free record: brackets only around operands that show a conflict. Answers its length.
+pub fn write_shortest(sheet: &Sheet, bytes: &[u8], out: &mut [u8; 256]) -> usize {
+    let mut after = [0u8; 256];
+    let mut top = 0u8;
+    let mut at = 0u8;
+    // The operator above the next operand, and whether that is its right one.
+    let (mut above, mut right) = (NONE as u8, true);
+    for &byte in bytes {
+        if byte < OPENING {
+            // Bit NONE of no row is set, and the row NONE is 0.
+            let on_left = u64::from(sheet.open[usize::from(byte)]) >> above;
+            let on_right = u64::from(sheet.closes[usize::from(above)]) >> byte;
+            if (if right { on_right } else { on_left }) & 1 != 0 {
+                out[usize::from(at)] = OPENING;
+                at += 1;
+                top += 1;
+                after[usize::from(top)] = CLOSING;
+            }
+            top += 1;
+            after[usize::from(top)] = byte;
+            (above, right) = (byte, false);
+        } else if byte > OPENING {
+            out[usize::from(at)] = byte;
+            at += 1;
+            while top > 0 {
+                let next = after[usize::from(top)];
+                top -= 1;
+                out[usize::from(at)] = next;
+                at += 1;
+                if next != CLOSING {
+                    (above, right) = (next, true);
+                    break;
+                }
+            }
+        }
+    }
+    usize::from(at)
+}
+
 /// The operand of an accepted record's top node.
 pub fn operand(bytes: &[u8], right: bool) -> &[u8] {
     match (bytes[0], right) {

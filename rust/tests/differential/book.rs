@@ -18,6 +18,7 @@ pub enum Call {
     Yield { record: Vec<u8>, room: usize },
     Judge { record: Vec<u8> },
     Operand { record: Vec<u8>, side: Side },
+    ShortestRow { record: Vec<u8>, room: usize },
 }
 
 /// A call's number, and what it answers: output bytes, the count as one byte, or the operand's part.
@@ -59,6 +60,9 @@ impl Book {
             Call::Build { row, room } => self.row(row).and_then(|row| fits(self.built(&row), *room)),
             Call::Repair { record, room } => self.record(record).and_then(|tree| fits(self.built(&tree.row()), *room)),
             Call::Yield { record, room } => self.record(record).and_then(|tree| fits(tree.row(), *room)),
+            Call::ShortestRow { record, room } => {
+                self.record(record).and_then(|tree| fits(self.sheet.shortest_row(&tree.row()), *room))
+            }
             Call::Judge { record } => self.record(record).map(|tree| vec![self.sheet.conflicts(&tree) as u8]),
             Call::Operand { record, side } => self.record(record).map(|tree| {
                 let part = tree.operand(*side).map_or(Vec::new(), Tree::record);

@@ -7,7 +7,7 @@ use tihvomen::{Panel, Refusal};
 
 /// A call that makes sense to try on the panel that the book stands for. `last` is an earlier call's answer.
 pub fn any_call(random: &mut Random, book: &Book, last: &[u8]) -> Call {
-    let mut call = match random.below(24) {
+    let mut call = match random.below(26) {
         0 | 1 => {
             let (n, rules) = inputs::sheet(random, book.used());
             Call::Load { n, rules }
@@ -22,6 +22,7 @@ pub fn any_call(random: &mut Random, book: &Book, last: &[u8]) -> Call {
         17 | 18 => Call::Repair { record: record(random, book, last), room: usize::MAX },
         19 | 20 => Call::Yield { record: record(random, book, last), room: usize::MAX },
         21 | 22 => Call::Judge { record: record(random, book, last) },
+        23 | 24 => Call::ShortestRow { record: record(random, book, last), room: usize::MAX },
         _ => {
             let side = [Side::Left, Side::Right][random.below(2)];
             Call::Operand { record: record(random, book, last), side }
@@ -42,7 +43,8 @@ fn room_of(call: &mut Call) -> Option<&mut usize> {
         | Call::Image { room, .. }
         | Call::Build { room, .. }
         | Call::Repair { room, .. }
-        | Call::Yield { room, .. } => Some(room),
+        | Call::Yield { room, .. }
+        | Call::ShortestRow { room, .. } => Some(room),
         _ => None,
     }
 }
@@ -109,6 +111,7 @@ pub fn make(random: &mut Random, panel: &mut Panel, call: &Call) -> Reply {
         Call::Build { row, room } => written(random, *room, |out| panel.build_into(row, out)),
         Call::Repair { record, room } => written(random, *room, |out| panel.repair_into(record, out)),
         Call::Yield { record, room } => written(random, *room, |out| panel.yield_row_into(record, out)),
+        Call::ShortestRow { record, room } => written(random, *room, |out| panel.shortest_row_into(record, out)),
         Call::Judge { record } => reply(panel.judge(record).map(|count| (vec![count], 0))),
         Call::Operand { record, side } => {
             let side = if *side == Side::Left { tihvomen::Side::Left } else { tihvomen::Side::Right };

@@ -5,7 +5,7 @@ use crate::random::Random;
 use tihvomen::Panel;
 
 /// The calls' names, in the order of `kind`, and the numbers that each can give.
-pub const KINDS: [(&str, &[u8]); 12] = [
+pub const KINDS: [(&str, &[u8]); 13] = [
     ("load", &[0, 1, 2, 3, 4, 5, 11]),
     ("put row", &[0, 1, 3, 6, 8]),
     ("put record", &[0, 1, 3, 7, 8]),
@@ -18,6 +18,7 @@ pub const KINDS: [(&str, &[u8]); 12] = [
     ("yield", &[0, 1, 3, 7, 10]),
     ("judge", &[0, 1, 3, 7]),
     ("operand", &[0, 1, 3, 7]),
+    ("shortest row", &[0, 1, 3, 7, 10]),
 ];
 
 /// How often each kind of call gave each number.
@@ -37,6 +38,7 @@ fn kind(call: &Call) -> usize {
         Call::Yield { .. } => 9,
         Call::Judge { .. } => 10,
         Call::Operand { .. } => 11,
+        Call::ShortestRow { .. } => 12,
     }
 }
 

@@ -8,6 +8,9 @@ pub const ENOUGH_OPERATORS: usize = 3;
 /// Rows with at most so many trees are done by looking at all of them.
 const FEW_TREES: usize = 150;
 
+/// Bare trees with at most so many operators are bracketed in all ways.
+const FEW_OPERATORS: usize = 4;
+
 /// Which patterns are excluded: L(a,b) and R(a,b).
 #[derive(Clone, PartialEq)]
 pub struct Sheet {
@@ -100,6 +103,49 @@ impl Sheet {
         let left = self.split(expression, first, top);
         let right = self.split(expression, top + 1, last);
         Tree::Node(operators[top], Box::new(left), Box::new(right))
+    }
+}
+
+impl Sheet {
+    /// The shortest row that means the same as a row, under an accepted sheet: the trees that agree with the row's own once bare,
+    /// and have no conflict, are the conflict-free trees of their rows; the shortest of those. More than one pair of brackets
+    /// around a node only makes a row longer.
+    pub fn shortest_row(&self, row: &[u8]) -> Vec<u8> {
+        let bare = self.tree_of(row).bare();
+        if bare.operators() > FEW_OPERATORS {
+            return self.bracketed(&bare);
+        }
+        let free = bare.bracketings().into_iter().filter(|tree| self.conflicts(tree) == 0);
+        let rows: Vec<Vec<u8>> = free.map(|tree| tree.row()).collect();
+        let fewest = rows.iter().map(Vec::len).min().expect("a conflict-free tree");
+        let mut shortest = rows.into_iter().filter(|row| row.len() == fewest);
+        let answer = shortest.next().expect("a shortest row");
+        assert_eq!(shortest.next(), None, "a second row is as short as {answer:02x?}");
+        answer
+    }
+
+    /// The same of a bare tree of any size: each operand that shows a conflict goes in brackets. It has no conflict, and every pair
+    /// of its brackets is needed: that is checked here.
+    fn bracketed(&self, bare: &Tree) -> Vec<u8> {
+        let tree = self.with_brackets(bare);
+        assert_eq!(self.conflicts(&tree), 0, "the model's shortest row shows a conflict");
+        let all_needed = tree.with_one_pair_less().iter().all(|less| self.conflicts(less) > 0);
+        assert!(all_needed, "the model's shortest row has a spare pair of brackets");
+        tree.row()
+    }
+
+    fn with_brackets(&self, bare: &Tree) -> Tree {
+        let Tree::Node(operator, left, right) = bare else {
+            return bare.clone();
+        };
+        let operand = |side, tree: &Tree| {
+            let inside = self.with_brackets(tree);
+            match inside.top() {
+                Some(top) if self.excluded(side, *operator, top) => Tree::Bracket(Box::new(inside)),
+                _ => inside,
+            }
+        };
+        Tree::Node(*operator, Box::new(operand(Side::Left, left)), Box::new(operand(Side::Right, right)))
     }
 }
 

@@ -52,7 +52,7 @@ impl Tree {
     }
 
     /// The operator at the top. A bracket node is never the operator inside it.
-    fn top(&self) -> Option<u8> {
+    pub fn top(&self) -> Option<u8> {
         match self {
             Tree::Node(operator, _, _) => Some(*operator),
             _ => None,
@@ -70,6 +70,56 @@ impl Tree {
                     + usize::from(shows(Side::Right, right))
                     + left.conflicts(excluded)
                     + right.conflicts(excluded)
+            }
+        }
+    }
+
+    /// The tree without its bracket nodes.
+    pub fn bare(&self) -> Tree {
+        match self {
+            Tree::Reading(reading) => Tree::Reading(*reading),
+            Tree::Bracket(inner) => inner.bare(),
+            Tree::Node(operator, left, right) => Tree::Node(*operator, Box::new(left.bare()), Box::new(right.bare())),
+        }
+    }
+
+    /// How many operators it has.
+    pub fn operators(&self) -> usize {
+        match self {
+            Tree::Reading(_) => 0,
+            Tree::Bracket(inner) => inner.operators(),
+            Tree::Node(_, left, right) => 1 + left.operators() + right.operators(),
+        }
+    }
+
+    /// The trees that have one pair of brackets more around each node, or none: all of them.
+    pub fn bracketings(&self) -> Vec<Tree> {
+        let inside = match self {
+            Tree::Reading(reading) => vec![Tree::Reading(*reading)],
+            Tree::Bracket(inner) => inner.bracketings().into_iter().map(|tree| Tree::Bracket(Box::new(tree))).collect(),
+            Tree::Node(operator, left, right) => {
+                let (lefts, rights) = (left.bracketings(), right.bracketings());
+                let node = |left: &Tree, right: &Tree| Tree::Node(*operator, left.clone().into(), right.clone().into());
+                lefts.iter().flat_map(|left| rights.iter().map(move |right| node(left, right))).collect()
+            }
+        };
+        let outside: Vec<Tree> = inside.iter().map(|tree| Tree::Bracket(tree.clone().into())).collect();
+        [inside, outside].concat()
+    }
+
+    /// The trees that have one bracket node less, each.
+    pub fn with_one_pair_less(&self) -> Vec<Tree> {
+        match self {
+            Tree::Reading(_) => Vec::new(),
+            Tree::Bracket(inner) => {
+                let deeper = inner.with_one_pair_less().into_iter().map(|tree| Tree::Bracket(Box::new(tree)));
+                std::iter::once((**inner).clone()).chain(deeper).collect()
+            }
+            Tree::Node(operator, left, right) => {
+                let lefts = left.with_one_pair_less().into_iter();
+                let rights = right.with_one_pair_less().into_iter();
+                let lefts = lefts.map(|less| Tree::Node(*operator, Box::new(less), right.clone()));
+                lefts.chain(rights.map(|less| Tree::Node(*operator, left.clone(), Box::new(less)))).collect()
             }
         }
     }

@@ -1,0 +1,47 @@
+//! Runs of calls from a fresh panel, each with the answer that the papers give: `CALL => NUMBER ANSWER`, in `tests/calls`.
+use tihvomen::{Panel, Refusal};
+
+/// Bytes in hexadecimal; `-` is none.
+fn bytes(text: &str) -> Vec<u8> {
+    if text == "-" {
+        return Vec::new();
+    }
+    assert_eq!(text.len() % 2, 0, "{text}");
+    (0..text.len()).step_by(2).map(|at| u8::from_str_radix(&text[at..at + 2], 16).unwrap()).collect()
+}
+
+fn number(text: &str) -> u8 {
+    text.parse().unwrap()
+}
+
+/// Makes the call; its answer is empty where it has none.
+fn make(panel: &mut Panel, call: &[&str]) -> Result<Vec<u8>, Refusal> {
+    let silent = |result: Result<(), Refusal>| result.map(|()| Vec::new());
+    match call {
+        ["load", n, rules] => silent(panel.load(number(n), &bytes(rules))),
+        ["put", place, row] => silent(panel.put_row(number(place), &bytes(row))),
+        ["record", place, record] => silent(panel.put_record(number(place), &bytes(record))),
+        ["drop", place] => silent(panel.drop_place(number(place))),
+        ["shortest", record] => panel.shortest_row(&bytes(record)),
+        _ => panic!("no such call: {call:?}"),
+    }
+}
+
+fn run(text: &str) {
+    let mut panel = Panel::new();
+    for (at, line) in text.lines().enumerate() {
+        let (call, expected) = line.split_once(" => ").unwrap();
+        let call: Vec<&str> = call.split(' ').collect();
+        let mut expected = expected.split(' ');
+        let refusal = u8::from_str_radix(expected.next().unwrap(), 16).unwrap();
+        let answer = expected.next().map_or(Vec::new(), bytes);
+        let got = make(&mut panel, &call).map_err(Refusal::number);
+        let wanted = if refusal == 0 { Ok(answer) } else { Err(refusal) };
+        assert_eq!(got, wanted, "line {}: {line}", at + 1);
+    }
+}
+
+#[test]
+fn shortest_rows() {
+    run(include_str!("../../tests/calls/w1.calls"));
+}
