@@ -79,6 +79,9 @@ module _ (sheet bytes : List ℕ) (from above : ℕ) (right : Bool) (at : ℕ) (
   pub next-fits : Fits w64 (from + 1)
   next-fits = let d = inside in omega arith
 
+  pub past-fits : Fits w64 (from + 2)
+  past-fits = let d = inside in omega arith
+
   pub place-fits : Fits w64 ((from + 1) * base)
   place-fits = let d = inside in omega arith
 
@@ -209,6 +212,55 @@ module _ (sheet bytes : List ℕ) (from above : ℕ) (right : Bool) (at : ℕ) (
             room = omega (arith, h .room, here .long);
           }
 
+      -- a left operand that is a reading, two places on: no call is made for it
+      module _ {y : Node} {a : ℕ} (next : y ≡ nodeAt (operatorsOf sheet) bytes (from + 1)) (leaf : y ≡ node.Reading a) where
+        record Reads (t : Tree) (to : ℕ) : Type 0 where
+          last-one : Tree
+          last-at : TreeAt (operatorsOf sheet) bytes (from + 2) last-one to
+          last-row : rowUnder sheet above right t ≡ (a ∷ []) ++ o ∷ rowUnder sheet o true last-one
+          last-long : length (rowUnder sheet above right t) ≡ 2 + length (rowUnder sheet o true last-one)
+
+        reads : (t : Tree) {to : ℕ} → TreeAt (operatorsOf sheet) bytes from t to → Reads t to
+        reads t {to} k =
+            let n = operands t k in
+            let (e, f) = a-reading (operatorsOf sheet) bytes (from + 1) next leaf (n .left) (n .left-at) in
+            let two : n .mid ≡ from + 2 = f ∙ omega arith in
+            let w : rowUnder sheet above right t ≡ (a ∷ []) ++ o ∷ rowUnder sheet o true (n .right-one) =
+            n .row ∙ ap (λ l. l ++ o ∷ rowUnder sheet o true (n .right-one)) (ap (rowUnder sheet o false) e ∙ leaf-row sheet o false a) in
+            record { last-one = n .right-one; last-at = rw two at (n .right-at); last-row = w; last-long = omega (arith, ap length w) }
+
+        abbrev here-reads : Reads (h .tree) (h .to)
+        here-reads = reads (h .tree) (h .stands)
+
+        pub leaf-first : at < mostTokens
+        leaf-first = omega (arith, h .room, here-reads .last-long)
+
+        pub leaf-second : at + 1 < mostTokens
+        leaf-second = omega (arith, h .room, here-reads .last-long)
+
+        pub leaf-stands : Stands sheet bytes (from + 2) o true (at + 1 + 1)
+        leaf-stands =
+            record {
+              tree = here-reads .last-one;
+              to = h .to;
+              stands = here-reads .last-at;
+              within = h .within;
+              room = omega (arith, h .room, here-reads .last-long);
+            }
+
+        pub leaf-falls : {t : ℕ} → due from above ≡ t → due (from + 2) o < t
+        leaf-falls e = let d = inside in omega (arith, at-most-one (ltb o mostOperators))
+
+        pub a-leaf-infix : (before : List ℕ) {laid last : List ℕ} {r : ℕ} → laid ≡ set (set before at a) (at + 1) o → Shortens sheet bytes (from + 2) o true laid (at + 1 + 1) last r
+            → Shortens sheet bytes from above right before at last r
+        a-leaf-infix before set-is q =
+            record {
+              wrote = λ t to k room.
+                  let n = reads t k in
+                  let (c, d, f) = q .wrote (n .last-one) to (n .last-at) (omega (arith, n .last-long)) in
+                  (c, d ∙ omega (arith, n .last-long), f ∙ ap (λ v. sets v (at + 1 + 1) (rowUnder sheet o true (n .last-one))) set-is ∙ set-operator before (a ∷ []) (rowUnder sheet o true (n .last-one)) at o ∙ ap (sets before at) (sym (n .last-row)));
+            }
+
       pub left-falls : {t : ℕ} → due from above ≡ t → due (from + 1) o < t
       left-falls e = let d = inside in omega (arith, at-most-one (ltb o mostOperators))
 
@@ -255,6 +307,7 @@ module _ (sheet bytes : List ℕ) (from above : ℕ) (right : Bool) (at : ℕ) (
 
 pub ruleset write-operand-ways = (
   next-fits,
+  past-fits,
   place-fits,
   answer-fits,
   leaf-room,
@@ -269,6 +322,11 @@ pub ruleset write-operand-ways = (
   close-room,
   closed-fits,
   wrapped,
+  leaf-first,
+  leaf-second,
+  leaf-stands,
+  leaf-falls,
+  a-leaf-infix,
   left-falls,
   left-stands,
   seam-room,

@@ -9,6 +9,7 @@ use expression::token;
 use record::Node;
 use record::held::BASE;
 use record::held::NO_TREE;
+use record::held::set_two;
 use sheet::layout::SHEET_WORDS;
 
 // The node at a place.
@@ -32,7 +33,8 @@ fn shows(sheet: &[u32; SHEET_WORDS], above: u8, right: bool, o: u8) -> bool
 }
 
 // The row goes to `out` from the place `to` on, each token once: an operand that shows a conflict with the operator above goes in
-// brackets, and no other does. The answer is the place after the tree in the record times the base, and that after its row.
+// brackets, and no other does. The answer is the place after the tree in the record times the base, and that after its row. A
+// reading on the left, as in most trees, takes no call.
 pub fn write_operand(
     sheet: &[u32; SHEET_WORDS],
     held: &[u8; MOST_RECORD_BYTES],
@@ -61,6 +63,13 @@ pub fn write_operand(
         let inner = write_operand(sheet, held, at, token::OPENING, true, out, to + 1);
         out[inner % BASE] = token::CLOSING;
         return inner + 1;
+    }
+    let top = top_at(sheet, held, at + 1);
+    if let Node::Reading(a) = top {
+        let past = at + 2;
+        let next = to + 1;
+        set_two(out, to, next, a, o);
+        return write_operand(sheet, held, past, o, true, out, next + 1);
     }
     let left = write_operand(sheet, held, at + 1, o, false, out, to);
     let seam = left % BASE;

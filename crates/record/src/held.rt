@@ -1,7 +1,9 @@
-// A record held at the front of as many bytes as a record has at most: a walk is lent them by one pointer, and its last call becomes a loop.
+// A record held at the front of as many bytes as a record has at most, and the row that a walk writes: a walk is lent them by one pointer each,
+// and its last call becomes a loop.
 ghost use mathlib.Core.Path.{_≡_};
-ghost use Prim.Native.Nat.{_≤_};
-ghost use Rattle.expression.specs.Limits.{mostRecordBytes};
+ghost use Prim.Native.Nat.{_<_, _≤_};
+ghost use lib.ListN.{set};
+ghost use Rattle.expression.specs.Limits.{mostTokens, mostRecordBytes};
 ghost use Rattle.sheet.specs.Layout.{operatorsOf};
 ghost use Rattle.record.specs.Held.{front};
 ghost use Rattle.record.specs.Node.{nodeAt};
@@ -28,4 +30,14 @@ pub fn node_in(
 {
     let all = &held[..];
     node_at(sheet, &all[0..size], at)
+}
+
+// Two tokens of a row, at two places.
+pub fn set_two(out: &mut [u8; limits::MOST_TOKENS], to: usize, next: usize, a: u8, b: u8)
+    requires { ⌜ to < mostTokens ⌝ }
+    requires { ⌜ next < mostTokens ⌝ }
+    ensures { λ _. ⌜ now (out .exit) ≡ set (set (now (out .entry)) to a) next b ⌝ }
+{
+    out[to] = a;
+    out[next] = b;
 }

@@ -1,8 +1,6 @@
 // The row of the tree at a place of a record, written into as many bytes as a row has at most.
-ghost use mathlib.Core.Path.{_≡_};
-ghost use Prim.Native.Nat.{_<_, _≤_};
-ghost use lib.ListN.{set};
-ghost use Rattle.expression.specs.Limits.{mostTokens, mostRecordBytes};
+ghost use Prim.Native.Nat.{_≤_};
+ghost use Rattle.expression.specs.Limits.{mostRecordBytes};
 ghost use Rattle.sheet.specs.Layout.{operatorsOf};
 ghost use Rattle.record.specs.Held.{front};
 ghost use Rattle.record.specs.Rows.{Writes};
@@ -10,20 +8,11 @@ use crate::Node;
 use crate::held::BASE;
 use crate::held::NO_TREE;
 use crate::held::node_in;
+use crate::held::set_two;
 use expression::limits::MOST_RECORD_BYTES;
 use expression::limits::MOST_TOKENS;
 use expression::token;
 use sheet::layout::SHEET_WORDS;
-
-// Two tokens, at two places.
-fn set_two(out: &mut [u8; MOST_TOKENS], to: usize, next: usize, a: u8, b: u8)
-    requires { ⌜ to < mostTokens ⌝ }
-    requires { ⌜ next < mostTokens ⌝ }
-    ensures { λ _. ⌜ now (out .exit) ≡ set (set (now (out .entry)) to a) next b ⌝ }
-{
-    out[to] = a;
-    out[next] = b;
-}
 
 // The row goes to `out` from the place `to` on. The answer is the place after the tree in the record times the base, and that
 // after its row in `out`. A reading on the left, as in most trees, takes no call. A left operand leaves a byte for the right one.

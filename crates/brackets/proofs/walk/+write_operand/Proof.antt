@@ -2,11 +2,13 @@
 use Prim.Native.Nat.{ℕ, _<_}
 use borrow.Fn.Kinds.{In}
 use borrow.Fn.PlainCycle.{Measures, is, falls, and}
-use Rattle.brackets.proofs.Walking.{due, write-operand-ways}
+use borrow.Author.Needs.{needs}
+use Rattle.brackets.proofs.Walking.{due, leaf-stands, left-stands, right-stands, write-operand-ways}
 use Rattle.brackets.proofs.walk.write_operand.Reads as write-operand
 use Rattle.brackets.proofs.walk.write_operand.Kinds as write-operand-kinds
 use Rattle.brackets.proofs.walk.+write_operand.Lts-write_operand as write-operand-lts
 use Rattle.brackets.proofs.walk.shows.Reads as shows
+use Rattle.record.proofs.held.set_two.Reads as set-two
 use Rattle.brackets.proofs.walk.top_at.Reads as top-at
 use Rattle.brackets.proofs.walk.+write_operand.{statement}
 use Rattle.brackets.proofs.walk.+write_operand.Tie.{close}
@@ -22,7 +24,7 @@ write-operand-below t = and 3 write-operand-kinds.ps (falls 3 write-operand-kind
 
 pub +write-operand-spec : {M : Type 1} → statement M
 +write-operand-spec =
-    close μ-write-operand λ t. write-operand-lts.spec (top-at.Asked, top-at.Learnt, write-operand-below t, write-operand.Post, shows.Asked, shows.Learnt) (write-operand-at t) write-operand.Post
+    close μ-write-operand λ t. write-operand-lts.spec (top-at.Asked, top-at.Learnt, write-operand-below t, write-operand.Post, shows.Asked, shows.Learnt, set-two.Asked, set-two.Learnt) (write-operand-at t) write-operand.Post
     (λ c κs. search write-operand-ways)
     (λ c. search write-operand-ways)
     (λ c. search write-operand-ways)
@@ -45,8 +47,17 @@ pub +write-operand-spec : {M : Type 1} → statement M
     (λ c. search write-operand-ways)
     (λ c. search write-operand-ways)
     (λ c. search write-operand-ways)
-    (λ c κs. (search write-operand-ways, search write-operand-ways))
+    (λ c κs. search write-operand-ways)
     (λ c. search write-operand-ways)
     (λ c. search write-operand-ways)
-    (λ c κs. (search write-operand-ways, search write-operand-ways))
+    (λ c. search write-operand-ways)
+    (λ c κs. search write-operand-ways)
+    (λ c. search write-operand-ways)
+    (λ c κs. (search write-operand-ways, search (leaf-stands _ _ _ _ _ _ (c .before .before .before .before .before .before .before .before .before .before .before .before .before .before .before .pre .1), needs)))
+    (λ c. search write-operand-ways)
+    (λ c. search write-operand-ways)
+    (λ c κs. (search write-operand-ways, search (left-stands _ _ _ _ _ _ (c .before .before .before .before .before .before .before .before .before .before .before .pre .1), needs)))
+    (λ c. search write-operand-ways)
+    (λ c. search write-operand-ways)
+    (λ c κs. (search write-operand-ways, search (right-stands _ _ _ _ _ _ (c .before .before .before .before .before .before .before .before .before .before .before .before .before .pre .1), needs)))
     (λ c. search write-operand-ways)
