@@ -12,7 +12,7 @@ use Rattle.expression.specs.Limits.{mostTokens, mostRecordBytes}
 use Rattle.expression.specs.Refusal.{accepted, short}
 use Rattle.expression.specs.Lent.{outputAfter}
 use Rattle.expression.specs.Token.{Operators, opening, class}
-use Rattle.expression.specs.Tree.{Tree, yield, recordOf}
+use Rattle.expression.specs.Tree.{Tree, recordOf}
 use Rattle.expression.specs.Decode.{treeOf}
 use Rattle.expression.specs.Operand.{rowOf}
 use Rattle.expression.specs.Checks.{recordBytes, shortCheck, recordChecks, recordNumber}
@@ -30,7 +30,7 @@ use Rattle.parser.specs.Build.{built}
 use Rattle.parser.specs.Answers.{AnswersRepair}
 use Rattle.parser.proofs.BuildLaws.{quiet, BuiltTree, built-tree}
 use Rattle.parser.proofs.RepairWays.{Accepted, accepted-record}
-use Rattle.brackets.specs.Shortest.{enclosedIn, shortened, shortestOf, shortestNumber, AnswersShortest, rowUnder, Stands, Shortens}
+use Rattle.brackets.specs.Shortest.{shortened, shortestOf, shortestNumber, AnswersShortest, rowUnder, Stands, Shortens}
 use Rattle.brackets.proofs.Fewest.{enclosed-shortens}
 use Rattle.brackets.proofs.OperandRows.{plain-row}
 

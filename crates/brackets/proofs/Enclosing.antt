@@ -1,7 +1,7 @@
 -- A tree with just the brackets that it needs: once bare the same tree, over the same operators, without a conflict. Assumes nothing.
 use Prim.Native.Nat.{ℕ, _+_}
 use native.Mathlib.Omega.{arith}
-use mathlib.Core.Path.{_≡_, refl, ap₂, _∙_}
+use mathlib.Core.Path.{_≡_, refl, ap, ap₂, _∙_}
 use mathlib.Core.Bool.{Bool, true, false, _||_, true≢false}
 use mathlib.Core.List.{List, [], _∷_}
 use Rattle.expression.specs.Lists.{oneIf, anyHolds, howMany, All}
@@ -44,25 +44,18 @@ over-around : (k : ℕ → Class) (needed : Bool) (t : Tree) → Over k t → Ov
 over-around k true t h = h
 over-around k false t h = h
 
+-- with its brackets, an operand shows no conflict: nothing is seen through a bracket
+shows-none : (seen : Tree → List ℕ) → ((t : Tree) → seen (bracket t) ≡ []) → (p : ℕ → Bool) (t : Tree) → howMany p (seen (around (anyHolds p (seen t)) t)) ≡ 0
+shows-none seen hidden p t = go (anyHolds p (seen t)) (none-counted p (seen t))
+  where
+    go : (needed : Bool) → (needed ≡ false → howMany p (seen t) ≡ 0) → howMany p (seen (around needed t)) ≡ 0
+    go true h = ap (howMany p) (hidden t)
+    go false h = h refl
+
 module _ (L R : ℕ → ℕ → Bool) where
   free-around : (needed : Bool) (t : Tree) → conflicts L R t ≡ 0 → conflicts L R (around needed t) ≡ 0
   free-around true t h = h
   free-around false t h = h
-
-  -- with its brackets, an operand shows no conflict
-  left-shows-none : (o : ℕ) (t : Tree) → howMany (L o) (seenFromRight (leftOf L R o t)) ≡ 0
-  left-shows-none o t = go (anyHolds (L o) (seenFromRight t)) (none-counted (L o) (seenFromRight t))
-    where
-      go : (needed : Bool) → (needed ≡ false → howMany (L o) (seenFromRight t) ≡ 0) → howMany (L o) (seenFromRight (around needed t)) ≡ 0
-      go true h = refl
-      go false h = h refl
-
-  right-shows-none : (o : ℕ) (t : Tree) → howMany (R o) (seenFromLeft (rightOf L R o t)) ≡ 0
-  right-shows-none o t = go (anyHolds (R o) (seenFromLeft t)) (none-counted (R o) (seenFromLeft t))
-    where
-      go : (needed : Bool) → (needed ≡ false → howMany (R o) (seenFromLeft t) ≡ 0) → howMany (R o) (seenFromLeft (around needed t)) ≡ 0
-      go true h = refl
-      go false h = h refl
 
   -- ---- of the whole tree
   pub bare-enclosed : (t : Tree) → bare (enclosed L R t) ≡ bare t
@@ -87,8 +80,8 @@ module _ (L R : ℕ → ℕ → Bool) where
   enclosed-free (binary o l r) =
       omega (
         arith,
-        left-shows-none o (enclosed L R l),
-        right-shows-none o (enclosed L R r),
+        shows-none seenFromRight (λ t. refl) (L o) (enclosed L R l),
+        shows-none seenFromLeft (λ t. refl) (R o) (enclosed L R r),
         free-around (anyHolds (L o) (seenFromRight (enclosed L R l))) (enclosed L R l) (enclosed-free l),
         free-around (anyHolds (R o) (seenFromLeft (enclosed L R r))) (enclosed L R r) (enclosed-free r),
       )

@@ -57,7 +57,7 @@ module _ (L R : ℕ → ℕ → Bool) where
   Inside (binary o l r) = Unit {0}
 
   -- An operand of which the operator above sees the top, and shows no conflict with it.
-  module _ (seen : Tree → List ℕ) (leaf : (a : ℕ) → seen (reading a) ≡ []) (top : (o : ℕ) (l r m s : Tree) → seen (binary o l r) ≡ seen (binary o m s)) (p : ℕ → Bool) where
+  module _ (seen : Tree → List ℕ) (top : (o : ℕ) (l r m s : Tree) → seen (binary o l r) ≡ seen (binary o m s)) (p : ℕ → Bool) where
     operand : (t : Tree) → howMany p (seen t) ≡ 0 → Shorter (enclosed L R t) t → Inside t → Shorter (around (anyHolds p (seen (enclosed L R t))) (enclosed L R t)) t
     operand (reading a) h s i = let e : anyHolds p (seen (reading a)) ≡ false = counted-none p (seen (reading a)) h in rw e s
     operand (bracket t) h s i = go (anyHolds p (seen (enclosed L R t)))
@@ -76,8 +76,8 @@ module _ (L R : ℕ → ℕ → Bool) where
       let (s, i) = of-tree l (omega arith) in
       let (q, j) = of-tree r (omega arith) in (
         joined o l (leftOf L R o (enclosed L R l)) r (rightOf L R o (enclosed L R r))
-            (operand seenFromRight (λ a. refl) (λ o l r m s. refl) (L o) l (omega arith) s i)
-            (operand seenFromLeft (λ a. refl) (λ o l r m s. refl) (R o) r (omega arith) q j),
+            (operand seenFromRight (λ o l r m s. refl) (L o) l (omega arith) s i)
+            (operand seenFromLeft (λ o l r m s. refl) (R o) r (omega arith) q j),
         tt,
       )
 

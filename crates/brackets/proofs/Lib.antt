@@ -5,4 +5,5 @@ pub mod InForceShortest
 pub mod Examples
 pub mod OperandRows
 pub mod Walking
+pub mod WalkingInfix
 pub mod Answering

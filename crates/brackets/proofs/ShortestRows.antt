@@ -1,5 +1,5 @@
 -- Under rules by which a row has one conflict-free tree at most, the row of the tree with just the brackets that it needs is the shortest that means the same, and the only one. Assumes nothing.
-use Prim.Native.Nat.{ℕ, _≤_}
+use Prim.Native.Nat.{ℕ}
 use native.Mathlib.Omega.{arith}
 use mathlib.Core.Path.{_≡_, refl, ap, sym, _∙_}
 use mathlib.Core.List.{List}

@@ -7,7 +7,6 @@ use mathlib.Core.Option.{Option, none, some}
 use mathlib.Core.List.{List, [], _∷_, _++_}
 use lib.Dec.{eqb, ltb}
 use lib.ListN.{length}
-use lib.ListN as lists
 use borrow.Author.Tests.{ltb-true, ne-eqb}
 use Rattle.expression.specs.Refusal.{Check, first, accepted}
 use Rattle.expression.specs.Lent.{outputAfter, lengthAfter}

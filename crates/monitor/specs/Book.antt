@@ -8,7 +8,6 @@ use lib.ListN.{length}
 use Rattle.expression.specs.Refusal.{Check, first, empty}
 use Rattle.expression.specs.Token.{Operators, operators, class}
 use Rattle.expression.specs.Tree.{Tree}
-use Rattle.expression.specs.Tree as tree
 use Rattle.expression.specs.Decode.{treeOf}
 use Rattle.expression.specs.Operand.{rowOf}
 use Rattle.expression.specs.Checks.{shortCheck, recordBytes, rowChecks, recordChecks, recordNumber, buildNumber, repairNumber, yieldNumber}

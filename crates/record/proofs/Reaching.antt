@@ -17,7 +17,7 @@ use Rattle.record.specs.declared.Node.{Node}
 use Rattle.record.specs.declared.Node.the-variants as node
 use Rattle.record.proofs.Node as nodes
 use Rattle.record.proofs.Nodes.{is-other}
-use Rattle.record.proofs.Trees.{record-positive, a-reading, a-bracket, an-operator, no-tree, none-past}
+use Rattle.record.proofs.Trees.{a-reading, a-bracket, an-operator, no-tree, none-past}
 use Rattle.record.proofs.Standing.{leaf-at, bracket-at, operator-at, onward, operands-in, joined-in}
 
 -- an answer that reached no end has no tree

@@ -3,7 +3,8 @@ use Prim.Native.Nat.{ℕ, _<_}
 use borrow.Fn.Kinds.{In}
 use borrow.Fn.PlainCycle.{Measures, is, falls, and}
 use borrow.Author.Needs.{needs}
-use Rattle.brackets.proofs.Walking.{due, leaf-stands, left-stands, right-stands, write-operand-ways}
+use Rattle.brackets.proofs.Walking.{due, node-ways}
+use Rattle.brackets.proofs.WalkingInfix.{leaf-stands, left-stands, right-stands, infix-ways}
 use Rattle.brackets.proofs.walk.write_operand.Reads as write-operand
 use Rattle.brackets.proofs.walk.write_operand.Kinds as write-operand-kinds
 use Rattle.brackets.proofs.walk.+write_operand.Lts-write_operand as write-operand-lts
@@ -22,42 +23,45 @@ write-operand-at t = and 3 write-operand-kinds.ps (is 3 write-operand-kinds.ps �
 abbrev write-operand-below : ℕ → In 3 write-operand-kinds.ps
 write-operand-below t = and 3 write-operand-kinds.ps (falls 3 write-operand-kinds.ps _<_ μ-write-operand t) write-operand.Pre
 
+ruleset ways = (node-ways, infix-ways, needs)
+
+-- Where the tree that stands at the place is named, the search is too long without it.
 pub +write-operand-spec : {M : Type 1} → statement M
 +write-operand-spec =
     close μ-write-operand λ t. write-operand-lts.spec (top-at.Asked, top-at.Learnt, write-operand-below t, write-operand.Post, shows.Asked, shows.Learnt, set-two.Asked, set-two.Learnt) (write-operand-at t) write-operand.Post
-    (λ c κs. search write-operand-ways)
-    (λ c. search write-operand-ways)
-    (λ c. search write-operand-ways)
-    (λ c. search write-operand-ways)
-    (λ c. search write-operand-ways)
-    (λ c. search write-operand-ways)
-    (λ c. search write-operand-ways)
-    (λ c. search write-operand-ways)
-    (λ c. search write-operand-ways)
-    (λ c. search write-operand-ways)
-    (λ c κs. (search write-operand-ways, search write-operand-ways))
-    (λ c. search write-operand-ways)
-    (λ c. search write-operand-ways)
-    (λ c. search write-operand-ways)
-    (λ c κs. search write-operand-ways)
-    (λ c. search write-operand-ways)
-    (λ c. search write-operand-ways)
-    (λ c κs. (search write-operand-ways, search write-operand-ways))
-    (λ c. search write-operand-ways)
-    (λ c. search write-operand-ways)
-    (λ c. search write-operand-ways)
-    (λ c. search write-operand-ways)
-    (λ c κs. search write-operand-ways)
-    (λ c. search write-operand-ways)
-    (λ c. search write-operand-ways)
-    (λ c. search write-operand-ways)
-    (λ c κs. search write-operand-ways)
-    (λ c. search write-operand-ways)
-    (λ c κs. (search write-operand-ways, search (leaf-stands _ _ _ _ _ _ (c .before .before .before .before .before .before .before .before .before .before .before .before .before .before .before .pre .1), needs)))
-    (λ c. search write-operand-ways)
-    (λ c. search write-operand-ways)
-    (λ c κs. (search write-operand-ways, search (left-stands _ _ _ _ _ _ (c .before .before .before .before .before .before .before .before .before .before .before .pre .1), needs)))
-    (λ c. search write-operand-ways)
-    (λ c. search write-operand-ways)
-    (λ c κs. (search write-operand-ways, search (right-stands _ _ _ _ _ _ (c .before .before .before .before .before .before .before .before .before .before .before .before .before .pre .1), needs)))
-    (λ c. search write-operand-ways)
+    (λ c κs. search ways)
+    (λ c. search ways)
+    (λ c. search ways)
+    (λ c. search ways)
+    (λ c. search ways)
+    (λ c. search ways)
+    (λ c. search ways)
+    (λ c. search ways)
+    (λ c. search ways)
+    (λ c. search ways)
+    (λ c κs. (search ways, search ways))
+    (λ c. search ways)
+    (λ c. search ways)
+    (λ c. search ways)
+    (λ c κs. search ways)
+    (λ c. search ways)
+    (λ c. search ways)
+    (λ c κs. (search ways, search ways))
+    (λ c. search ways)
+    (λ c. search ways)
+    (λ c. search ways)
+    (λ c. search ways)
+    (λ c κs. search ways)
+    (λ c. search ways)
+    (λ c. search ways)
+    (λ c. search ways)
+    (λ c κs. search ways)
+    (λ c. search ways)
+    (λ c κs. (search ways, search (leaf-stands _ _ _ _ _ _ (c .before .before .before .before .before .before .before .before .before .before .before .before .before .before .before .pre .1), needs)))
+    (λ c. search ways)
+    (λ c. search ways)
+    (λ c κs. (search ways, search (left-stands _ _ _ _ _ _ (c .before .before .before .before .before .before .before .before .before .before .before .pre .1), needs)))
+    (λ c. search ways)
+    (λ c. search ways)
+    (λ c κs. (search ways, search (right-stands _ _ _ _ _ _ (c .before .before .before .before .before .before .before .before .before .before .before .before .before .pre .1), needs)))
+    (λ c. search ways)
