@@ -139,6 +139,17 @@ impl Panel {
 
     /// The shortest row that means the same as the record's row: the conflict-free trees of the two agree once their brackets
     /// are taken out. No other row that means the same is as short. Refusals: 1, 3, 7, 1.
+    ///
+    /// ```
+    /// let mut panel = tihvomen::Panel::new();
+    /// // Two operators: 01 over 00, each left with itself.
+    /// panel.load(2, &[1, 1, 0, 2, 1, 1, 2, 0, 0])?;
+    /// let spare = panel.build(&[0x20, 0x80, 0x21, 0x00, 0x20, 0x81, 0x01, 0x82, 0x21])?;
+    /// assert_eq!(panel.shortest_row(&spare)?, [0x80, 0x00, 0x81, 0x01, 0x82]);
+    /// let needed = [0x20, 0x80, 0x00, 0x81, 0x21, 0x01, 0x82];
+    /// assert_eq!(panel.shortest_row(&panel.build(&needed)?)?, needed);
+    /// # Ok::<(), tihvomen::Refusal>(())
+    /// ```
     pub fn shortest_row(&self, record: &[u8]) -> Result<Vec<u8>, Refusal> {
         gathered(|out| self.shortest_row_into(record, out))
     }

@@ -45,6 +45,9 @@ fn answers_fit_or_are_refused() {
     fits(&row, |out| panel.yield_row_into(&record, out));
     fits(&[0x80, 0, 0x81, 1, 0x82], |out| panel.yield_row_into(&[1, 0, 0x80, 0x81, 0x82], out));
     fits(&[0x20, 0x80, 0x21], |out| panel.yield_row_into(&[0x20, 0x80], out));
+    fits(&row, |out| panel.shortest_row_into(&record, out));
+    fits(&[0x80, 0, 0x81, 1, 0x82], |out| panel.shortest_row_into(&[0, 0x20, 0x80, 0x20, 1, 0x81, 0x82], out));
+    fits(&[0x80], |out| panel.shortest_row_into(&[0x20, 0x80], out));
     fits(&[0x80], |out| panel.build_into(&[0x80], out));
     fits(&[0x80], |out| panel.repair_into(&[0x80], out));
     fits(&[0x80], |out| panel.yield_row_into(&[0x80], out));
@@ -72,6 +75,7 @@ fn short_comes_last() {
         assert_eq!(lent(0, |out| panel.build_into(bytes, out)), Err(row));
         assert_eq!(lent(0, |out| panel.repair_into(bytes, out)), Err(record));
         assert_eq!(lent(0, |out| panel.yield_row_into(bytes, out)), Err(record));
+        assert_eq!(lent(0, |out| panel.shortest_row_into(bytes, out)), Err(record));
     }
     // 21 has no place in a record.
     assert_eq!(lent(0, |out| panel.repair_into(&[0x21], out)), Err(Refusal::Stranger));

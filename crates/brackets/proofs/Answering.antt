@@ -30,7 +30,8 @@ use Rattle.parser.specs.Build.{built}
 use Rattle.parser.specs.Answers.{AnswersRepair}
 use Rattle.parser.proofs.BuildLaws.{quiet, BuiltTree, built-tree}
 use Rattle.parser.proofs.RepairWays.{Accepted, accepted-record}
-use Rattle.brackets.specs.Shortest.{shortened, shortestOf, shortestNumber, AnswersShortest, rowUnder, Stands, Shortens}
+use Rattle.brackets.specs.Shortest.{shortened, shortestOf, shortestNumber, AnswersShortest}
+use Rattle.brackets.specs.Walk.{rowUnder, StandsWithRoom, Shortens}
 use Rattle.brackets.proofs.Fewest.{enclosed-shortens}
 use Rattle.brackets.proofs.OperandRows.{plain-row}
 
@@ -98,7 +99,7 @@ module _ (sheet bytes out zeros : List ℕ) {held : List ℕ} {y : Answer} (room
               (sym (ap (drop (length (recordOf tree))) held-is ∙ drop-append-seam (recordOf tree) (drop (length (recordOf tree)) zeros)));
         }
 
-    pub front-stands : Stands sheet held 0 opening true 0
+    pub front-stands : StandsWithRoom sheet held 0 opening true 0
     front-stands =
         record {
           tree = tree;

@@ -1,9 +1,8 @@
--- Under a sheet in force the answer is the shortest row that means the same as the record's, and no longer than that. Assumes nothing.
-use Prim.Native.Nat.{ℕ, _≤_}
+-- Under a sheet in force the call answers what the rules say. Assumes nothing.
+use Prim.Native.Nat.{ℕ}
 use mathlib.Core.Path.{_≡_, refl, ap, sym, _∙_}
 use mathlib.Core.Option.{Option, none, some}
 use mathlib.Core.List.{List}
-use lib.ListN.{length}
 use Rattle.expression.specs.Token.{Operators, class}
 use Rattle.expression.specs.Tree.{Tree, yield, Over}
 use Rattle.expression.specs.Decode.{treeOf}
@@ -11,7 +10,6 @@ use Rattle.expression.specs.Operand.{rowOf}
 use Rattle.expression.proofs.Classes.{brackets}
 use Rattle.expression.proofs.RecordsAndTrees.{treeOf-record, record-treeOf}
 use Rattle.disambiguation.specs.Rules.{Rule, L, R}
-use Rattle.disambiguation.specs.Conflicts.{ConflictFreeTree}
 use Rattle.disambiguation.specs.Repair.{repair}
 use Rattle.disambiguation.proofs.TestsDecide.{infix-below}
 use Rattle.disambiguation.proofs.Accepted.{accepted-passes, repair-is}
@@ -19,12 +17,10 @@ use Rattle.sheet.specs.Relation.{closesIn}
 use Rattle.sheet.specs.InForce.{InForce}
 use Rattle.record.specs.Counts.{excludedLeft}
 use Rattle.parser.specs.Build.{progressOf, built}
-use Rattle.parser.proofs.InForceBuilds.{one-tree, built-repairs}
-use Rattle.brackets.specs.SameMeaning.{ShortestRow}
+use Rattle.parser.proofs.InForceBuilds.{built-repairs}
 use Rattle.brackets.specs.Enclosed.{enclosed}
 use Rattle.brackets.specs.Shortest.{enclosedIn, shortened, shortestOf, shortestBy}
 use Rattle.brackets.proofs.Enclosing.{enclosed-agree}
-use Rattle.brackets.proofs.ShortestRows.{shortest-row}
 
 module _ (sheet : List ℕ) (ops : Operators) (rules : List Rule) (k : InForce sheet ops rules) where
   -- the relation decides where brackets are needed
@@ -32,9 +28,6 @@ module _ (sheet : List ℕ) (ops : Operators) (rules : List Rule) (k : InForce s
   enclosed-by-rules =
       enclosed-agree (class ops) (excludedLeft sheet) (closesIn sheet) (L rules) (R rules) (λ o b ho hb. sym (k .left b o (infix-below ops b hb) (infix-below ops o ho)))
       (λ a b _ _. k .right a b)
-
-  repaired : (t : Tree) → Over (class ops) t → ConflictFreeTree ops rules (yield t) (repair (R rules) t)
-  repaired t h = repair-is ops rules (accepted-passes ops rules (k .accepts)) t h
 
   -- what the call answers is what the rules say
   pub shortest-by-rules : (bytes : List ℕ) → shortestOf sheet bytes ≡ shortestBy rules (treeOf (class ops) bytes)
@@ -46,15 +39,6 @@ module _ (sheet : List ℕ) (ops : Operators) (rules : List Rule) (k : InForce s
       go none e = refl
       go (some t) e =
           let h = record-treeOf (class ops) (brackets ops) bytes t e .1 in
-          let c = repaired t h in
+          let c = repair-is ops rules (accepted-passes ops rules (k .accepts)) t h in
           ap (λ s. shortened sheet (treeOf (class ops) s)) (built-repairs sheet ops rules k t h)
           ∙ ap (shortened sheet) (treeOf-record (class ops) (brackets ops) (repair (R rules) t) (c .over)) ∙ ap yield (enclosed-by-rules (repair (R rules) t) (c .over))
-
-  module _ (t : Tree) (h : Over (class ops) t) where
-    -- It is the row of fewest tokens that means the same as t's row, and the only one;
-    pub shortest-of-tree : ShortestRow ops rules (yield t) (shortestBy rules (some t))
-    shortest-of-tree = shortest-row ops rules (one-tree sheet ops rules k) (yield t) (repair (R rules) t) (repaired t h)
-
-    -- t's row means the same as itself.
-    pub shortest-fits : length (shortestBy rules (some t)) ≤ length (yield t)
-    shortest-fits = let c = repaired t h in shortest-of-tree .fewest (yield t) (repair (R rules) t, repair (R rules) t, c, c, refl)

@@ -14,7 +14,8 @@ use Rattle.sheet.specs.Relation.{closesIn}
 use Rattle.record.specs.Counts.{excludedLeft}
 use Rattle.parser.proofs.BuildLaws.{quiet}
 use Rattle.brackets.specs.Enclosed.{around}
-use Rattle.brackets.specs.Shortest.{enclosedIn, shows, shown, rowUnder}
+use Rattle.brackets.specs.Shortest.{enclosedIn}
+use Rattle.brackets.specs.Walk.{shows, shown, rowUnder}
 use Rattle.brackets.proofs.Enclosing.{any-agree}
 
 abbrev Any : ℕ → Type 0

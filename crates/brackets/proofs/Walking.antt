@@ -33,7 +33,7 @@ use Rattle.record.proofs.Nodes.{is-other}
 use Rattle.record.proofs.Trees.{a-reading, a-bracket, an-operator, no-tree}
 use Rattle.record.proofs.Standing.{onward}
 use Rattle.record.proofs.Writing.{set-bracket}
-use Rattle.brackets.specs.Shortest.{shows, rowUnder, Stands, Shortens}
+use Rattle.brackets.specs.Walk.{shows, rowUnder, StandsWithRoom, Shortens}
 use Rattle.brackets.proofs.OperandRows.{leaf-row, wrapped-row}
 
 wrapped-length : (row : List ℕ) → length (opening ∷ row ++ (closing ∷ [])) ≡ length row + 2
@@ -67,7 +67,7 @@ at-most-one true = omega arith
 at-most-one false = omega arith
 
 -- a tree stands at the place, and the node there is x
-module _ (sheet bytes : List ℕ) (from above : ℕ) (right : Bool) (at : ℕ) (h : Stands sheet bytes from above right at) {x : Node} (found : x ≡ nodeAt (operatorsOf sheet) bytes from) where
+module _ (sheet bytes : List ℕ) (from above : ℕ) (right : Bool) (at : ℕ) (h : StandsWithRoom sheet bytes from above right at) {x : Node} (found : x ≡ nodeAt (operatorsOf sheet) bytes from) where
   -- the place is within a record
   pub inside : from < mostRecordBytes
   inside = omega (arith, onward (operatorsOf sheet) bytes from (h .tree) (h .stands), h .within)
@@ -101,7 +101,7 @@ module _ (sheet bytes : List ℕ) (from above : ℕ) (right : Bool) (at : ℕ) (
       }
 
   -- ---- a bracket
-  pub inner-stands : x ≡ node.Bracket → Stands sheet bytes (from + 1) above right at
+  pub inner-stands : x ≡ node.Bracket → StandsWithRoom sheet bytes (from + 1) above right at
   inner-stands is =
       let (u, e, y) = a-bracket (operatorsOf sheet) bytes from found is (h .tree) (h .stands) in
       record { tree = u; to = h .to; stands = y; within = h .within; room = rw e at (h .room) }
@@ -140,7 +140,7 @@ module _ (sheet bytes : List ℕ) (from above : ℕ) (right : Bool) (at : ℕ) (
       pub wrapped-falls : {t : ℕ} → due from above ≡ t → due from opening < t
       wrapped-falls e = omega (arith, ap oneIf (lt-ltb above mostOperators (shown-below sheet above right o (sym tested ∙ yes-shown))))
 
-      pub wrapped-stands : Stands sheet bytes from opening true (at + 1)
+      pub wrapped-stands : StandsWithRoom sheet bytes from opening true (at + 1)
       wrapped-stands = record { tree = h .tree; to = h .to; stands = h .stands; within = h .within; room = omega (arith, h .room, long (h .tree) (h .stands)) }
 
       module _ (before : List ℕ) {after : List ℕ} {inner : ℕ} (g : Shortens sheet bytes from opening true (set before at opening) (at + 1) after inner) where

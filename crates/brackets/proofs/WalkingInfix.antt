@@ -21,14 +21,14 @@ use Rattle.record.proofs.Trees.{a-reading, an-operator}
 use Rattle.record.proofs.Standing.{onward}
 use Rattle.record.proofs.Writing.{set-operator}
 use Rattle.parser.proofs.BuildInvariant.{steps-as}
-use Rattle.brackets.specs.Shortest.{shows, rowUnder, Stands, Shortens}
+use Rattle.brackets.specs.Walk.{shows, rowUnder, StandsWithRoom, Shortens}
 use Rattle.brackets.proofs.OperandRows.{leaf-row, infix-row}
 use Rattle.brackets.proofs.Walking.{due, at-most-one, inside}
 
 infix-byte : (ops : Operators) (o : ℕ) → class ops o ≡ Infix → o < mostOperators
 infix-byte ops o h = ltb-true o mostOperators (rw h at (steps-as ops o))
 
-module _ (sheet bytes : List ℕ) (from above : ℕ) (right : Bool) (at : ℕ) (h : Stands sheet bytes from above right at) {x : Node} (found : x ≡ nodeAt (operatorsOf sheet) bytes from) {o : ℕ}
+module _ (sheet bytes : List ℕ) (from above : ℕ) (right : Bool) (at : ℕ) (h : StandsWithRoom sheet bytes from above right at) {x : Node} (found : x ≡ nodeAt (operatorsOf sheet) bytes from) {o : ℕ}
     (is : x ≡ node.Operator o) {b : Bool} (tested : b ≡ shows sheet above right o) (not-shown : b ≡ false) where
   record Operands (t : Tree) (to : ℕ) : Type 0 where
     left : Tree
@@ -58,7 +58,7 @@ module _ (sheet bytes : List ℕ) (from above : ℕ) (right : Bool) (at : ℕ) (
   abbrev here : Operands (h .tree) (h .to)
   here = operands (h .tree) (h .stands)
 
-  pub left-stands : Stands sheet bytes (from + 1) o false at
+  pub left-stands : StandsWithRoom sheet bytes (from + 1) o false at
   left-stands =
       record {
         tree = here .left;
@@ -94,7 +94,7 @@ module _ (sheet bytes : List ℕ) (from above : ℕ) (right : Bool) (at : ℕ) (
     pub leaf-second : at + 1 < mostTokens
     leaf-second = omega (arith, h .room, here-reads .last-long)
 
-    pub leaf-stands : Stands sheet bytes (from + 2) o true (at + 1 + 1)
+    pub leaf-stands : StandsWithRoom sheet bytes (from + 2) o true (at + 1 + 1)
     leaf-stands =
         record {
           tree = here-reads .last-one;
@@ -131,7 +131,7 @@ module _ (sheet bytes : List ℕ) (from above : ℕ) (right : Bool) (at : ℕ) (
     pub seam-room : w % base < mostTokens
     seam-room = omega (arith, h .room, here .long, at-seam .1)
 
-    pub right-stands : Stands sheet bytes (w / base) o true (w % base + 1)
+    pub right-stands : StandsWithRoom sheet bytes (w / base) o true (w % base + 1)
     right-stands =
         record {
           tree = here .right-one;

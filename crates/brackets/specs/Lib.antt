@@ -1,3 +1,4 @@
 pub mod SameMeaning
 pub mod Enclosed
 pub mod Shortest
+pub mod Walk

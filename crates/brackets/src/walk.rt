@@ -2,7 +2,7 @@
 ghost use mathlib.Core.Path.{_≡_};
 ghost use Rattle.sheet.specs.Layout.{operatorsOf};
 ghost use Rattle.record.specs.Node.{nodeAt};
-ghost use Rattle.brackets.specs.Shortest.{shows, Stands, Shortens};
+ghost use Rattle.brackets.specs.Walk.{shows, StandsWithRoom, Shortens};
 use expression::limits::MOST_RECORD_BYTES;
 use expression::limits::MOST_TOKENS;
 use expression::token;
@@ -44,7 +44,7 @@ pub fn write_operand(
     out: &mut [u8; MOST_TOKENS],
     to: usize,
 ) -> usize
-    requires { ⌜ Stands (now sheet) (now held) at above right to ⌝ }
+    requires { ⌜ StandsWithRoom (now sheet) (now held) at above right to ⌝ }
     ensures { λ r. ⌜ Shortens (now (sheet .entry)) (now (held .entry)) at above right (now (out .entry)) to (now (out .exit)) r ⌝ }
 {
     let node = top_at(sheet, held, at);

@@ -24,7 +24,7 @@ use Rattle.disambiguation.specs.ExactlyOne.{HasOne, EveryRowHasOne}
 use Rattle.parser.proofs.InForceBuilds.{built-conflict-free}
 use Rattle.brackets.specs.SameMeaning.{ShortestRow}
 use Rattle.brackets.specs.Shortest.{shortestBy, shortestNumber}
-use Rattle.brackets.proofs.InForceShortest.{shortest-of-tree}
+use Rattle.brackets.proofs.ShortestRows.{shortest-of-tree}
 use Rattle.places.specs.Store.{placeCount, slotBytes, held, imageOf}
 use Rattle.places.proofs.Images.{length-image}
 use Rattle.monitor.specs.Call.{Question, Call, lentBefore, load, loadList, putRow, putRecord, drop, ask, fetchRecord, fetchRow, image, build, repair, judge, yield, operand, shortestRow}
@@ -161,7 +161,7 @@ module _ (p : Panel) (b : Book) (s : Stands p b) where
       go (t, g) = (g .tokens-fit, (t, g .tree))
 
   pub reply-means : (c : Call) → Means b c (reply p c .number)
-  reply-means c = subst (Means b c) (sym (same-number p b s c)) (book-means b every-row slots-have-trees (shortest-of-tree (p .sheet) (b .operators) (b .rules) (s .in-force)) c)
+  reply-means c = subst (Means b c) (sym (same-number p b s c)) (book-means b every-row slots-have-trees (shortest-of-tree (b .operators) (b .rules) (s .in-force .accepts)) c)
 
 -- After every list of calls the number of a call has its meaning.
 pub means : (cs : List Call) (c : Call) → Means (bookAfter cs) c (answer cs c .number)

@@ -24,7 +24,8 @@ use Rattle.sheet.proofs.Laws.{count-by-relation}
 use Rattle.record.specs.Answers.{judgement, countIn}
 use Rattle.brackets.specs.SameMeaning.{ShortestRow}
 use Rattle.brackets.specs.Shortest.{shortestBy, shortestNumber}
-use Rattle.brackets.proofs.InForceShortest.{shortest-by-rules, shortest-of-tree}
+use Rattle.brackets.proofs.ShortestRows.{shortest-of-tree}
+use Rattle.brackets.proofs.InForceShortest.{shortest-by-rules}
 use Rattle.places.specs.Store.{placeCount, slotBytes, held, imageOf}
 use Rattle.monitor.specs.Call.{Question, Call, lentBefore, load, loadList, putRow, putRecord, drop, ask, fetchRecord, fetchRow, image, build, repair, judge, yield, operand, shortestRow}
 use Rattle.monitor.specs.Panel.{Panel, placeCheck}
@@ -126,7 +127,7 @@ module _ (p : Panel) (b : Book) (s : Stands p b) where
       let e = front-accepted (recordChecks (b .operators) bytes) (shortCheck (length (shortestBy (b .rules) (treeOf (class (b .operators)) bytes))) (length out) ∷ []) (record-numbered (b .operators) bytes) z in
       let (t, r, q) = recorded bytes e in
       let same = shortest-by-rules (p .sheet) (b .operators) (b .rules) (s .in-force) bytes ∙ ap (shortestBy (b .rules)) q in
-      (t, r, subst (ShortestRow (b .operators) (b .rules) (tree.yield t)) (sym same) (shortest-of-tree (p .sheet) (b .operators) (b .rules) (s .in-force) t (r .0)))
+      (t, r, subst (ShortestRow (b .operators) (b .rules) (tree.yield t)) (sym same) (shortest-of-tree (b .operators) (b .rules) (s .in-force .accepts) t (r .0)))
 
   judge-count : (bytes : List ℕ) → Count b (judge bytes) (told p (judge bytes) .count)
   unfolding judgement

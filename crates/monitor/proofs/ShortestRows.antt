@@ -11,7 +11,8 @@ use Rattle.expression.proofs.Classes.{brackets}
 use Rattle.expression.proofs.RecordsAndTrees.{treeOf-record}
 use Rattle.expression.proofs.Numbers.{first-roomy, record-numbered}
 use Rattle.brackets.specs.Shortest.{shortestOf, shortestBy, shortestNumber}
-use Rattle.brackets.proofs.InForceShortest.{shortest-by-rules, shortest-of-tree, shortest-fits}
+use Rattle.brackets.proofs.ShortestRows.{shortest-of-tree, shortest-fits}
+use Rattle.brackets.proofs.InForceShortest.{shortest-by-rules}
 use Rattle.monitor.specs.Call.{Call, ask, shortestRow}
 use Rattle.monitor.specs.Run.{panelAfter, AnsweredBy}
 use Rattle.monitor.specs.Promises.{Within, ShortestRows}
@@ -39,8 +40,8 @@ shortest-rows cs =
     record {
       shortened = λ t over within. (
         shortestBy (rules cs) (some t),
-        shortest-of-tree (panelAfter cs .sheet) (ops cs) (rules cs) (sheet-in-force cs) t over,
-        shortest-fits (panelAfter cs .sheet) (ops cs) (rules cs) (sheet-in-force cs) t over,
+        shortest-of-tree (ops cs) (rules cs) (sheet-in-force cs .accepts) t over,
+        shortest-fits (ops cs) (rules cs) (sheet-in-force cs .accepts) t over,
         answered cs t over within,
       );
     }
