@@ -94,7 +94,7 @@ module _ (ops : Operators) where
     pub bytes-fit : length bytes ≤ mostRecordBytes
     pub tokens-fit : length (yield t) ≤ mostTokens
 
-  is-some : (o : Option Tree) → isNone o ≡ false → (t : Tree) × (o ≡ some t)
+  pub is-some : (o : Option Tree) → isNone o ≡ false → (t : Tree) × (o ≡ some t)
   is-some none e = absurd (true≢false e)
   is-some (some t) e = (t, refl)
 

@@ -1,9 +1,8 @@
 -- The tree of an accepted record. Assumes nothing.
 use Prim.Native.Nat.{ℕ, _≤_}
 use native.Mathlib.Omega.{arith}
-use mathlib.Core.Path.{_≡_, refl, ap, sym, _∙_}
-use mathlib.Core.Bool.{false}
-use mathlib.Core.Option.{Option, none, some}
+use mathlib.Core.Path.{_≡_, ap, sym, _∙_}
+use mathlib.Core.Option.{some}
 use mathlib.Core.List.{List}
 use lib.ListN.{length}
 use borrow.Author.Tests.{ltb-false}
@@ -12,10 +11,10 @@ use Rattle.expression.specs.Refusal.{Passed, accepted}
 use Rattle.expression.specs.Token.{Operators, class}
 use Rattle.expression.specs.Tree.{Tree, yield}
 use Rattle.expression.specs.Decode.{treeOf}
-use Rattle.expression.specs.Checks.{isNone, rowTokens, recordChecks, recordNumber}
+use Rattle.expression.specs.Checks.{rowTokens, recordChecks, recordNumber}
 use Rattle.expression.proofs.Classes.{brackets}
 use Rattle.expression.proofs.Lengths.{row-length-of-record}
-use Rattle.expression.proofs.Numbers.{passed-first}
+use Rattle.expression.proofs.Numbers.{passed-first, record-numbered, is-some}
 use Rattle.record.specs.TreeAt.{TreeAt}
 use Rattle.record.specs.Checks.{rowLength}
 use Rattle.record.proofs.Trees.{whole}
@@ -32,16 +31,12 @@ pub record Accepted (ops : Operators) (bytes : List ℕ) (t : Tree) : Type 0 whe
 module _ (ops : Operators) (bytes : List ℕ) where
   all-passed : recordNumber ops bytes ≡ accepted → Passed (recordChecks ops bytes)
   unfolding recordNumber
-  all-passed e = passed-first (recordChecks ops bytes) (λ e. omega arith, (λ e. omega arith, (λ e. omega arith, (λ e. omega arith, tt)))) e
-
-  is-tree : (o : Option Tree) → isNone o ≡ false → (t : Tree) × (o ≡ some t)
-  is-tree none e = let z : _≡_ {A = ℕ} 0 1 = cc in absurd (omega arith)
-  is-tree (some t) e = (t, refl)
+  all-passed e = passed-first (recordChecks ops bytes) (record-numbered ops bytes) e
 
   pub accepted-tree : recordNumber ops bytes ≡ accepted → (t : Tree) × Accepted ops bytes t
   accepted-tree e =
       let p = all-passed e in
-      let (t, q) = is-tree (treeOf (class ops) bytes) (p .1 .1 .0) in (
+      let (t, q) = is-some ops (treeOf (class ops) bytes) (p .1 .1 .0) in (
         t,
         record {
           passed = p;
