@@ -1,39 +1,38 @@
 -- A tree with just the brackets that it needs: once bare the same tree, over the same operators, without a conflict. Assumes nothing.
 use Prim.Native.Nat.{ℕ, _+_}
+use native.Mathlib.Nat.{zero-add}
 use native.Mathlib.Omega.{arith}
-use mathlib.Core.Path.{_≡_, refl, ap, ap₂, _∙_}
-use mathlib.Core.Bool.{Bool, true, false, _||_, true≢false}
+use mathlib.Core.Path.{_≡_, refl, ap, ap₂, sym, _∙_}
+use mathlib.Core.Bool.{Bool, true, false, _||_}
 use mathlib.Core.List.{List, [], _∷_}
+use lib.Dec.{ltb}
+use borrow.Author.Tests.{ltb-false, lt-ltb}
 use Rattle.expression.specs.Lists.{oneIf, anyHolds, howMany, All}
-use Rattle.expression.specs.Token.{Class}
+use Rattle.expression.specs.Token.{Class, Infix}
 use Rattle.expression.specs.Tree.{Tree, reading, bracket, binary, Over}
 use Rattle.disambiguation.specs.Edges.{seenFromRight, seenFromLeft}
 use Rattle.disambiguation.specs.Conflicts.{conflicts}
-use Rattle.disambiguation.proofs.Agreement.{Agree, seen-right-infix, seen-left-infix}
+use Rattle.disambiguation.proofs.Agreement.{Agree, seen-right-infix, seen-left-infix, count-agree}
 use Rattle.brackets.specs.SameMeaning.{bare}
 use Rattle.brackets.specs.Enclosed.{around, leftOf, rightOf, enclosed}
 
--- a test holds of some element exactly if it counts one
-pub none-counted : (p : ℕ → Bool) (xs : List ℕ) → anyHolds p xs ≡ false → howMany p xs ≡ 0
-none-counted p [] e = refl
-none-counted p (x ∷ xs) e = go (p x) (none-counted p xs) e
+-- A test holds of some element exactly where it counts one or more: what is known of counts is known of it.
+any-counted : (p : ℕ → Bool) (xs : List ℕ) → anyHolds p xs ≡ ltb 0 (howMany p xs)
+any-counted p [] = refl
+any-counted p (x ∷ xs) = go (p x) (any-counted p xs)
   where
-    go : (b : Bool) → (anyHolds p xs ≡ false → howMany p xs ≡ 0) → (b || anyHolds p xs) ≡ false → oneIf b + howMany p xs ≡ 0
-    go true f e = absurd (true≢false e)
-    go false f e = omega (arith, f e)
+    go : (b : Bool) → anyHolds p xs ≡ ltb 0 (howMany p xs) → (b || anyHolds p xs) ≡ ltb 0 (oneIf b + howMany p xs)
+    go true e = sym (lt-ltb 0 (1 + howMany p xs) (omega arith))
+    go false e = e ∙ ap (ltb 0) (sym (zero-add (howMany p xs)))
+
+pub none-counted : (p : ℕ → Bool) (xs : List ℕ) → anyHolds p xs ≡ false → howMany p xs ≡ 0
+none-counted p xs e = omega (arith, ltb-false 0 (howMany p xs) (sym (any-counted p xs) ∙ e))
 
 pub counted-none : (p : ℕ → Bool) (xs : List ℕ) → howMany p xs ≡ 0 → anyHolds p xs ≡ false
-counted-none p [] e = refl
-counted-none p (x ∷ xs) e = go (p x) (counted-none p xs) e
-  where
-    go : (b : Bool) → (howMany p xs ≡ 0 → anyHolds p xs ≡ false) → oneIf b + howMany p xs ≡ 0 → (b || anyHolds p xs) ≡ false
-    go true f e = absurd (omega arith)
-    go false f e = f (omega arith)
+counted-none p xs e = any-counted p xs ∙ ap (ltb 0) e
 
--- tests that agree on the elements of a list
-pub any-agree : {P : ℕ → Type 0} (p q : ℕ → Bool) → ((x : ℕ) → P x → p x ≡ q x) → (xs : List ℕ) → All P xs → anyHolds p xs ≡ anyHolds q xs
-any-agree p q f [] h = refl
-any-agree p q f (x ∷ xs) h = ap₂ _||_ (f x (h .0)) (any-agree p q f xs (h .1))
+pub any-agree : (k : ℕ → Class) (p q : ℕ → Bool) → ((b : ℕ) → k b ≡ Infix → p b ≡ q b) → (xs : List ℕ) → All (λ o. k o ≡ Infix) xs → anyHolds p xs ≡ anyHolds q xs
+any-agree k p q f xs h = any-counted p xs ∙ ap (ltb 0) (count-agree k p q f xs h) ∙ sym (any-counted q xs)
 
 -- ---- a pair of brackets more or less
 bare-around : (needed : Bool) (t : Tree) → bare (around needed t) ≡ bare t
@@ -99,6 +98,6 @@ module _ (k : ℕ → Class) (L R S T : ℕ → ℕ → Bool) (left : Agree k L 
   enclosed-agree (bracket t) h = enclosed-agree t h
   enclosed-agree (binary o l r) h =
       ap₂ (λ a b. binary o (around a (enclosed L R l)) (around b (enclosed L R r)))
-      (any-agree (L o) (S o) (λ b. left o b (h .0)) (seenFromRight (enclosed L R l)) (seen-right-infix k (enclosed L R l) (over-enclosed L R k l (h .1))))
-      (any-agree (R o) (T o) (λ b. right o b (h .0)) (seenFromLeft (enclosed L R r)) (seen-left-infix k (enclosed L R r) (over-enclosed L R k r (h .2))))
+      (any-agree k (L o) (S o) (λ b. left o b (h .0)) (seenFromRight (enclosed L R l)) (seen-right-infix k (enclosed L R l) (over-enclosed L R k l (h .1))))
+      (any-agree k (R o) (T o) (λ b. right o b (h .0)) (seenFromLeft (enclosed L R r)) (seen-left-infix k (enclosed L R r) (over-enclosed L R k r (h .2))))
       ∙ ap₂ (λ l r. binary o (leftOf S T o l) (rightOf S T o r)) (enclosed-agree l (h .1)) (enclosed-agree r (h .2))

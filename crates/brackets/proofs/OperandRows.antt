@@ -6,7 +6,7 @@ use mathlib.Core.List.{List, [], _∷_, _++_}
 use lib.Dec.{ltb}
 use borrow.Author.Tests.{lt-ltb}
 use Rattle.expression.specs.Limits.{mostOperators}
-use Rattle.expression.specs.Token.{opening, closing}
+use Rattle.expression.specs.Token.{Infix, opening, closing}
 use Rattle.expression.specs.Tree.{Tree, reading, bracket, binary, yield}
 use Rattle.disambiguation.specs.Edges.{seenFromRight}
 use Rattle.disambiguation.proofs.Free.{all}
@@ -17,9 +17,6 @@ use Rattle.brackets.specs.Enclosed.{around}
 use Rattle.brackets.specs.Shortest.{enclosedIn}
 use Rattle.brackets.specs.Walk.{shows, shown, rowUnder}
 use Rattle.brackets.proofs.Enclosing.{any-agree}
-
-abbrev Any : ℕ → Type 0
-Any x = Unit {0}
 
 module _ (sheet : List ℕ) where
   -- an operator on top is what is seen
@@ -51,5 +48,5 @@ module _ (sheet : List ℕ) where
     infix-row e low =
         ap (λ b. yield (around b (enclosedIn sheet (binary o l r)))) (top-shown above right o l r ∙ e)
         ∙ ap (λ b. yield (around b (enclosedIn sheet l)) ++ o ∷ rowUnder sheet o true r)
-        (any-agree {P = Any} (excludedLeft sheet o) (shows sheet o false) (λ p _. sym (ap (λ b. b && excludedLeft sheet o p) (lt-ltb o mostOperators low))) (seenFromRight (enclosedIn sheet l))
-        (all {P = Any} (λ _. tt) (seenFromRight (enclosedIn sheet l))))
+        (any-agree (λ _. Infix) (excludedLeft sheet o) (shows sheet o false) (λ p _. sym (ap (λ b. b && excludedLeft sheet o p) (lt-ltb o mostOperators low))) (seenFromRight (enclosedIn sheet l))
+        (all (λ _. refl) (seenFromRight (enclosedIn sheet l))))

@@ -25,6 +25,7 @@ module _ (sheet : List ℕ) where
   shows above false o = ltb above mostOperators && excludedLeft sheet above o
   shows above true o = closesIn sheet above o
 
+  -- a tree in that place shows one
   abbrev pub shown : ℕ → Bool → Tree → Bool
   shown above right t = anyHolds (shows above right) (cond right (seenFromLeft t) (seenFromRight t))
 

@@ -26,7 +26,7 @@ module _ (k : ℕ → Class) where
   seen-left-infix (bracket t) h = tt
   seen-left-infix (binary o l r) h = (h .0, tt)
 
-  count-agree : (p q : ℕ → Bool) → ((b : ℕ) → k b ≡ Infix → p b ≡ q b) → (xs : List ℕ) → All (λ o. k o ≡ Infix) xs → howMany p xs ≡ howMany q xs
+  pub count-agree : (p q : ℕ → Bool) → ((b : ℕ) → k b ≡ Infix → p b ≡ q b) → (xs : List ℕ) → All (λ o. k o ≡ Infix) xs → howMany p xs ≡ howMany q xs
   count-agree p q f [] h = refl
   count-agree p q f (x ∷ xs) h = rw (f x (h .0), count-agree p q f xs (h .1))
 
