@@ -4,6 +4,7 @@ pub mod Trees
 pub mod Standing
 pub mod Reaching
 pub mod Checking
+pub mod ListedTrees
 pub mod Numbering
 pub mod Writing
 pub mod Accepted

@@ -1,28 +1,24 @@
 -- What each way through `record_number` gives. Assumes nothing.
-use Prim.Native.Nat.{ℕ, _*_, _≤_, _<_}
-use native.Mathlib.Omega.{arith}
+use Prim.Native.Nat.{ℕ, _≤_, _<_}
 use mathlib.Core.Path.{_≡_, refl, ap, sym, _∙_}
 use mathlib.Core.Bool.{Bool, true, false, cond}
 use mathlib.Core.Option.{Option, none, some}
-use mathlib.Core.List.{List, _++_}
+use mathlib.Core.List.{List}
 use lib.Dec.{ltb}
-use lib.ListN.{length, take}
+use lib.ListN.{length}
 use borrow.Author.Needs.{needs}
 use borrow.Author.Tests.{lt-ltb, le-ltb}
 use Rattle.expression.specs.Limits.{mostTokens, mostRecordBytes}
 use Rattle.expression.specs.Refusal.{accepted, oversize, stranger, noTree}
-use Rattle.expression.specs.Token.{Operators, class}
+use Rattle.expression.specs.Token.{Operators, operators, class}
 use Rattle.expression.specs.Tree.{Tree}
 use Rattle.expression.specs.Decode.{treeOf}
 use Rattle.expression.specs.Checks.{isNone, recordNumber}
 use Rattle.expression.proofs.Classes.{brackets}
 use Rattle.expression.proofs.Lengths.{row-length-of-record}
-use Rattle.record.specs.Held.{front, base}
 use Rattle.record.specs.Checks.{strangerInRecord, rowLength}
-use Rattle.record.specs.Reach.{Reaches}
-use Rattle.record.proofs.Holding.{front-copied}
-use Rattle.record.proofs.Trees.{whole}
-use Rattle.record.proofs.Standing.{read-back}
+use Rattle.record.specs.Listing.{oneTree, listedIn}
+use Rattle.record.proofs.ListedTrees.{listed-by-count, one-listed, read-listed}
 
 module _ (ops : Operators) (bytes : List ℕ) where
   pub too-long : mostRecordBytes < length bytes → oversize ≡ recordNumber ops bytes
@@ -57,17 +53,14 @@ module _ (ops : Operators) (bytes : List ℕ) where
       pub read-number : v ≤ mostTokens → accepted ≡ recordNumber ops bytes
       read-number l = ap (λ b. cond b oversize accepted) (sym (le-ltb mostTokens v l)) ∙ by-row
 
-    -- by the walk to the end of the tree
-    module _ (held rest : List ℕ) (w : ℕ) (copied : held ≡ take (length bytes) bytes ++ rest) (walked : Reaches ops (front (length bytes) held) 0 w) where
-      on-bytes : Reaches ops bytes 0 w
-      on-bytes = rw (front-copied bytes held rest copied) at walked
+    -- by the count of trees
+    module _ {n c : ℕ} (under : n ≡ ops .count) (counted : c ≡ listedIn (operators n) bytes) where
+      pub not-one : (c ≡ oneTree → ⊥) → noTree ≡ recordNumber ops bytes
+      not-one h = none-number (λ t e. h (listed-by-count ops bytes under counted ∙ read-listed ops bytes t e))
 
-      pub not-whole : (w ≡ length bytes * base → ⊥) → noTree ≡ recordNumber ops bytes
-      not-whole n = none-number (λ t e. n (on-bytes .reached t (length bytes) (whole ops bytes t e)))
-
-      module _ (is : w ≡ length bytes * base) where
+      module _ (is : c ≡ oneTree) where
         the-tree : (t : Tree) × (treeOf (class ops) bytes ≡ some t)
-        the-tree = let (t, x) = on-bytes .found (λ e. omega arith) in (t, read-back ops bytes t x (omega arith))
+        the-tree = one-listed ops bytes (sym (listed-by-count ops bytes under counted) ∙ is)
 
         pub row-too-long : {v : ℕ} → v ≡ rowLength bytes → mostTokens < v → oversize ≡ recordNumber ops bytes
         row-too-long r l = let (t, read) = the-tree in long-number t read r l
@@ -75,4 +68,4 @@ module _ (ops : Operators) (bytes : List ℕ) where
         pub in-order : {v : ℕ} → v ≡ rowLength bytes → v ≤ mostTokens → accepted ≡ recordNumber ops bytes
         in-order r l = let (t, read) = the-tree in read-number t read r l
 
-pub ruleset record-number-ways = (too-long, strange, not-whole, row-too-long, in-order, needs)
+pub ruleset record-number-ways = (too-long, strange, not-one, row-too-long, in-order, needs)

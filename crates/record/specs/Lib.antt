@@ -3,6 +3,7 @@ pub mod Held
 pub mod TreeAt
 pub mod Reach
 pub mod Checks
+pub mod Listing
 pub mod Rows
 pub mod Counts
 pub mod Answers

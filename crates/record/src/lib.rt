@@ -14,6 +14,7 @@ mod checks;
 mod conflicts;
 mod ends;
 pub mod held;
+mod listing;
 pub mod operands;
 mod rows;
 
@@ -58,9 +59,7 @@ pub fn record_number(sheet: &[u32; SHEET_WORDS], bytes: &[u8]) -> u8
     if checks::has_stranger(sheet, bytes) {
         return refusal::STRANGER;
     }
-    let mut held = [0u8; limits::MOST_RECORD_BYTES];
-    bytes::copy(bytes, &mut held);
-    if ends::end_at(sheet, &held, bytes.len(), 0) != bytes.len() * held::BASE {
+    if listing::trees_listed(sheet::operator_count(sheet), bytes) != listing::ONE_TREE {
         return refusal::NO_TREE;
     }
     if limits::MOST_TOKENS < checks::row_length(bytes) {
