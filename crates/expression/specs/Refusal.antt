@@ -1,4 +1,4 @@
--- The numbers of document 01's table of turned-down calls, and "the first that applies". Assumes nothing.
+-- The numbers of document 01's table of turned-down calls, those that document 02 adds to it, and "the first that applies". Assumes nothing.
 use Prim.Native.Nat.{ℕ}
 use mathlib.Core.Path.{_≡_}
 use mathlib.Core.Bool.{Bool, false, cond}
@@ -47,6 +47,13 @@ inUse = 11
 
 abbrev pub frame : ℕ
 frame = 12
+
+-- those of document 02: an operator without a meaning, a reading beyond the lent list
+abbrev pub noMeaning : ℕ
+noMeaning = 13
+
+abbrev pub noReading : ℕ
+noReading = 14
 
 -- One line of a call's list: whether it applies, and its number.
 abbrev pub Check : Type 0

@@ -24,3 +24,7 @@ pub const SHORT: u8 = 10;
 pub const IN_USE: u8 = 11;
 
 pub const FRAME: u8 = 12;
+
+pub const NO_MEANING: u8 = 13;
+
+pub const NO_READING: u8 = 14;
