@@ -15,7 +15,7 @@ use Rattle.expression.proofs.Classes.{class-operator, class-reading, by-class}
 use Rattle.monitor.specs.Panel.{isEmpty, usesBeyond}
 
 -- ---- lists
-any-append : (p : ℕ → Bool) (xs ys : List ℕ) → anyHolds p (xs ++ ys) ≡ (anyHolds p xs || anyHolds p ys)
+pub any-append : (p : ℕ → Bool) (xs ys : List ℕ) → anyHolds p (xs ++ ys) ≡ (anyHolds p xs || anyHolds p ys)
 any-append p [] ys = refl
 any-append p (x ∷ xs) ys = go (p x) (any-append p xs ys)
   where
@@ -23,7 +23,7 @@ any-append p (x ∷ xs) ys = go (p x) (any-append p xs ys)
     go true e = refl
     go false e = e
 
-or-middle : (a b c : Bool) → (a || (b || c)) ≡ (b || (a || c))
+pub or-middle : (a b c : Bool) → (a || (b || c)) ≡ (b || (a || c))
 or-middle true true c = refl
 or-middle true false c = refl
 or-middle false b c = refl
@@ -32,7 +32,7 @@ or-none : (b : Bool) → (b || false) ≡ b
 or-none true = refl
 or-none false = refl
 
-or-false : (a b : Bool) → (a || b) ≡ false → (a ≡ false) × (b ≡ false)
+pub or-false : (a b : Bool) → (a || b) ≡ false → (a ≡ false) × (b ≡ false)
 or-false true b e = absurd (true≢false e)
 or-false false b e = (refl, e)
 

@@ -1,0 +1,13 @@
+-- `evaluator::meanings::both` meets its contract. Assumes nothing.
+use Rattle.evaluator.proofs.Applying.{meaning-ways}
+use Rattle.evaluator.proofs.meanings.both.Statement.{statement}
+use Rattle.evaluator.proofs.meanings.both.Tie as tie
+
+pub both-spec : {M : Type 1} → statement M
+both-spec =
+    tie.close
+    (tie.spec
+    (λ c κs. search meaning-ways)
+    (λ c κs. search meaning-ways)
+    (λ c κs. search meaning-ways)
+    (λ c. search meaning-ways))

@@ -1,0 +1,13 @@
+-- `evaluator::meanings::either` meets its contract. Assumes nothing.
+use Rattle.evaluator.proofs.Applying.{meaning-ways}
+use Rattle.evaluator.proofs.meanings.either.Statement.{statement}
+use Rattle.evaluator.proofs.meanings.either.Tie as tie
+
+pub either-spec : {M : Type 1} → statement M
+either-spec =
+    tie.close
+    (tie.spec
+    (λ c κs. search meaning-ways)
+    (λ c κs. search meaning-ways)
+    (λ c κs. search meaning-ways)
+    (λ c. search meaning-ways))

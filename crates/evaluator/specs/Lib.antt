@@ -1,0 +1,6 @@
+pub mod Meanings
+pub mod Value
+pub mod Bytes
+pub mod Walk
+pub mod Evaluation
+pub mod Promises

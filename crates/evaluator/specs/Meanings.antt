@@ -1,0 +1,74 @@
+-- Document 02's meanings of operators, over the integers. Assumes nothing.
+use Prim.Native.Nat.{ℕ, zero, suc}
+use mathlib.Core.Bool.{Bool, true, false, _||_, _&&_, cond}
+use mathlib.Core.Option.{Option, none, some}
+use mathlib.Core.List.{List, [], _∷_}
+use lib.Dec.{eqb}
+use lib.IntN.{ℤ, pos, negsuc, _+ℤ_, _-ℤ_}
+use lib.Signed.{ltZ, leZ}
+
+pub data Meaning : Type 0 where
+  Or And Less AtMost Equal Sum Difference Smaller Larger : Meaning
+
+-- in the order of their numbers, 1 to 9
+abbrev pub inOrder : List Meaning
+inOrder = Or ∷ And ∷ Less ∷ AtMost ∷ Equal ∷ Sum ∷ Difference ∷ Smaller ∷ Larger ∷ []
+
+abbrev pub entry : {A : Type 0} → List A → ℕ → Option A
+entry [] i = none
+entry (x ∷ xs) zero = some x
+entry (x ∷ xs) (suc i) = entry xs i
+
+-- the meaning with that number; 0 and numbers over 9 have none
+abbrev pub meant : ℕ → Option Meaning
+meant zero = none
+meant (suc i) = entry inOrder i
+
+abbrev pub isMissing : Option Meaning → Bool
+isMissing none = true
+isMissing (some m) = false
+
+-- the ends of the 32-bit range, -2147483648 and 2147483647
+abbrev pub lowest : ℤ
+lowest = negsuc 2147483647
+
+abbrev pub highest : ℤ
+highest = pos 2147483647
+
+-- past either end a number stops at that end
+abbrev pub atEnds : ℤ → ℤ
+atEnds z = cond (ltZ z lowest) lowest (cond (ltZ highest z) highest z)
+
+-- zero is false, and all else is true
+abbrev pub isTrue : ℤ → Bool
+isTrue (pos zero) = false
+isTrue (pos (suc n)) = true
+isTrue (negsuc n) = true
+
+-- a truth answer is 0 or 1
+abbrev pub truth : Bool → ℤ
+truth false = pos 0
+truth true = pos 1
+
+abbrev pub same : ℤ → ℤ → Bool
+same (pos a) (pos b) = eqb a b
+same (pos a) (negsuc b) = false
+same (negsuc a) (pos b) = false
+same (negsuc a) (negsuc b) = eqb a b
+
+-- What a meaning makes of the values of the left and of the right operand.
+abbrev pub applied : Meaning → ℤ → ℤ → ℤ
+applied Or a b = truth (isTrue a || isTrue b)
+applied And a b = truth (isTrue a && isTrue b)
+applied Less a b = truth (ltZ a b)
+applied AtMost a b = truth (leZ a b)
+applied Equal a b = truth (same a b)
+applied Sum a b = atEnds (a +ℤ b)
+applied Difference a b = atEnds (a -ℤ b)
+applied Smaller a b = cond (ltZ b a) b a
+applied Larger a b = cond (ltZ a b) b a
+
+-- 0, where there is no meaning
+abbrev pub worked : Option Meaning → ℤ → ℤ → ℤ
+worked none a b = pos 0
+worked (some m) a b = applied m a b
