@@ -2,7 +2,7 @@
  * Panels that no run of calls makes: each "also gets one fixed answer, and the call still ends". Silent if all is well.
  */
 #include "check.h"
-#include "panel.h"
+#include "panel_evaluate.h"
 
 static uint8_t next_byte(uint32_t *state) {
     *state = *state * 1664525u + 1013904223u;
@@ -52,13 +52,45 @@ static bool check_rows_of(const struct panel *p) {
     return true;
 }
 
+/*
+ * An evaluation gives the number that a fetch of the row with room enough gives; where that is 0, it gives 0, 13 or 14.
+ * Counts the numbers.
+ */
+static void check_values_of(const struct panel *p, int *seen) {
+    static const uint8_t meanings[] = {1, 2, 3, 4, 5, 6, 7, 8, 9, 0, 10, 255, 9, 8, 7, 6, 5, 4, 3, 2, 1};
+    static const int32_t readings[100] = {INT32_MIN, INT32_MAX, -1, 0, 1};
+    const struct panel copy = *p;
+    for (unsigned place = 0; place < PANEL_PLACES; place++) {
+        uint8_t out[PANEL_MOST_TOKENS];
+        enum panel_number number = panel_fetch_row(p, place, out, sizeof out).number;
+        struct panel_value one = panel_evaluate(p, place, meanings, sizeof meanings, readings, 100);
+        struct panel_value other = panel_evaluate(&copy, place, meanings, sizeof meanings, readings, 100);
+        bool of_tree = one.number == PANEL_NO_MEANING || one.number == PANEL_NO_READING || one.number == PANEL_ACCEPTED;
+        CHECK(number == PANEL_ACCEPTED ? of_tree : one.number == number);
+        CHECK(one.number == PANEL_ACCEPTED || one.value == 0);
+        CHECK(one.number == other.number && one.value == other.value);
+        seen[one.number]++;
+    }
+}
+
+/* The same with at most three bytes at a place, so that some hold trees; at place 0, 128 brackets around a reading. */
+static struct panel shortened(struct panel p) {
+    for (size_t place = 1; place < PANEL_PLACES; place++)
+        p.places[place * PANEL_IMAGE_BYTES] %= 4;
+    p.places[0] = 129;
+    memset(p.places + 1, 0x20, 128);
+    p.places[129] = 0x80;
+    return p;
+}
+
 /* A copy of such a panel gets the same answers. */
 int main(void) {
     static const uint8_t sheet_a[] = {1, 1, 0, 2, 1, 1, 2, 0, 0};
     static const uint8_t row[] = {0x20, 0x80, 0x00, 0x81, 0x21, 0x01, 0x82};
-    int taken = 0;
+    static const int met[] = {0, 1, 3, 7, 9, 13, 14};
+    int taken = 0, seen[PANEL_NO_READING + 1] = {0};
     for (uint32_t seed = 0; seed < 500; seed++) {
-        struct panel p, copy;
+        struct panel p, copy, short_places;
         uint8_t one[300] = {0}, other[300] = {0};
         scramble(&p, seed);
         memcpy(&copy, &p, sizeof p);
@@ -68,10 +100,15 @@ int main(void) {
             CHECK(panel_fetch_row(&p, place, one, 300).number == panel_fetch_row(&copy, place, other, 300).number);
             CHECK(memcmp(one, other, sizeof one) == 0);
         }
+        short_places = shortened(p);
+        check_values_of(&p, seen);
+        check_values_of(&short_places, seen);
         CHECK(panel_load(&p, 2, sheet_a, sizeof sheet_a) == panel_load(&copy, 2, sheet_a, sizeof sheet_a));
         CHECK(panel_put_row(&p, 3, row, sizeof row) == panel_put_row(&copy, 3, row, sizeof row));
         CHECK(memcmp(&p, &copy, sizeof p) == 0);
     }
     CHECK(taken > 0);
+    for (size_t i = 0; i < sizeof met / sizeof met[0]; i++)
+        CHECK(seen[met[i]] > 0);
     return failures != 0;
 }

@@ -1,9 +1,9 @@
 /*
- * Every call of panel.h once or more, against document 01's cases; lengths of 0 with NULL; numbers that no byte holds.
- * Silent if all is well.
+ * Every call of panel.h and panel_evaluate.h once or more, against document 01's cases; lengths of 0 with NULL; numbers
+ * that no byte holds. Silent if all is well.
  */
 #include "check.h"
-#include "panel.h"
+#include "panel_evaluate.h"
 
 static const uint8_t sheet_a[] = {1, 1, 0, 2, 1, 1, 2, 0, 0};
 static const uint8_t row[] = {0x20, 0x80, 0x00, 0x81, 0x21, 0x01, 0x82};
@@ -119,6 +119,31 @@ static void check_places(struct panel *p, uint8_t *out) {
     CHECK(untouched(panel_fetch_row(p, 0, out, 300), PANEL_EMPTY, out, 300));
 }
 
+static bool gave(struct panel_value evaluated, enum panel_number number, int32_t value) {
+    return evaluated.number == number && evaluated.value == value;
+}
+
+/* The row has the tree (80 00 81) 01 82, with 00 a sum and 01 at most. */
+static void check_values(struct panel *p) {
+    static const uint8_t meanings[] = {PANEL_SUM, PANEL_AT_MOST}, strange[] = {PANEL_SUM, PANEL_LARGER + 1};
+    static const int32_t high[] = {INT32_MAX, 1, INT32_MAX}, low[] = {-7, -8, INT32_MIN};
+    CHECK(gave(panel_evaluate(p, 3, meanings, 2, high, 3), PANEL_EMPTY, 0));
+    CHECK(panel_put_row(p, 3, row, sizeof row) == PANEL_ACCEPTED);
+    const struct panel before = *p;
+    CHECK(gave(panel_evaluate(p, 3, meanings, 2, high, 3), PANEL_ACCEPTED, 1));
+    CHECK(gave(panel_evaluate(p, 3, meanings, 2, low, 3), PANEL_ACCEPTED, 0));
+    CHECK(gave(panel_evaluate(p, 255, meanings, 2, high, 3), PANEL_PLACE, 0));
+    CHECK(gave(panel_evaluate(p, 3, meanings, 1, high, 3), PANEL_NO_MEANING, 0));
+    CHECK(gave(panel_evaluate(p, 3, strange, 2, high, 0), PANEL_NO_MEANING, 0));
+    CHECK(gave(panel_evaluate(p, 3, NULL, 0, NULL, 0), PANEL_NO_MEANING, 0));
+    CHECK(gave(panel_evaluate(p, 3, meanings, 2, high, 2), PANEL_NO_READING, 0));
+    CHECK(gave(panel_evaluate(p, 3, meanings, 2, NULL, 0), PANEL_NO_READING, 0));
+    CHECK(memcmp(p, &before, sizeof before) == 0);
+    CHECK(panel_put_row(p, 3, row + 1, 1) == PANEL_ACCEPTED);
+    CHECK(gave(panel_evaluate(p, 3, NULL, 0, low, 1), PANEL_ACCEPTED, -7));
+    CHECK(panel_drop(p, 3) == PANEL_ACCEPTED);
+}
+
 /* Places and counts of operators that no byte holds: cut to a byte they would be 0, 1, 2 or 3. */
 static void check_large_numbers(uint8_t *out) {
     static const unsigned places[] = {16, 255, 256, 256 + 3, 65536, 65536 + 3, 0u - 1};
@@ -136,6 +161,7 @@ static void check_large_numbers(uint8_t *out) {
         CHECK(untouched(panel_fetch_record(&p, places[i], out, 300), PANEL_PLACE, out, 300));
         CHECK(untouched(panel_fetch_row(&p, places[i], out, 300), PANEL_PLACE, out, 300));
         CHECK(untouched(panel_image(&p, places[i], out, 300), PANEL_PLACE, out, 300));
+        CHECK(gave(panel_evaluate(&p, places[i], NULL, 0, NULL, 0), PANEL_PLACE, 0));
     }
     for (size_t i = 0; i < sizeof counts / sizeof counts[0]; i++) {
         CHECK(panel_load(&p, counts[i], sheet_a, sizeof sheet_a) == PANEL_OVERSIZE);
@@ -159,9 +185,10 @@ int main(void) {
     check_trees(&p, out);
     check_operands(&p);
     check_places(&p, out);
+    check_values(&p);
     check_large_numbers(out);
     CHECK(panel_load(&p, 0, NULL, 0) == PANEL_ACCEPTED);
-    for (int number = PANEL_ACCEPTED; number <= PANEL_FRAME; number++)
+    for (int number = PANEL_ACCEPTED; number <= PANEL_NO_READING; number++)
         CHECK(strncmp(panel_word((enum panel_number)number), "unknown", 7) != 0);
     return failures != 0;
 }

@@ -21,14 +21,18 @@ enum panel_number {
     PANEL_NO_TREE = 7,
     /* places go from 0 to 15 */
     PANEL_PLACE = 8,
-    /* nothing is held at the place that is to be dropped or fetched */
+    /* nothing is held at the place that is to be dropped, fetched or evaluated */
     PANEL_EMPTY = 9,
     /* the answer does not fit into the lent output */
     PANEL_SHORT = 10,
     /* a tree that is held uses an operator which the new sheet lacks */
     PANEL_IN_USE = 11,
     /* the line is no frame: no digit pairs, a kind that does not exist, or a length that its kind does not have */
-    PANEL_FRAME = 12
+    PANEL_FRAME = 12,
+    /* an operator of the tree that is to be evaluated has no meaning from 1 to 9 */
+    PANEL_NO_MEANING = 13,
+    /* a reading of the tree that is to be evaluated lies beyond the lent list */
+    PANEL_NO_READING = 14
 };
 
 /* What a number says: document 01's word, then a sentence without a full stop. */
@@ -47,6 +51,8 @@ static inline const char *panel_word(enum panel_number number) {
     case PANEL_SHORT: return "short: the lent output is shorter than the answer";
     case PANEL_IN_USE: return "in use: a held tree uses an operator that the new sheet does not have";
     case PANEL_FRAME: return "frame: the line is not digit pairs, or not of a known kind and its length";
+    case PANEL_NO_MEANING: return "no meaning: an operator of the tree has no meaning from 1 to 9";
+    case PANEL_NO_READING: return "no reading: a reading of the tree lies beyond the lent list";
     }
     return "unknown: the panel gives no such number";
 }
