@@ -1,8 +1,8 @@
 //! The condition panel: one operator sheet and sixteen places, each empty or holding one tree.
 //!
-//! The calls are those of the proved libraries `libcapi.a` and `librule_list.a`, which `rt staticlib` makes; this crate gives them Rust's
-//! habits and adds nothing. Every call takes any bytes and ends. After a refusal the panel and a lent output are as they
-//! were; after success the output past the answer's length is as it was.
+//! The calls are those of the proved libraries `libcapi.a`, `librule_list.a` and `libevaluator.a`, which `rt staticlib`
+//! makes; this crate gives them Rust's habits and adds nothing. Every call takes any bytes and ends. After a refusal
+//! the panel and a lent output are as they were; after success the output past the answer's length is as it was.
 //!
 //! ```
 //! use tihvomen::{Panel, Refusal};

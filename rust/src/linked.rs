@@ -30,8 +30,14 @@ pub struct Part {
     pub to: usize,
 }
 
+#[repr(C)]
+pub struct Value {
+    pub number: u8,
+    pub value: i32,
+}
+
 mod exports {
-    use super::{Answer, Judgement, Part, Places, Sheet};
+    use super::{Answer, Judgement, Part, Places, Sheet, Value};
     use crate::rule::Rule;
     use crate::sizes::MOST_REPLY;
 
@@ -77,6 +83,15 @@ mod exports {
             length: usize,
             out: &mut [u8; MOST_REPLY],
         ) -> usize;
+        pub fn tihvomen_evaluate(
+            sheet: &Sheet,
+            places: &Places,
+            place: u32,
+            meanings: *const u8,
+            meaning_count: usize,
+            readings: *const i32,
+            reading_count: usize,
+        ) -> Value;
     }
 }
 
@@ -181,4 +196,20 @@ pub fn reply(sheet: &mut Sheet, places: &mut Places, line: &[u8], out: &mut [u8;
     // SAFETY: `line` is read within its length; `sheet`, `places` and `out` are ours alone meanwhile, and `out` has room for
     // every reply.
     unsafe { exports::tihvomen_reply(sheet, places, line.as_ptr(), line.len(), out) }
+}
+
+#[inline]
+pub fn evaluate(sheet: &Sheet, places: &Places, place: u8, meanings: &[u8], readings: &[i32]) -> Value {
+    // SAFETY: `meanings` and `readings` are read within their lengths.
+    unsafe {
+        exports::tihvomen_evaluate(
+            sheet,
+            places,
+            place.into(),
+            meanings.as_ptr(),
+            meanings.len(),
+            readings.as_ptr(),
+            readings.len(),
+        )
+    }
 }

@@ -169,6 +169,27 @@ impl Panel {
         Ok(&record[part.from..part.to])
     }
 
+    /// The value of the tree that the place holds. The meaning of operator o is `meanings[o]`: 1 or, 2 and, 3 less,
+    /// 4 at most, 5 equal, 6 sum, 7 difference, 8 the smaller, 9 the larger. The value of reading 80 is `readings[0]`.
+    /// 0 is false, all else true; truth answers 0 or 1. A sum or difference past an end of the range stops at that end,
+    /// at each node. A bracket has the value of the tree inside it. Refusals: 8, 9, 13, 14.
+    ///
+    /// ```
+    /// let mut panel = tihvomen::Panel::new();
+    /// // Two operators: 01 over 00, each left with itself. Here 00 is "or" and 01 is "less".
+    /// panel.load(2, &[1, 1, 0, 2, 1, 1, 2, 0, 0])?;
+    /// // The limit is less than the time in holdover, or the antenna is lost.
+    /// panel.put_row(3, &[0x80, 0x01, 0x81, 0x00, 0x82])?;
+    /// assert_eq!(panel.evaluate(3, &[1, 3], &[14_400, 3_000, 0])?, 0);
+    /// assert_eq!(panel.evaluate(3, &[1, 3], &[1_200, 3_000, 0])?, 1);
+    /// # Ok::<(), tihvomen::Refusal>(())
+    /// ```
+    #[inline]
+    pub fn evaluate(&self, place: u8, meanings: &[u8], readings: &[i32]) -> Result<i32, Refusal> {
+        let evaluated = linked::evaluate(&self.sheet, &self.places, place, meanings, readings);
+        Refusal::check(evaluated.number).map(|()| evaluated.value)
+    }
+
     /// Runs one line of hexadecimal, without its line end, as the program `panel` does. Answers the reply: the number and on
     /// success the answer, in lower-case digits, without a line end.
     pub fn reply(&mut self, line: &[u8]) -> String {

@@ -24,7 +24,7 @@ pub enum Refusal {
     NoTree = 7,
     /// Places go from 0 to 15.
     Place = 8,
-    /// Nothing is held at the place that is to be dropped or fetched.
+    /// Nothing is held at the place that is to be dropped, fetched or evaluated.
     Empty = 9,
     /// The answer does not fit into the lent output.
     Short = 10,
@@ -32,11 +32,15 @@ pub enum Refusal {
     InUse = 11,
     /// The line is no frame: no digit pairs, a kind that does not exist, or a length that its kind does not have.
     Frame = 12,
+    /// An operator of the tree that is to be evaluated has no meaning from 1 to 9.
+    NoMeaning = 13,
+    /// A reading of the tree that is to be evaluated lies beyond the lent list.
+    NoReading = 14,
 }
 
 impl Refusal {
     /// All refusals, in the order of their numbers.
-    pub const ALL: [Refusal; 12] = [
+    pub const ALL: [Refusal; 14] = [
         Refusal::Oversize,
         Refusal::Torn,
         Refusal::Stranger,
@@ -49,6 +53,8 @@ impl Refusal {
         Refusal::Short,
         Refusal::InUse,
         Refusal::Frame,
+        Refusal::NoMeaning,
+        Refusal::NoReading,
     ];
 
     /// The number in document 01.
@@ -66,7 +72,7 @@ impl Refusal {
     pub(crate) fn check(number: u8) -> Result<(), Refusal> {
         match number {
             0 => Ok(()),
-            _ => Err(Refusal::of_number(number).expect("the library gives numbers 0 to 12")),
+            _ => Err(Refusal::of_number(number).expect("the library gives numbers 0 to 14")),
         }
     }
 }
@@ -88,6 +94,8 @@ impl fmt::Display for Refusal {
             Refusal::Short => "short: the lent output is shorter than the answer",
             Refusal::InUse => "in use: a held tree uses an operator that the new sheet does not have",
             Refusal::Frame => "frame: the line is not digit pairs, or not of a known kind and its length",
+            Refusal::NoMeaning => "no meaning: an operator of the tree has no meaning from 1 to 9",
+            Refusal::NoReading => "no reading: a reading of the tree lies beyond the lent list",
         })
     }
 }
@@ -102,7 +110,7 @@ mod tests {
     fn numbers_go_there_and_back() {
         for number in 0..=255 {
             let refusal = Refusal::of_number(number);
-            assert_eq!(refusal.is_some(), (1..=12).contains(&number));
+            assert_eq!(refusal.is_some(), (1..=14).contains(&number));
             assert_eq!(refusal.map_or(number, Refusal::number), number);
         }
     }

@@ -14,15 +14,27 @@ fn number(text: &str) -> u8 {
     text.parse().unwrap()
 }
 
-/// Makes the call; its answer is empty where it has none.
-fn make(panel: &mut Panel, call: &[&str]) -> Result<Vec<u8>, Refusal> {
-    let silent = |result: Result<(), Refusal>| result.map(|()| Vec::new());
+/// Values in decimal, with commas; `-` is none.
+fn values(text: &str) -> Vec<i32> {
+    if text == "-" {
+        return Vec::new();
+    }
+    text.split(',').map(|value| value.parse().unwrap()).collect()
+}
+
+/// Makes the call; its answer as a line has it, empty where it has none.
+fn make(panel: &mut Panel, call: &[&str]) -> Result<String, Refusal> {
+    let silent = |result: Result<(), Refusal>| result.map(|()| String::new());
+    let digits = |bytes: Vec<u8>| bytes.iter().map(|byte| format!("{byte:02x}")).collect();
     match call {
         ["load", n, rules] => silent(panel.load(number(n), &bytes(rules))),
         ["put", place, row] => silent(panel.put_row(number(place), &bytes(row))),
         ["record", place, record] => silent(panel.put_record(number(place), &bytes(record))),
         ["drop", place] => silent(panel.drop_place(number(place))),
-        ["shortest", record] => panel.shortest_row(&bytes(record)),
+        ["shortest", record] => panel.shortest_row(&bytes(record)).map(digits),
+        ["evaluate", place, meanings, readings] => {
+            panel.evaluate(number(place), &bytes(meanings), &values(readings)).map(|value| value.to_string())
+        }
         _ => panic!("no such call: {call:?}"),
     }
 }
@@ -34,7 +46,7 @@ fn run(text: &str) {
         let call: Vec<&str> = call.split(' ').collect();
         let mut expected = expected.split(' ');
         let refusal = u8::from_str_radix(expected.next().unwrap(), 16).unwrap();
-        let answer = expected.next().map_or(Vec::new(), bytes);
+        let answer = expected.next().unwrap_or("").to_string();
         let got = make(&mut panel, &call).map_err(Refusal::number);
         let wanted = if refusal == 0 { Ok(answer) } else { Err(refusal) };
         assert_eq!(got, wanted, "line {}: {line}", at + 1);
@@ -44,4 +56,9 @@ fn run(text: &str) {
 #[test]
 fn shortest_rows() {
     run(include_str!("../../tests/calls/w1.calls"));
+}
+
+#[test]
+fn values_of_conditions() {
+    run(include_str!("../../tests/calls/w2.calls"));
 }
