@@ -1,4 +1,5 @@
 //! Document 01's book: it is fed the calls alone and finds every number and answer itself.
+use crate::evaluate::evaluate;
 use crate::expression::Expression;
 use crate::sheet::Sheet;
 use crate::tree::{is_operator, is_reading, Side, Tree, CLOSING, OPENING};
@@ -19,9 +20,10 @@ pub enum Call {
     Judge { record: Vec<u8> },
     Operand { record: Vec<u8>, side: Side },
     ShortestRow { record: Vec<u8>, room: usize },
+    Evaluate { place: u8, meanings: Vec<u8>, readings: Vec<i32> },
 }
 
-/// A call's number, and what it answers: output bytes, the count as one byte, or the operand's part.
+/// A call's number, and what it answers: output bytes, the count as one byte, the value as four, or the operand's part.
 #[derive(Clone, Debug, PartialEq)]
 pub struct Reply {
     pub number: u8,
@@ -64,6 +66,10 @@ impl Book {
                 self.record(record).and_then(|tree| fits(self.sheet.shortest_row(&tree.row()), *room))
             }
             Call::Judge { record } => self.record(record).map(|tree| vec![self.sheet.conflicts(&tree) as u8]),
+            Call::Evaluate { place, meanings, readings } => self.held(*place).and_then(|row| {
+                let value = evaluate(&self.sheet.tree_of(row), meanings, readings)?;
+                Ok(value.to_be_bytes().to_vec())
+            }),
             Call::Operand { record, side } => self.record(record).map(|tree| {
                 let part = tree.operand(*side).map_or(Vec::new(), Tree::record);
                 offset = if *side == Side::Left { 1 } else { record.len() - part.len() };

@@ -7,7 +7,7 @@ use tihvomen::{Panel, Refusal};
 
 /// A call that makes sense to try on the panel that the book stands for. `last` is an earlier call's answer.
 pub fn any_call(random: &mut Random, book: &Book, last: &[u8]) -> Call {
-    let mut call = match random.below(26) {
+    let mut call = match random.below(30) {
         0 | 1 => {
             let (n, rules) = inputs::sheet(random, book.used());
             Call::Load { n, rules }
@@ -23,6 +23,10 @@ pub fn any_call(random: &mut Random, book: &Book, last: &[u8]) -> Call {
         19 | 20 => Call::Yield { record: record(random, book, last), room: usize::MAX },
         21 | 22 => Call::Judge { record: record(random, book, last) },
         23 | 24 => Call::ShortestRow { record: record(random, book, last), room: usize::MAX },
+        25..=28 => {
+            let (meanings, readings) = (inputs::meanings(random), inputs::readings(random));
+            Call::Evaluate { place: place(random, book), meanings, readings }
+        }
         _ => {
             let side = [Side::Left, Side::Right][random.below(2)];
             Call::Operand { record: record(random, book, last), side }
@@ -113,6 +117,10 @@ pub fn make(random: &mut Random, panel: &mut Panel, call: &Call) -> Reply {
         Call::Yield { record, room } => written(random, *room, |out| panel.yield_row_into(record, out)),
         Call::ShortestRow { record, room } => written(random, *room, |out| panel.shortest_row_into(record, out)),
         Call::Judge { record } => reply(panel.judge(record).map(|count| (vec![count], 0))),
+        Call::Evaluate { place, meanings, readings } => {
+            let value = panel.evaluate(*place, meanings, readings);
+            reply(value.map(|value| (value.to_be_bytes().to_vec(), 0)))
+        }
         Call::Operand { record, side } => {
             let side = if *side == Side::Left { tihvomen::Side::Left } else { tihvomen::Side::Right };
             let offset = |part: &[u8]| (part.as_ptr() as usize) - (record.as_ptr() as usize);

@@ -1,4 +1,4 @@
-//! Random sheets, rows and records: good ones, nearly good ones and damaged ones.
+//! Random sheets, rows, records, meanings and readings: good ones, nearly good ones and damaged ones.
 use crate::random::Random;
 use crate::tree::{Tree, CLOSING, OPENING};
 
@@ -142,4 +142,53 @@ fn damaged(random: &mut Random, mut bytes: Vec<u8>) -> Vec<u8> {
         }
     }
     bytes
+}
+
+/// A meaning from 1 to 9 for each of the 32 operators.
+pub fn all_meanings(random: &mut Random) -> Vec<u8> {
+    (0..32).map(|_| 1 + random.below(9) as u8).collect()
+}
+
+/// The same; now and then with one that is none, or a list that is too short, empty or too long.
+pub fn meanings(random: &mut Random) -> Vec<u8> {
+    let mut meanings = all_meanings(random);
+    let at = random.below(32);
+    match random.below(20) {
+        0 => meanings[at] = 0,
+        1 => meanings[at] = 10,
+        2 => meanings[at] = random.byte(),
+        3 => meanings.truncate(at),
+        4 => meanings.clear(),
+        5 => meanings.extend(random.bytes(at)),
+        _ => (),
+    }
+    meanings
+}
+
+/// A value for each of the 128 readings.
+pub fn all_readings(random: &mut Random) -> Vec<i32> {
+    (0..128).map(|_| value(random)).collect()
+}
+
+/// At or near an end of the range, a holdover limit, any at all, or small.
+fn value(random: &mut Random) -> i32 {
+    match random.below(8) {
+        0 | 1 => [i32::MIN, i32::MIN + 1, i32::MAX - 1, i32::MAX][random.below(4)],
+        2 => [1_200, 14_400][random.below(2)],
+        3 => i32::from_le_bytes([random.byte(), random.byte(), random.byte(), random.byte()]),
+        _ => random.below(9) as i32 - 4,
+    }
+}
+
+/// The same; now and then for fewer readings, for none, or more than there are.
+pub fn readings(random: &mut Random) -> Vec<i32> {
+    let mut readings = all_readings(random);
+    match random.below(8) {
+        0 => readings.truncate(random.below(128)),
+        1 => readings.truncate(127 - random.below(4)),
+        2 => readings.clear(),
+        3 => readings.push(value(random)),
+        _ => (),
+    }
+    readings
 }

@@ -25,7 +25,11 @@ fn frame(call: &Call) -> Option<Vec<u8>> {
         Call::Judge { record } => Some([&[7], &record[..]].concat()),
         Call::Repair { record, .. } => Some([&[8], &record[..]].concat()),
         Call::Image { place, .. } => named(9, *place, &[]),
-        Call::Build { .. } | Call::Yield { .. } | Call::Operand { .. } | Call::ShortestRow { .. } => None,
+        Call::Build { .. }
+        | Call::Yield { .. }
+        | Call::Operand { .. }
+        | Call::ShortestRow { .. }
+        | Call::Evaluate { .. } => None,
     }
 }
 

@@ -3,6 +3,7 @@
 //! The independent side is written from document 01 in the plainest way. It knows nothing of the library's algorithms.
 mod book;
 mod calls;
+mod evaluate;
 mod expression;
 mod forms;
 mod inputs;
@@ -13,7 +14,7 @@ mod sheet;
 mod theory;
 mod tree;
 
-use runs::{Tally, KINDS};
+use runs::{Tally, KINDS, NUMBERS};
 use std::io::Write;
 
 const RUNS: u64 = 3000;
@@ -26,21 +27,20 @@ fn runs_agree_with_the_book() {
         runs::run(seed, CALLS, &mut tally);
     }
     let mut lines = format!("\n{} calls in {RUNS} runs\n{:14}", RUNS as usize * CALLS, "number");
-    lines += &(0..12).map(|number| format!("{number:>7}")).collect::<String>();
+    lines += &(0..NUMBERS).map(|number| format!("{number:>7}")).collect::<String>();
     for (kind, (name, _)) in KINDS.iter().enumerate() {
         lines += &format!("\n{name:14}");
         lines += &tally[kind].iter().map(|count| format!("{count:>7}")).collect::<String>();
     }
     let total = |number: usize| tally.iter().map(|kind| kind[number]).sum::<usize>();
     lines += &format!("\n{:14}", "all");
-    lines += &(0..12).map(|number| format!("{:>7}", total(number))).collect::<String>();
+    lines += &(0..NUMBERS).map(|number| format!("{:>7}", total(number))).collect::<String>();
     // Written past the test's own capture, so that the counts are always seen.
     writeln!(std::io::stdout(), "{lines}").unwrap();
     for (kind, (name, numbers)) in KINDS.iter().enumerate() {
-        for number in 0..12 {
-            let possible = numbers.contains(&number);
-            let seen = tally[kind][usize::from(number)] > 0;
-            assert_eq!(seen, possible, "{name}: number {number} must occur exactly if it can");
+        for (number, &count) in tally[kind].iter().enumerate() {
+            let possible = numbers.iter().any(|&possible| usize::from(possible) == number);
+            assert_eq!(count > 0, possible, "{name}: number {number} must occur exactly if it can");
         }
     }
 }

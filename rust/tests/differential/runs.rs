@@ -5,7 +5,7 @@ use crate::random::Random;
 use tihvomen::Panel;
 
 /// The calls' names, in the order of `kind`, and the numbers that each can give.
-pub const KINDS: [(&str, &[u8]); 13] = [
+pub const KINDS: [(&str, &[u8]); 14] = [
     ("load", &[0, 1, 2, 3, 4, 5, 11]),
     ("put row", &[0, 1, 3, 6, 8]),
     ("put record", &[0, 1, 3, 7, 8]),
@@ -19,10 +19,14 @@ pub const KINDS: [(&str, &[u8]); 13] = [
     ("judge", &[0, 1, 3, 7]),
     ("operand", &[0, 1, 3, 7]),
     ("shortest row", &[0, 1, 3, 7, 10]),
+    ("evaluate", &[0, 8, 9, 13, 14]),
 ];
 
+/// There are numbers from 0 up to this.
+pub const NUMBERS: usize = 15;
+
 /// How often each kind of call gave each number.
-pub type Tally = [[usize; 12]; KINDS.len()];
+pub type Tally = [[usize; NUMBERS]; KINDS.len()];
 
 fn kind(call: &Call) -> usize {
     match call {
@@ -39,6 +43,7 @@ fn kind(call: &Call) -> usize {
         Call::Judge { .. } => 10,
         Call::Operand { .. } => 11,
         Call::ShortestRow { .. } => 12,
+        Call::Evaluate { .. } => 13,
     }
 }
 
