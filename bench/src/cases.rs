@@ -45,6 +45,16 @@ fn trees(tokens: usize, shape: Shape) -> Vec<Tree> {
     (0..INPUTS).map(|_| inputs::tree(&mut random, 32, tokens, lean, brackets)).collect()
 }
 
+/// Meanings of all 32 operators; those of a group differ.
+pub fn meanings() -> Vec<u8> {
+    (0..32).map(|operator| 1 + operator % 9).collect()
+}
+
+/// Values of all 128 readings.
+pub fn readings() -> Vec<i32> {
+    inputs::all_readings(&mut Random::new(12))
+}
+
 /// The records of trees of that shape.
 pub fn records(tokens: usize, shape: Shape) -> Vec<Vec<u8>> {
     trees(tokens, shape).iter().map(Tree::record).collect()

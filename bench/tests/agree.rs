@@ -1,6 +1,6 @@
 //! The fast panel gives the proved one's answers: numbers and whole outputs, call by call over many runs.
 use tihvomen_bench::fast;
-use tihvomen_bench::inputs::{any_tree, good_rules, perhaps_damaged, sheet};
+use tihvomen_bench::inputs::{any_tree, good_rules, meanings, perhaps_damaged, readings, sheet};
 use tihvomen_bench::line::Lines;
 use tihvomen_bench::random::Random;
 
@@ -31,7 +31,7 @@ fn call(random: &mut Random, proved: &mut tihvomen::Panel, fast: &mut fast::Pane
     let n = proved.operators();
     let place = random.below(18) as u8;
     let number = |refusal: tihvomen::Refusal| refusal.number();
-    match random.below(15) {
+    match random.below(17) {
         0 | 1 => {
             let (n, rules) = if random.once_in(2) { sheet(random, n) } else { (n, good_rules(random, n)) };
             assert_eq!(proved.load(n, &rules).map_err(number), fast.load(n, &rules));
@@ -69,6 +69,11 @@ fn call(random: &mut Random, proved: &mut tihvomen::Panel, fast: &mut fast::Pane
         13 => {
             let record = record(random, n);
             assert_eq!(proved.judge(&record).map_err(number), fast.judge(&record));
+        }
+        14 | 15 => {
+            let (meanings, readings) = (meanings(random), readings(random));
+            let value = proved.evaluate(place, &meanings, &readings).map_err(number);
+            assert_eq!(value, fast.evaluate(place, &meanings, &readings));
         }
         _ => {
             let record = record(random, n);

@@ -1,7 +1,7 @@
 //! Prints a table of nanoseconds a call: the proved panel, the fast one, and the ratio.
 use std::hint::black_box;
 use tihvomen::{Refusal, Side};
-use tihvomen_bench::cases::{records, rows, rules, Shape, SHAPES, TOKENS};
+use tihvomen_bench::cases::{meanings, readings, records, rows, rules, Shape, SHAPES, TOKENS};
 use tihvomen_bench::fast::{self, Answer};
 use tihvomen_bench::timing::by_turns;
 
@@ -65,7 +65,7 @@ fn trees(both: &Both, size: &str, tokens: usize, shape: Shape) {
     line(&format!("operand, {size}"), &records, operand, |record| fast.operand(record, true).map(<[u8]>::len));
 }
 
-/// Put and the two fetches; the places then hold sixteen rows.
+/// Put, the two fetches, the image and the evaluation; the places then hold sixteen rows.
 fn places(both: &mut Both, size: &str, tokens: usize, shape: Shape) {
     let Both { proved, fast } = both;
     let rows = rows(tokens, shape);
@@ -80,6 +80,9 @@ fn places(both: &mut Both, size: &str, tokens: usize, shape: Shape) {
     written(&format!("fetch row, {size}"), &places, fetch_row, |place, out| fast.fetch_row(place[0], out));
     let image = |place: &[u8], out: &mut [u8]| proved.image_into(place[0], out);
     written(&format!("image, {size}"), &places, image, |place, out| fast.image(place[0], out));
+    let (meanings, readings) = (meanings(), readings());
+    let evaluate = |place: &[u8]| proved.evaluate(place[0], &meanings, &readings);
+    line(&format!("evaluate, {size}"), &places, evaluate, |place| fast.evaluate(place[0], &meanings, &readings));
 }
 
 fn main() {

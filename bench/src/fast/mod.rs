@@ -1,5 +1,6 @@
 //! The panel for speed: bit rows, a stack of waiting operators, no recursion, no allocation. A call answers a length or a number.
 
+mod evaluate;
 mod record;
 mod row;
 mod sheet;
@@ -168,5 +169,10 @@ impl Panel {
     pub fn operand<'a>(&self, bytes: &'a [u8], right: bool) -> Result<&'a [u8], u8> {
         record::check(&self.sheet, bytes)?;
         Ok(record::operand(bytes, right))
+    }
+
+    #[inline(never)]
+    pub fn evaluate(&self, place: u8, meanings: &[u8], readings: &[i32]) -> Result<i32, u8> {
+        evaluate::evaluate(self.held(place)?, meanings, readings)
     }
 }
