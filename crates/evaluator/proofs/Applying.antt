@@ -9,7 +9,7 @@ use mathlib.Core.List.{List, [], _∷_}
 use lib.Dec.{eqb, ltb}
 use lib.IntN.{ℤ, pos, negsuc}
 use lib.Signed.{ltZ, leZ}
-use lib.ListN.{length}
+use lib.ListN.{length, getD}
 use borrow.Author.Needs.{needs}
 use borrow.Author.Tests.{lt-ltb, le-ltb, eq-eqb, ne-eqb}
 use mir.Syntax.{w32}
@@ -109,50 +109,35 @@ from-one (suc i) h = go (decLt 9 (suc i))
 
 pub ruleset missing-ways = (under-one, from-one, needs)
 
-abbrev numberOf : Meaning → ℕ
-numberOf Or = 1
-numberOf And = 2
-numberOf Less = 3
-numberOf AtMost = 4
-numberOf Equal = 5
-numberOf Sum = 6
-numberOf Difference = 7
-numberOf Smaller = 8
-numberOf Larger = 9
+pub over-the-last : (n : ℕ) (a b : ℤ) → 9 < n → pos 0 ≡ worked (meant n) a b
+over-the-last n a b h = sym (ap (λ m. worked m a b) (over-nine n h))
 
-pub by-number : (m : Meaning) {n : ℕ} {a b r : ℤ} → SFits w32 a → SFits w32 b → n ≡ numberOf m → r ≡ applied m (read a) (read b) → SFits w32 r
-    → read r ≡ worked (meant n) a b
-by-number m {n} {a} {b} fa fb e q f = toZ-ofZ f ∙ q ∙ ap₂ (applied m) (toZ-ofZ fa) (toZ-ofZ fb) ∙ go m ∙ ap (λ k. worked (meant k) a b) (sym e)
-  where
-    go : (m : Meaning) → applied m a b ≡ worked (meant (numberOf m)) a b
-    go Or = refl
-    go And = refl
-    go Less = refl
-    go AtMost = refl
-    go Equal = refl
-    go Sum = refl
-    go Difference = refl
-    go Smaller = refl
-    go Larger = refl
+module _ {a b : ℤ} (fa : SFits w32 a) (fb : SFits w32 b) where
+  -- a result as it is laid into the array, and read from it
+  made : (m : Meaning) {r : ℤ} → r ≡ applied m (read a) (read b) → SFits w32 r → read (read r) ≡ applied m a b
+  made m e f = ap read (toZ-ofZ f) ∙ toZ-ofZ f ∙ e ∙ ap₂ (applied m) (toZ-ofZ fa) (toZ-ofZ fb)
 
-not-last : (k n : ℕ) → (n ≡ suc k → ⊥) → n ≤ suc k → n ≤ k
-not-last k n h l = omega arith
+  module _ (r1 r2 r3 r4 r5 r6 r7 r8 r9 : ℤ)
+      (e1 : r1 ≡ applied Or (read a) (read b)) (f1 : SFits w32 r1)
+      (e2 : r2 ≡ applied And (read a) (read b)) (f2 : SFits w32 r2)
+      (e3 : r3 ≡ applied Less (read a) (read b)) (f3 : SFits w32 r3)
+      (e4 : r4 ≡ applied AtMost (read a) (read b)) (f4 : SFits w32 r4)
+      (e5 : r5 ≡ applied Equal (read a) (read b)) (f5 : SFits w32 r5)
+      (e6 : r6 ≡ applied Sum (read a) (read b)) (f6 : SFits w32 r6)
+      (e7 : r7 ≡ applied Difference (read a) (read b)) (f7 : SFits w32 r7)
+      (e8 : r8 ≡ applied Smaller (read a) (read b)) (f8 : SFits w32 r8)
+      (e9 : r9 ≡ applied Larger (read a) (read b)) (f9 : SFits w32 r9) where
+    pub picked : (n : ℕ) → read (getD (pos 0 ∷ read r1 ∷ read r2 ∷ read r3 ∷ read r4 ∷ read r5 ∷ read r6 ∷ read r7 ∷ read r8 ∷ read r9 ∷ []) n (pos 0)) ≡ worked (meant n) a b
+    picked zero = refl
+    picked (suc zero) = made Or e1 f1
+    picked (suc (suc zero)) = made And e2 f2
+    picked (suc (suc (suc zero))) = made Less e3 f3
+    picked (suc (suc (suc (suc zero)))) = made AtMost e4 f4
+    picked (suc (suc (suc (suc (suc zero))))) = made Equal e5 f5
+    picked (suc (suc (suc (suc (suc (suc zero)))))) = made Sum e6 f6
+    picked (suc (suc (suc (suc (suc (suc (suc zero))))))) = made Difference e7 f7
+    picked (suc (suc (suc (suc (suc (suc (suc (suc zero)))))))) = made Smaller e8 f8
+    picked (suc (suc (suc (suc (suc (suc (suc (suc (suc zero))))))))) = made Larger e9 f9
+    picked (suc (suc (suc (suc (suc (suc (suc (suc (suc (suc n)))))))))) = refl
 
-pub no-number : (n : ℕ) (a b : ℤ) → (n ≡ 1 → ⊥) → (n ≡ 2 → ⊥) → (n ≡ 3 → ⊥) → (n ≡ 4 → ⊥) → (n ≡ 5 → ⊥) → (n ≡ 6 → ⊥) → (n ≡ 7 → ⊥) → (n ≡ 8 → ⊥) → (n ≡ 9 → ⊥)
-    → pos 0 ≡ worked (meant n) a b
-no-number n a b h1 h2 h3 h4 h5 h6 h7 h8 h9 = go (decLt 9 n)
-  where
-    none-left : n ≤ 9 → n ≤ 0
-    none-left l =
-        not-last 0 n h1 (not-last 1 n h2 (not-last 2 n h3 (not-last 3 n h4 (not-last 4 n h5 (not-last 5 n h6 (not-last 6 n h7 (not-last 7 n h8 (not-last 8 n h9 l))))))))
-
-    nothing : (m : ℕ) → m ≤ 0 → pos 0 ≡ worked (meant m) a b
-    nothing zero l = refl
-    nothing (suc m) l = absurd (omega arith)
-
-    at-most-nine : (9 < n → ⊥) → n ≤ 9
-    at-most-nine l = omega arith
-
-    go : Dec (9 < n) → pos 0 ≡ worked (meant n) a b
-    go (yes l) = sym (ap (λ m. worked m a b) (over-nine n l))
-    go (no l) = nothing n (none-left (at-most-nine l))
+pub ruleset apply-ways = (over-the-last, picked, needs)

@@ -27,9 +27,12 @@ use Rattle.evaluator.specs.Walk.{Evaluable, Values}
 use Rattle.evaluator.proofs.Stopping.{read}
 use Rattle.evaluator.proofs.Lacking.{infix-low, reading-bounds}
 
--- the bytes from a place on
-abbrev pub left : List ℕ → ℕ → ℕ
-left bytes from = length bytes - from
+-- what falls: the bytes from a place on, twice, since a node may be entered as an operand first
+abbrev pub nodeDue : List ℕ → ℕ → ℕ
+nodeDue bytes from = 2 * (length bytes - from)
+
+abbrev pub operandDue : List ℕ → ℕ → ℕ
+operandDue bytes from = 2 * (length bytes - from) + 1
 
 -- ---- the tree at a place, by its first byte
 module _ (ops : Operators) (bytes : List ℕ) (from : ℕ) where
@@ -85,7 +88,10 @@ module _ {bytes lent : List ℕ} {readings : List ℤ} {from : ℕ} (p : Evaluab
   pub next-fits : Fits w64 (from + 1)
   next-fits = omega (arith, inside, p .short)
 
-  pub next-falls : {t : ℕ} → left bytes from ≡ t → left bytes (from + 1) < t
+  pub node-falls : {t : ℕ} → operandDue bytes from ≡ t → nodeDue bytes from < t
+  node-falls e = omega arith
+
+  pub next-falls : {t : ℕ} → nodeDue bytes from ≡ t → operandDue bytes (from + 1) < t
   next-falls e = omega (arith, inside)
 
   pub byte-fits : Fits w64 (getD bytes from 0)
@@ -112,6 +118,10 @@ module _ {bytes lent : List ℕ} {readings : List ℤ} {from : ℕ} (p : Evaluab
               let (u, q) = is-leaf ops bytes from h t x in
               (sym q, e ∙ ap (value lent readings) (sym u));
         }
+
+  -- a node, entered as an operand
+  pub node-value : {to : ℕ} {r : ℤ} → SFits w32 r → Values bytes lent readings from to r → Values bytes lent readings from to (read r)
+  node-value f v = record { valued = λ ops t end x. let (a, b) = v .valued ops t end x in (a, toZ-ofZ f ∙ b) }
 
   -- a bracket
   module _ (h : getD bytes from 0 ≡ opening) where
@@ -157,7 +167,7 @@ module _ {bytes lent : List ℕ} {readings : List ℤ} {from : ℕ} (p : Evaluab
         go b (no l) = absurd (true≢false (sym (ap (λ m. isMissing (meant m)) (List·getD-eq-default lent 0 (omega arith))) ∙ b))
 
     module _ {mid : ℕ} {v : ℤ} (first : Values bytes lent readings (from + 1) mid v) where
-      pub right-falls : {t : ℕ} → left bytes from ≡ t → left bytes mid < t
+      pub right-falls : {t : ℕ} → nodeDue bytes from ≡ t → operandDue bytes mid < t
       right-falls q =
           let (l, r, m, e, x, y) = is-operator (p .ops) bytes from h n (p .tree) (p .stands) in
           omega (arith, inside, first .valued (p .ops) l m x .0, onward (p .ops) bytes (from + 1) l x)
@@ -181,4 +191,4 @@ module _ {bytes lent : List ℕ} {readings : List ℤ} {from : ℕ} (p : Evaluab
           }
 
 pub ruleset walk-ways =
-    (inside, next-fits, next-falls, byte-fits, index-fits, offset-fits, index-inside, leaf-value, inner-evaluable, inner-value, left-evaluable, operator-inside, right-falls, right-evaluable, operator-value, needs)
+    (inside, next-fits, node-falls, next-falls, byte-fits, index-fits, offset-fits, index-inside, leaf-value, node-value, inner-evaluable, inner-value, left-evaluable, operator-inside, right-falls, right-evaluable, operator-value, needs)

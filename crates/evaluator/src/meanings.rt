@@ -3,21 +3,8 @@ ghost use mathlib.Core.Path.{_≡_};
 ghost use Rattle.evaluator.specs.Meanings.{isTrue, truth, Or, And, Less, AtMost, Equal, Smaller, Larger, applied, meant, worked, isMissing};
 use crate::ends;
 
+// The first and the last of them.
 const OR: u8 = 1;
-
-const AND: u8 = 2;
-
-const LESS: u8 = 3;
-
-const AT_MOST: u8 = 4;
-
-const EQUAL: u8 = 5;
-
-const SUM: u8 = 6;
-
-const DIFFERENCE: u8 = 7;
-
-const SMALLER: u8 = 8;
 
 const LARGER: u8 = 9;
 
@@ -94,36 +81,25 @@ pub fn is_missing(number: u8) -> bool
     LARGER < number
 }
 
-// What the meaning with that number makes of the values of the left and of the right operand; 0 where there is none.
+// What the meaning with that number makes of the values of the left and of the right operand; 0 where there is none. All are
+// worked out and one is picked, since which one it will be cannot be foreseen.
 pub fn apply(number: u8, a: i32, b: i32) -> i32
     ensures { λ r. ⌜ r ≡ worked (meant number) a b ⌝ }
 {
-    if number == OR {
-        return either(a, b);
+    if LARGER < number {
+        return 0;
     }
-    if number == AND {
-        return both(a, b);
-    }
-    if number == LESS {
-        return less(a, b);
-    }
-    if number == AT_MOST {
-        return at_most(a, b);
-    }
-    if number == EQUAL {
-        return equal(a, b);
-    }
-    if number == SUM {
-        return ends::sum(a, b);
-    }
-    if number == DIFFERENCE {
-        return ends::difference(a, b);
-    }
-    if number == SMALLER {
-        return smaller(a, b);
-    }
-    if number == LARGER {
-        return larger(a, b);
-    }
-    0
+    let made = [
+        0,
+        either(a, b),
+        both(a, b),
+        less(a, b),
+        at_most(a, b),
+        equal(a, b),
+        ends::sum(a, b),
+        ends::difference(a, b),
+        smaller(a, b),
+        larger(a, b),
+    ];
+    made[number as usize]
 }

@@ -1,9 +1,12 @@
 // The value of the tree at a place of a record.
+ghost use Prim.Native.Nat.{_<_};
+ghost use lib.ListN.{getD};
+ghost use Rattle.expression.specs.Token.{firstReading};
 ghost use Rattle.evaluator.specs.Walk.{Evaluable, Values};
 use crate::meanings;
 use expression::token;
 
-// The place moves past the tree: an operator's operands follow it, the left one first. The lists are lent by one pointer each.
+// The place moves past the tree. The lists are lent by one pointer each. This is compiled into the walk below, so a reading takes no call.
 pub fn value_at<'a, 'b, 'c, 'd, 'e, 'f>(
     bytes: &'a &'b [u8],
     lent: &'c &'d [u8],
@@ -15,10 +18,27 @@ pub fn value_at<'a, 'b, 'c, 'd, 'e, 'f>(
 {
     let here = *at;
     let byte = bytes[here];
-    *at = here + 1;
-    if token::FIRST_READING <= byte {
-        return readings[(byte - token::FIRST_READING) as usize];
+    if byte < token::FIRST_READING {
+        return node_value(bytes, lent, readings, at);
     }
+    *at = here + 1;
+    readings[(byte - token::FIRST_READING) as usize]
+}
+
+// The same where no reading stands: a bracket, or an operator with its operands behind it, the left one first.
+fn node_value<'a, 'b, 'c, 'd, 'e, 'f>(
+    bytes: &'a &'b [u8],
+    lent: &'c &'d [u8],
+    readings: &'e &'f [i32],
+    at: &mut usize,
+) -> i32
+    requires { ⌜ Evaluable (now (now bytes)) (now (now lent)) (now (now readings)) (now at) ⌝ }
+    requires { ⌜ getD (now (now bytes)) (now at) 0 < firstReading ⌝ }
+    ensures { λ r. ⌜ Values (now (now (bytes .entry))) (now (now (lent .entry))) (now (now (readings .entry))) (now (at .entry)) (now (at .exit)) r ⌝ }
+{
+    let here = *at;
+    let byte = bytes[here];
+    *at = here + 1;
     if byte == token::OPENING {
         return value_at(bytes, lent, readings, at);
     }
