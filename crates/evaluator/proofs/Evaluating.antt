@@ -12,7 +12,7 @@ use mir.Syntax.{w32}
 use mir.Val.{SFits}
 use mir.Facts.{toZ-ofZ}
 use Rattle.expression.specs.Refusal.{first, accepted, place, empty, noMeaning, noReading}
-use Rattle.expression.specs.Token.{Operators, class}
+use Rattle.expression.specs.Token.{Operators, operators, class}
 use Rattle.expression.specs.Tree.{Tree, recordOf}
 use Rattle.expression.specs.Decode.{treeOf}
 use Rattle.expression.specs.Checks.{recordChecks, recordNumber}
@@ -20,6 +20,7 @@ use Rattle.expression.proofs.Classes.{brackets}
 use Rattle.expression.proofs.RecordsAndTrees.{record-treeOf}
 use Rattle.expression.proofs.Numbers.{first-append, first-refused, passed-first, record-numbered}
 use Rattle.sheet.specs.Layout.{operatorsOf}
+use Rattle.record.specs.Checks.{strangerInRecord}
 use Rattle.record.proofs.Accepted.{Accepted, accepted-tree}
 use Rattle.places.specs.Store.{placeCount, held}
 use Rattle.monitor.specs.Panel.{panel, placeCheck, emptyCheck}
@@ -64,6 +65,12 @@ module _ (meanings : List ℕ) (readings : List ℤ) (ops : Operators) (bytes : 
     pub own-number : (number ≡ accepted → ⊥) → number ≡ numberOf meanings readings ops bytes
     unfolding numberOf recordNumber
     own-number f = known ∙ sym (first-refused (recordChecks ops bytes) (checksIn meanings readings (treeOf (class ops) bytes)) (λ z. f (known ∙ z)))
+
+    pub no-stranger : number ≡ accepted → {n : ℕ} → n ≡ ops .count → strangerInRecord (operators n) bytes ≡ false
+    unfolding strangerInRecord
+    no-stranger z e =
+        let (t, a) = accepted-tree ops bytes (sym known ∙ z) in
+        ap (λ n. strangerInRecord (operators n) bytes) e ∙ a .passed .1 .0
 
     module _ (z : number ≡ accepted) {s : Bool} (m : s ≡ anyMeaningless meanings bytes) where
       in-order : first ((s, noMeaning) ∷ (anyBeyond (length readings) bytes, noReading) ∷ []) ≡ numberOf meanings readings ops bytes
@@ -114,7 +121,7 @@ module _ (meanings : List ℕ) (readings : List ℤ) (ops : Operators) (bytes : 
           toZ-ofZ f ∙ r .valued ops t (length bytes) (a .stands) .1 ∙ ap (valueIn meanings readings) (sym (a .read)) in
           rw (sym known ∙ z) (ap (λ (x : ℤ). record { number = accepted; value = x }) same)
 
-pub ruleset number-of-ways = (own-number, no-meaning, no-reading, nothing-lacks, needs)
+pub ruleset number-of-ways = (own-number, no-stranger, no-meaning, no-reading, nothing-lacks, needs)
 
 pub ruleset evaluate-record-ways = (refused-record, can-be-valued, valued, needs)
 

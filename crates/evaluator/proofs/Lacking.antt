@@ -1,20 +1,28 @@
 -- What the checks of an evaluation find: byte by byte, and of the tree that a record is of. Assumes nothing.
-use Prim.Native.Nat.{ℕ, _-_, _≤_, _<_}
+use Prim.Native.Nat.{ℕ, zero, suc, _+_, _-_, _≤_, _<_}
+use native.Mathlib.Nat.{sub-zero}
+use native.Mathlib.Decide.{decLt}
 use native.Mathlib.Omega.{arith}
 use mathlib.Core.Path.{_≡_, refl, ap, ap₂, sym, _∙_}
-use mathlib.Core.Bool.{Bool, true, false, _||_}
-use mathlib.Core.List.{List, _∷_}
+use mathlib.Core.Bool.{Bool, true, false, _||_, true≢false}
+use mathlib.Core.List.{List, [], _∷_}
 use lib.Dec.{leb}
 use lib.IntN.{ℤ}
-use lib.ListN.{length, getD, List·getD-eq-default}
+use lib.ListN.{length, getD, take, drop, length-take, List·getD-eq-default}
+use lib.Seq.{getD-take}
 use borrow.Author.Needs.{needs}
 use borrow.Author.Tests.{lt-ltb, le-ltb, le-leb, lt-leb}
+use mir.Syntax.{w8}
+use mir.Val.{Fits}
+use Rattle.expression.specs.Lists.{anyHolds}
 use Rattle.expression.specs.Limits.{mostOperators}
-use Rattle.expression.specs.Token.{Class, Infix, Opening, Closing, Reading, Meaningless, firstReading, lastReading, Operators, class}
+use Rattle.expression.specs.Token.{Class, Infix, Opening, Closing, Reading, Meaningless, firstReading, lastReading, Operators, operators, class}
 use Rattle.expression.specs.Tree.{Tree, reading, bracket, binary, recordOf, Over}
+use Rattle.expression.specs.Checks.{strangeInRecord}
 use Rattle.expression.proofs.Classes.{by-class}
 use Rattle.expression.proofs.Looking.{Looked, looked-none, looked-more, looked-all}
-use Rattle.monitor.proofs.Uses.{any-append, or-middle}
+use Rattle.record.specs.Checks.{strangerInRecord}
+use Rattle.monitor.proofs.Uses.{any-append, or-middle, or-false}
 use Rattle.evaluator.specs.Meanings.{meant, isMissing}
 use Rattle.evaluator.specs.Value.{indexOf, meaningIn, operatorsIn, readingsIn, lacksMeaning, lacksReading}
 use Rattle.evaluator.specs.Bytes.{meaningless, beyond, anyMeaningless, anyBeyond}
@@ -33,24 +41,73 @@ module _ (lent : List ℕ) (byte : ℕ) where
 
 pub ruleset meaningless-ways = (no-operator, past-the-list, by-its-number, needs)
 
-pub no-reading : (count byte : ℕ) → byte < firstReading → false ≡ beyond count byte
+-- ---- all bytes
+pub all-meaningless : (lent bytes : List ℕ) {at : ℕ} {found : Bool} → Looked (meaningless lent) bytes found at → length bytes ≤ at → found ≡ anyMeaningless lent bytes
+unfolding anyMeaningless
+all-meaningless lent bytes l h = looked-all (meaningless lent) bytes l h
+
+pub ruleset looking-ways = (looked-none, looked-more, looked-all, all-meaningless, needs)
+
+any-same : (p q : ℕ → Bool) → ((c : ℕ) → p c ≡ q c) → (xs : List ℕ) → anyHolds p xs ≡ anyHolds q xs
+any-same p q same [] = refl
+any-same p q same (x ∷ xs) = ap₂ _||_ (same x) (any-same p q same xs)
+
+any-none : (p q : ℕ → Bool) → ((c : ℕ) → p c ≡ false → q c ≡ false) → (xs : List ℕ) → anyHolds p xs ≡ false → anyHolds q xs ≡ false
+any-none p q none [] e = refl
+any-none p q none (x ∷ xs) e = let (a, b) = or-false (p x) (anyHolds p xs) e in rw (none x a) (any-none p q none xs b)
+
+any-at : (p : ℕ → Bool) (xs : List ℕ) → anyHolds p xs ≡ false → (i : ℕ) → i < length xs → p (getD xs i 0) ≡ false
+any-at p [] e i h = absurd (omega arith)
+any-at p (x ∷ xs) e zero h = or-false (p x) (anyHolds p xs) e .0
+any-at p (x ∷ xs) e (suc i) h = any-at p xs (or-false (p x) (anyHolds p xs) e .1) i (omega arith)
+
+-- where all operators of the sheet have a meaning, all those of a record have
+pub all-meant : (n : ℕ) (lent bytes : List ℕ) {missing : Bool} → strangerInRecord (operators n) bytes ≡ false → n ≤ length lent
+    → missing ≡ anyHolds (λ m. isMissing (meant m)) (take (n - 0) (drop 0 lent)) → missing ≡ false → false ≡ anyMeaningless lent bytes
+unfolding strangerInRecord anyMeaningless
+all-meant n lent bytes known fits e q = sym (any-none (λ c. strangeInRecord (class (operators n) c)) (meaningless lent) each bytes known)
+  where
+    its-meaning : (c : ℕ) → c < n → isMissing (meant (getD lent c 0)) ≡ false
+    its-meaning c h =
+        ap (λ m. isMissing (meant m)) (sym (getD-take n lent c 0 h))
+        ∙ any-at (λ m. isMissing (meant m)) (take n lent) (ap (λ k. anyHolds (λ m. isMissing (meant m)) (take k lent)) (sym (sub-zero n)) ∙ sym e ∙ q) c (omega (arith, length-take n lent))
+
+    each : (c : ℕ) → strangeInRecord (class (operators n) c) ≡ false → meaningless lent c ≡ false
+    each c =
+        by-class (operators n) (λ k. strangeInRecord k ≡ false → meaningless lent c ≡ false) c
+        (λ h g _. rw (lt-ltb c mostOperators h) (its-meaning c g))
+        (λ h _. sym (no-operator lent c (omega arith)))
+        (λ _ z. absurd (true≢false z))
+        (λ h _ _. sym (no-operator lent c (omega arith)))
+        (λ z. absurd (true≢false z))
+
+pub ruleset lacks-meaning-ways = (all-meant, needs)
+
+-- ---- readings
+no-reading : (count byte : ℕ) → byte < firstReading → false ≡ beyond count byte
 no-reading count byte h = rw (lt-leb firstReading byte h)
 
-pub by-its-place : (count byte : ℕ) → firstReading ≤ byte → leb count (byte - firstReading) ≡ beyond count byte
+by-its-place : (count byte : ℕ) → firstReading ≤ byte → leb count (byte - firstReading) ≡ beyond count byte
 by-its-place count byte h = rw (le-leb firstReading byte h)
 
-pub ruleset beyond-ways = (no-reading, by-its-place, needs)
+from-limit : (count byte : ℕ) → leb (firstReading + count) byte ≡ beyond count byte
+from-limit count byte = go (decLt byte firstReading) (decLt byte (firstReading + count))
+  where
+    go : Dec (byte < firstReading) → Dec (byte < firstReading + count) → leb (firstReading + count) byte ≡ beyond count byte
+    go (yes h) g = lt-leb (firstReading + count) byte (omega arith) ∙ no-reading count byte h
+    go (no h) (yes g) = lt-leb (firstReading + count) byte g ∙ sym (lt-leb count (byte - firstReading) (omega arith)) ∙ by-its-place count byte (omega arith)
+    go (no h) (no g) = le-leb (firstReading + count) byte (omega arith) ∙ sym (le-leb count (byte - firstReading) (omega arith)) ∙ by-its-place count byte (omega arith)
 
--- ---- all bytes
-pub all-meanings : (lent bytes : List ℕ) {at : ℕ} {found : Bool} → Looked (meaningless lent) bytes found at → length bytes ≤ at → found ≡ anyMeaningless lent bytes
-unfolding anyMeaningless
-all-meanings lent bytes l h = looked-all (meaningless lent) bytes l h
-
-pub all-readings : (count : ℕ) (bytes : List ℕ) {at : ℕ} {found : Bool} → Looked (beyond count) bytes found at → length bytes ≤ at → found ≡ anyBeyond count bytes
+pub beyond-limit : (count : ℕ) (bytes : List ℕ) {r : Bool} → r ≡ anyHolds (leb (firstReading + count)) bytes → r ≡ anyBeyond count bytes
 unfolding anyBeyond
-all-readings count bytes l h = looked-all (beyond count) bytes l h
+beyond-limit count bytes e = e ∙ any-same (leb (firstReading + count)) (beyond count) (from-limit count) bytes
 
-pub ruleset looking-ways = (looked-none, looked-more, all-meanings, all-readings, needs)
+pub all-lent : (count : ℕ) → 128 ≤ count → (bytes : List ℕ) → ((k : ℕ) → Fits w8 (getD bytes k 0)) → false ≡ anyBeyond count bytes
+unfolding anyBeyond
+all-lent count h [] f = refl
+all-lent count h (c ∷ bytes) f = rw (sym (from-limit count c) ∙ lt-leb (firstReading + count) c (omega (arith, f 0))) (all-lent count h bytes (λ k. f (suc k)))
+
+pub ruleset lacks-reading-ways = (beyond-limit, all-lent, needs)
 
 -- ---- of a tree
 -- operators and readings told apart

@@ -40,7 +40,7 @@ fn number_of(sheet: &[u32; SHEET_WORDS], bytes: &[u8], meanings: &[u8], readings
     if number != refusal::ACCEPTED {
         return number;
     }
-    if checks::lacks_meaning(meanings, bytes) {
+    if checks::lacks_meaning(sheet::operator_count(sheet), meanings, bytes) {
         return refusal::NO_MEANING;
     }
     if checks::lacks_reading(readings.len(), bytes) {

@@ -10,6 +10,7 @@ number-of-spec =
     (λ c κs. search number-of-ways)
     (λ c. search number-of-ways)
     (λ c κs. search number-of-ways)
+    (λ c κs. search number-of-ways)
     (λ c. search number-of-ways)
     (λ c κs. search number-of-ways)
     (λ c. search number-of-ways)
