@@ -28,7 +28,7 @@ use Rattle.monitor.proofs.Replies.{front-accepted}
 use Rattle.monitor.proofs.AnswerWays.{empty-true, empty-false}
 use Rattle.evaluator.specs.Value.{lacksMeaning, lacksReading, value, treeChecks}
 use Rattle.evaluator.specs.Bytes.{anyMeaningless, anyBeyond}
-use Rattle.evaluator.specs.Walk.{Evaluable, Values}
+use Rattle.evaluator.specs.Walk.{Evaluable, IsValue}
 use Rattle.evaluator.specs.Evaluation.{evaluated, checksIn, valueIn, recordAndTree, numberOf, ofRecord, evaluation}
 use Rattle.evaluator.specs.declared.Evaluation.{Evaluation}
 use Rattle.evaluator.proofs.Stopping.{read}
@@ -113,12 +113,12 @@ module _ (meanings : List ℕ) (readings : List ℤ) (ops : Operators) (bytes : 
             read = r;
           }
 
-      pub valued : {to : ℕ} {w : ℤ} → SFits w32 w → Values bytes meanings readings 0 to w → record { number = accepted; value = read w } ≡ ofRecord meanings readings ops bytes
+      pub valued : {w : ℤ} → SFits w32 w → IsValue bytes meanings readings w → record { number = accepted; value = read w } ≡ ofRecord meanings readings ops bytes
       unfolding ofRecord
       valued {w = w} f r =
           let (t, a) = the-tree in
           let same : read w ≡ valueIn meanings readings (treeOf (class ops) bytes) =
-          toZ-ofZ f ∙ r .valued ops t (length bytes) (a .stands) .1 ∙ ap (valueIn meanings readings) (sym (a .read)) in
+          toZ-ofZ f ∙ r .valued ops t (length bytes) (a .stands) ∙ ap (valueIn meanings readings) (sym (a .read)) in
           rw (sym known ∙ z) (ap (λ (x : ℤ). record { number = accepted; value = x }) same)
 
 pub ruleset number-of-ways = (own-number, no-stranger, no-meaning, no-reading, nothing-lacks, needs)

@@ -23,7 +23,7 @@ use Rattle.record.proofs.Standing.{onward}
 use Rattle.monitor.proofs.Uses.{any-append, or-false}
 use Rattle.evaluator.specs.Meanings.{meant, isMissing, worked}
 use Rattle.evaluator.specs.Value.{indexOf, meaningIn, value, operatorsIn, readingsIn, lacksMeaning, lacksReading}
-use Rattle.evaluator.specs.Walk.{Evaluable, Values}
+use Rattle.evaluator.specs.Walk.{Evaluable, Values, IsValue}
 use Rattle.evaluator.proofs.Stopping.{read}
 use Rattle.evaluator.proofs.Lacking.{infix-low, reading-bounds}
 
@@ -189,6 +189,16 @@ module _ {bytes lent : List ℕ} {readings : List ℤ} {from : ℕ} (p : Evaluab
                 let (i2, j2) = second .valued ops k end (rw (sym i) at b) in
                 (i2, toZ-ofZ fr ∙ q ∙ ap₂ (worked (meant (getD lent (getD bytes from 0) 0))) (toZ-ofZ fv ∙ j) (toZ-ofZ fw ∙ j2) ∙ ap (value lent readings) (sym e));
           }
+
+-- ---- the whole record
+pub leaf-is : {bytes lent : List ℕ} {readings : List ℤ} {r : ℤ} → Evaluable bytes lent readings 0 → firstReading ≤ getD bytes 0 0
+    → r ≡ getD readings (getD bytes 0 0 - firstReading) (pos 0) → IsValue bytes lent readings r
+leaf-is p h e = record { valued = λ ops t end x. leaf-value p h e .valued ops t end x .1 }
+
+pub node-is : {bytes lent : List ℕ} {readings : List ℤ} {to : ℕ} {r : ℤ} → SFits w32 r → Values bytes lent readings 0 to r → IsValue bytes lent readings (read r)
+node-is f v = record { valued = λ ops t end x. toZ-ofZ f ∙ v .valued ops t end x .1 }
+
+pub ruleset whole-ways = (inside, index-fits, offset-fits, index-inside, leaf-is, node-is, needs)
 
 pub ruleset walk-ways =
     (inside, next-fits, node-falls, next-falls, byte-fits, index-fits, offset-fits, index-inside, leaf-value, node-value, inner-evaluable, inner-value, left-evaluable, operator-inside, right-falls, right-evaluable, operator-value, needs)

@@ -25,3 +25,7 @@ module _ (bytes meanings : List ℕ) (readings : List ℤ) where
   -- The answer is the value of the tree at the place `from`, and the place that is left is the one after the tree.
   pub record Values (from to : ℕ) (r : ℤ) : Type 0 where
     pub valued : (ops : Operators) (t : Tree) (end : ℕ) → TreeAt ops bytes from t end → (to ≡ end) × (r ≡ value meanings readings t)
+
+  -- The answer is the value of the tree that stands at the start.
+  pub record IsValue (r : ℤ) : Type 0 where
+    pub valued : (ops : Operators) (t : Tree) (end : ℕ) → TreeAt ops bytes 0 t end → r ≡ value meanings readings t

@@ -36,11 +36,12 @@ fn unevaluated(number: u8) -> Evaluation
 fn number_of(sheet: &[u32; SHEET_WORDS], bytes: &[u8], meanings: &[u8], readings: &[i32]) -> u8
     ensures { λ r. ⌜ r ≡ numberOf (now (meanings .entry)) (now (readings .entry)) (operatorsOf (now (sheet .entry))) (now (bytes .entry)) ⌝ }
 {
+    let n = sheet::operator_count(sheet);
     let number = record::record_number(sheet, bytes);
     if number != refusal::ACCEPTED {
         return number;
     }
-    if checks::lacks_meaning(sheet::operator_count(sheet), meanings, bytes) {
+    if checks::lacks_meaning(n, meanings, bytes) {
         return refusal::NO_MEANING;
     }
     if checks::lacks_reading(readings.len(), bytes) {
@@ -62,8 +63,7 @@ fn evaluate_record(
     if number != refusal::ACCEPTED {
         return unevaluated(number);
     }
-    let mut at = 0;
-    let value = walk::value_at(&bytes, &meanings, &readings, &mut at);
+    let value = walk::value_of(bytes, meanings, readings);
     Evaluation {
         number: refusal::ACCEPTED,
         value: value,

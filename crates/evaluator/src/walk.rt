@@ -1,13 +1,13 @@
-// The value of the tree at a place of a record.
+// The value of a tree in a record, operands within operands.
 ghost use Prim.Native.Nat.{_<_};
 ghost use lib.ListN.{getD};
 ghost use Rattle.expression.specs.Token.{firstReading};
-ghost use Rattle.evaluator.specs.Walk.{Evaluable, Values};
+ghost use Rattle.evaluator.specs.Walk.{Evaluable, Values, IsValue};
 use crate::meanings;
 use expression::token;
 
 // The place moves past the tree. The lists are lent by one pointer each. This is compiled into the walk below, so a reading takes no call.
-pub fn value_at<'a, 'b, 'c, 'd, 'e, 'f>(
+fn value_at<'a, 'b, 'c, 'd, 'e, 'f>(
     bytes: &'a &'b [u8],
     lent: &'c &'d [u8],
     readings: &'e &'f [i32],
@@ -45,4 +45,17 @@ fn node_value<'a, 'b, 'c, 'd, 'e, 'f>(
     let left = value_at(bytes, lent, readings, at);
     let right = value_at(bytes, lent, readings, at);
     meanings::apply(lent[byte as usize], left, right)
+}
+
+// The value of the tree that the whole record is of.
+pub fn value_of<'a, 'b, 'c>(bytes: &'a [u8], lent: &'b [u8], readings: &'c [i32]) -> i32
+    requires { ⌜ Evaluable (now bytes) (now lent) (now readings) 0 ⌝ }
+    ensures { λ r. ⌜ IsValue (now (bytes .entry)) (now (lent .entry)) (now (readings .entry)) r ⌝ }
+{
+    let first = bytes[0];
+    if token::FIRST_READING <= first {
+        return readings[(first - token::FIRST_READING) as usize];
+    }
+    let mut at = 0;
+    node_value(&bytes, &lent, &readings, &mut at)
 }
