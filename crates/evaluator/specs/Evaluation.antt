@@ -23,6 +23,7 @@ module _ (meanings : List ℕ) (readings : List ℤ) where
   abbrev pub ofTree : Tree → Evaluation
   ofTree t = evaluated (first (treeChecks meanings readings t)) (value meanings readings t)
 
+  -- of what bytes are read as: nothing, where they are no tree
   abbrev pub checksIn : Option Tree → List Check
   checksIn none = []
   checksIn (some t) = treeChecks meanings readings t
@@ -31,7 +32,7 @@ module _ (meanings : List ℕ) (readings : List ℤ) where
   valueIn none = pos 0
   valueIn (some t) = value meanings readings t
 
-  -- of a record: its own numbers, which a fetch of its row gives too, then those of its tree
+  -- Of a record: its own numbers, which a fetch of its row gives too, then those of its tree.
   abbrev pub recordAndTree : Operators → List ℕ → List Check
   recordAndTree ops bytes = recordChecks ops bytes ++ checksIn (treeOf (class ops) bytes)
 
@@ -41,7 +42,7 @@ module _ (meanings : List ℕ) (readings : List ℤ) where
   unfoldable pub ofRecord : Operators → List ℕ → Evaluation
   ofRecord ops bytes = evaluated (numberOf ops bytes) (valueIn (treeOf (class ops) bytes))
 
-  -- Of a place, the first that applies: 8, 9, the number of the record that it holds, 13, 14. A run of calls leaves records of trees alone.
+  -- Of a place, the first that applies: 8, 9, the number of the record that it holds, 13, 14. After a run of calls every held record is one of a tree, and its own number is 0.
   unfoldable pub evaluation : Panel → ℕ → Evaluation
   evaluation p k =
       let bytes = held (p .places) k in

@@ -11,7 +11,7 @@ use crate::meanings;
 use expression::token;
 
 // The readings there are, 80 to FF.
-const READINGS: usize = 128;
+const READINGS: usize = 0x100 - token::FIRST_READING as usize;
 
 // Some number is no meaning's.
 fn any_missing(numbers: &[u8]) -> bool

@@ -1,4 +1,5 @@
-// Sums and differences of 32-bit numbers, held at the ends of the range.
+// Sums and differences of 32-bit numbers, held at the ends of the range. What is left up to an end tells before each whether it is passed; no test
+// and no result leaves the range.
 ghost use mathlib.Core.Path.{_≡_};
 ghost use lib.IntN.{_+ℤ_, _-ℤ_};
 ghost use Rattle.evaluator.specs.Meanings.{atEnds};
