@@ -48,9 +48,9 @@ struct panel_raw_value tihvomen_evaluate(
 
 /*
  * Works out the tree that the place holds. The meaning of operator o is byte o of `meanings`; an operator beyond that
- * list has none. The value of reading 80 is the first of `readings`, the value of 81 the second, and so on. A bracket
- * has the value of the tree inside it. Every operator of the tree must have a meaning and every reading a value, even
- * where the rest alone would settle the answer. Numbers: 8, 9, 13, 14.
+ * list has none. The value of reading 80 is the first of `readings`, the value of 81 the second, and so on. Brackets
+ * pass on what is inside them. Every operator of the tree must have a meaning and every reading a value, even where the
+ * rest alone would settle the answer. Numbers: 8, 9, 13, 14.
  */
 static inline struct panel_value panel_evaluate(
     const struct panel *p, unsigned place, const uint8_t *meanings, size_t meaning_count,

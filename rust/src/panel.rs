@@ -171,8 +171,9 @@ impl Panel {
 
     /// The value of the tree that the place holds. The meaning of operator o is `meanings[o]`: 1 or, 2 and, 3 less,
     /// 4 at most, 5 equal, 6 sum, 7 difference, 8 the smaller, 9 the larger. The value of reading 80 is `readings[0]`.
-    /// 0 is false, all else true; truth answers 0 or 1. A sum or difference past an end of the range stops at that end,
-    /// at each node. A bracket has the value of the tree inside it. Refusals: 8, 9, 13, 14.
+    /// 0 is false, all else true; a truth comes out as 0 or 1. Sums and differences stop at the ends of the range, at each
+    /// node. Brackets pass on what is inside them. Every operator of the tree must have a meaning and every reading a
+    /// value, even where the rest alone would settle the answer. Refusals: 8, 9, 13, 14.
     ///
     /// ```
     /// let mut panel = tihvomen::Panel::new();

@@ -35,7 +35,7 @@ lowest = negsuc 2147483647
 abbrev pub highest : ℤ
 highest = pos 2147483647
 
--- past either end a number stops at that end
+-- a number that leaves the range is held at the end that it passes
 abbrev pub atEnds : ℤ → ℤ
 atEnds z = cond (ltZ z lowest) lowest (cond (ltZ highest z) highest z)
 

@@ -16,12 +16,12 @@ use Rattle.evaluator.specs.Meanings.{Meaning, meant, isMissing, worked}
 abbrev pub meaningIn : List ℕ → ℕ → Option Meaning
 meaningIn meanings o = meant (getD meanings o 0)
 
--- Byte 80 is the first of the lent readings.
+-- the place of a reading's value in the lent list: 80 has the first one
 abbrev pub indexOf : ℕ → ℕ
 indexOf a = a - firstReading
 
 module _ (meanings : List ℕ) (readings : List ℤ) where
-  -- The value of a tree. A bracket node has that of the tree inside.
+  -- The value of a tree; brackets pass on what is inside them.
   abbrev pub value : Tree → ℤ
   value (reading a) = getD readings (indexOf a) (pos 0)
   value (bracket t) = value t
