@@ -62,10 +62,6 @@ shown-below sheet above false o e = ltb-true above mostOperators (and-true (ltb 
 abbrev pub due : ℕ → ℕ → ℕ
 due from above = 2 * (mostRecordBytes - from) + oneIf (ltb above mostOperators)
 
-pub at-most-one : (b : Bool) → oneIf b ≤ 1
-at-most-one true = omega arith
-at-most-one false = omega arith
-
 -- a tree stands at the place, and the node there is x
 module _ (sheet bytes : List ℕ) (from above : ℕ) (right : Bool) (at : ℕ) (h : StandsWithRoom sheet bytes from above right at) {x : Node} (found : x ≡ nodeAt (operatorsOf sheet) bytes from) where
   -- the place is within a record

@@ -7,10 +7,10 @@ use mathlib.Core.List.{List, [], _∷_, _++_}
 use lib.Dec.{ltb}
 use lib.ListN.{length, set, length-append}
 use lib.Seq.{sets}
-use borrow.Author.Tests.{ltb-true}
 use Rattle.expression.specs.Limits.{mostOperators, mostTokens}
-use Rattle.expression.specs.Token.{Infix, Operators, class}
 use Rattle.expression.specs.Tree.{Tree}
+use Rattle.expression.proofs.Classes.{infix-byte}
+use Rattle.expression.proofs.Tests.{at-most-one}
 use Rattle.sheet.specs.Layout.{operatorsOf}
 use Rattle.record.specs.Held.{base}
 use Rattle.record.specs.Node.{nodeAt}
@@ -20,13 +20,9 @@ use Rattle.record.specs.declared.Node.the-variants as node
 use Rattle.record.proofs.Trees.{a-reading, an-operator}
 use Rattle.record.proofs.Standing.{onward}
 use Rattle.record.proofs.Writing.{set-operator}
-use Rattle.parser.proofs.BuildInvariant.{steps-as}
 use Rattle.brackets.specs.Walk.{shows, rowUnder, StandsWithRoom, Shortens}
 use Rattle.brackets.proofs.OperandRows.{leaf-row, infix-row}
-use Rattle.brackets.proofs.Walking.{due, at-most-one, inside}
-
-infix-byte : (ops : Operators) (o : ℕ) → class ops o ≡ Infix → o < mostOperators
-infix-byte ops o h = ltb-true o mostOperators (rw h at (steps-as ops o))
+use Rattle.brackets.proofs.Walking.{due, inside}
 
 module _ (sheet bytes : List ℕ) (from above : ℕ) (right : Bool) (at : ℕ) (h : StandsWithRoom sheet bytes from above right at) {x : Node} (found : x ≡ nodeAt (operatorsOf sheet) bytes from) {o : ℕ}
     (is : x ≡ node.Operator o) {b : Bool} (tested : b ≡ shows sheet above right o) (not-shown : b ≡ false) where
@@ -44,7 +40,7 @@ module _ (sheet bytes : List ℕ) (from above : ℕ) (right : Bool) (at : ℕ) (
       let (l, r, mid, e, y, z) = an-operator (operatorsOf sheet) bytes from found is t k in
       let over = rw e at (k .over) in
       let w : rowUnder sheet above right t ≡ rowUnder sheet o false l ++ o ∷ rowUnder sheet o true r =
-      ap (rowUnder sheet above right) e ∙ infix-row sheet above right o l r (sym tested ∙ not-shown) (infix-byte (operatorsOf sheet) o (over .0)) in
+      ap (rowUnder sheet above right) e ∙ infix-row sheet above right o l r (sym tested ∙ not-shown) (infix-byte (operatorsOf sheet) o (over .0) .0) in
       record {
         left = l;
         right-one = r;

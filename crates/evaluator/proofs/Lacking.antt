@@ -16,13 +16,13 @@ use mir.Syntax.{w8}
 use mir.Val.{Fits}
 use Rattle.expression.specs.Lists.{anyHolds}
 use Rattle.expression.specs.Limits.{mostOperators}
-use Rattle.expression.specs.Token.{Class, Infix, Opening, Closing, Reading, Meaningless, firstReading, lastReading, Operators, operators, class}
+use Rattle.expression.specs.Token.{firstReading, Operators, operators, class}
 use Rattle.expression.specs.Tree.{Tree, reading, bracket, binary, recordOf, Over}
 use Rattle.expression.specs.Checks.{strangeInRecord}
-use Rattle.expression.proofs.Classes.{by-class}
+use Rattle.expression.proofs.Classes.{by-class, infix-byte, reading-byte}
+use Rattle.expression.proofs.Tests.{or-middle, any-append, any-same, any-none, none-at}
 use Rattle.expression.proofs.Looking.{Looked, looked-none, looked-more, looked-all}
 use Rattle.record.specs.Checks.{strangerInRecord}
-use Rattle.monitor.proofs.Uses.{any-append, or-middle, or-false}
 use Rattle.evaluator.specs.Meanings.{meant, isMissing}
 use Rattle.evaluator.specs.Value.{indexOf, meaningIn, operatorsIn, readingsIn, lacksMeaning, lacksReading}
 use Rattle.evaluator.specs.Bytes.{meaningless, beyond, anyMeaningless, anyBeyond}
@@ -48,19 +48,6 @@ all-meaningless lent bytes l h = looked-all (meaningless lent) bytes l h
 
 pub ruleset looking-ways = (looked-none, looked-more, looked-all, all-meaningless, needs)
 
-any-same : (p q : ℕ → Bool) → ((c : ℕ) → p c ≡ q c) → (xs : List ℕ) → anyHolds p xs ≡ anyHolds q xs
-any-same p q same [] = refl
-any-same p q same (x ∷ xs) = ap₂ _||_ (same x) (any-same p q same xs)
-
-any-none : (p q : ℕ → Bool) → ((c : ℕ) → p c ≡ false → q c ≡ false) → (xs : List ℕ) → anyHolds p xs ≡ false → anyHolds q xs ≡ false
-any-none p q none [] e = refl
-any-none p q none (x ∷ xs) e = let (a, b) = or-false (p x) (anyHolds p xs) e in rw (none x a) (any-none p q none xs b)
-
-any-at : (p : ℕ → Bool) (xs : List ℕ) → anyHolds p xs ≡ false → (i : ℕ) → i < length xs → p (getD xs i 0) ≡ false
-any-at p [] e i h = absurd (omega arith)
-any-at p (x ∷ xs) e zero h = or-false (p x) (anyHolds p xs) e .0
-any-at p (x ∷ xs) e (suc i) h = any-at p xs (or-false (p x) (anyHolds p xs) e .1) i (omega arith)
-
 -- where all operators of the sheet have a meaning, all those of a record have
 pub all-meant : (n : ℕ) (lent bytes : List ℕ) {missing : Bool} → strangerInRecord (operators n) bytes ≡ false → n ≤ length lent
     → missing ≡ anyHolds (λ m. isMissing (meant m)) (take (n - 0) (drop 0 lent)) → missing ≡ false → false ≡ anyMeaningless lent bytes
@@ -70,7 +57,7 @@ all-meant n lent bytes known fits e q = sym (any-none (λ c. strangeInRecord (cl
     its-meaning : (c : ℕ) → c < n → isMissing (meant (getD lent c 0)) ≡ false
     its-meaning c h =
         ap (λ m. isMissing (meant m)) (sym (getD-take n lent c 0 h))
-        ∙ any-at (λ m. isMissing (meant m)) (take n lent) (ap (λ k. anyHolds (λ m. isMissing (meant m)) (take k lent)) (sym (sub-zero n)) ∙ sym e ∙ q) c (omega (arith, length-take n lent))
+        ∙ none-at (λ m. isMissing (meant m)) (take n lent) (ap (λ k. anyHolds (λ m. isMissing (meant m)) (take k lent)) (sym (sub-zero n)) ∙ sym e ∙ q) c (omega (arith, length-take n lent))
 
     each : (c : ℕ) → strangeInRecord (class (operators n) c) ≡ false → meaningless lent c ≡ false
     each c =
@@ -110,41 +97,22 @@ all-lent count h (c ∷ bytes) f = rw (sym (from-limit count c) ∙ lt-leb (firs
 pub ruleset lacks-reading-ways = (beyond-limit, all-lent, needs)
 
 -- ---- of a tree
--- operators and readings told apart
-of-class : Class → ℕ
-of-class Infix = 0
-of-class Opening = 1
-of-class Closing = 1
-of-class Reading = 2
-of-class Meaningless = 1
-
-pub infix-low : (ops : Operators) (c : ℕ) → class ops c ≡ Infix → c < mostOperators
-unfolding of-class
-infix-low ops c e =
-    by-class ops (λ x. of-class x ≡ 0 → c < mostOperators) c (λ h _ _. h) (λ _ q. omega arith) (λ _ q. omega arith) (λ _ _ q. omega arith) (λ q. omega arith) (ap of-class e)
-
-pub reading-bounds : (ops : Operators) (c : ℕ) → class ops c ≡ Reading → (firstReading ≤ c) × (c ≤ lastReading)
-unfolding of-class
-reading-bounds ops c e =
-    by-class ops (λ x. of-class x ≡ 2 → (firstReading ≤ c) × (c ≤ lastReading)) c (λ _ _ q. absurd (omega arith)) (λ _ q. absurd (omega arith))
-    (λ _ q. absurd (omega arith)) (λ h g _. (h, g)) (λ q. absurd (omega arith)) (ap of-class e)
-
 module _ (ops : Operators) where
   pub meanings-of-tree : (lent : List ℕ) (t : Tree) → Over (class ops) t → anyMeaningless lent (recordOf t) ≡ lacksMeaning lent t
   unfolding anyMeaningless
-  meanings-of-tree lent (reading a) h = rw (le-ltb a mostOperators (omega (arith, reading-bounds ops a h)))
+  meanings-of-tree lent (reading a) h = rw (le-ltb a mostOperators (omega (arith, reading-byte ops a h)))
   meanings-of-tree lent (bracket t) h = meanings-of-tree lent t h
   meanings-of-tree lent (binary o l r) h =
-      ap₂ _||_ (sym (by-its-number lent o (infix-low ops o (h .0)) refl)) (any-append (meaningless lent) (recordOf l) (recordOf r))
+      ap₂ _||_ (sym (by-its-number lent o (infix-byte ops o (h .0) .0) refl)) (any-append (meaningless lent) (recordOf l) (recordOf r))
       ∙ ap₂ (λ x y. isMissing (meaningIn lent o) || (x || y)) (meanings-of-tree lent l (h .1)) (meanings-of-tree lent r (h .2))
       ∙ or-middle (isMissing (meaningIn lent o)) (lacksMeaning lent l) (lacksMeaning lent r)
       ∙ sym (any-append (λ c. isMissing (meaningIn lent c)) (operatorsIn l) (o ∷ operatorsIn r))
 
   pub readings-of-tree : (readings : List ℤ) (t : Tree) → Over (class ops) t → anyBeyond (length readings) (recordOf t) ≡ lacksReading readings t
   unfolding anyBeyond
-  readings-of-tree readings (reading a) h = ap (λ x. x || false) (sym (by-its-place (length readings) a (reading-bounds ops a h .0)))
+  readings-of-tree readings (reading a) h = ap (λ x. x || false) (sym (by-its-place (length readings) a (reading-byte ops a h .0)))
   readings-of-tree readings (bracket t) h = readings-of-tree readings t h
   readings-of-tree readings (binary o l r) h =
-      ap₂ _||_ (sym (no-reading (length readings) o (omega (arith, infix-low ops o (h .0))))) (any-append (beyond (length readings)) (recordOf l) (recordOf r))
+      ap₂ _||_ (sym (no-reading (length readings) o (omega (arith, infix-byte ops o (h .0))))) (any-append (beyond (length readings)) (recordOf l) (recordOf r))
       ∙ ap₂ _||_ (readings-of-tree readings l (h .1)) (readings-of-tree readings r (h .2))
       ∙ sym (any-append (λ a. leb (length readings) (indexOf a)) (readingsIn l) (readingsIn r))

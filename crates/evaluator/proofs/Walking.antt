@@ -17,15 +17,15 @@ use mir.Val.{Fits, SFits}
 use mir.Facts.{toZ-ofZ}
 use Rattle.expression.specs.Token.{opening, firstReading, lastReading, Operators}
 use Rattle.expression.specs.Tree.{Tree, reading, bracket, binary, recordOf}
+use Rattle.expression.proofs.Classes.{infix-byte, reading-byte}
+use Rattle.expression.proofs.Tests.{both-false, any-append}
 use Rattle.record.specs.TreeAt.{TreeAt}
 use Rattle.record.proofs.Trees.{top-node, ends-within, in-bracket, an-operator}
 use Rattle.record.proofs.Standing.{onward}
-use Rattle.monitor.proofs.Uses.{any-append, or-false}
 use Rattle.evaluator.specs.Meanings.{meant, isMissing, worked}
 use Rattle.evaluator.specs.Value.{indexOf, meaningIn, value, operatorsIn, readingsIn, lacksMeaning, lacksReading}
 use Rattle.evaluator.specs.Walk.{Evaluable, Values, IsValue}
 use Rattle.evaluator.proofs.Stopping.{read}
-use Rattle.evaluator.proofs.Lacking.{infix-low, reading-bounds}
 
 -- what falls: the bytes from a place on, twice, since a node may be entered as an operand first
 abbrev pub nodeDue : List ℕ → ℕ → ℕ
@@ -45,23 +45,23 @@ module _ (ops : Operators) (bytes : List ℕ) (from : ℕ) where
       head (binary o l r) rest = refl
 
   pub small-byte : (t : Tree) {to : ℕ} → TreeAt ops bytes from t to → getD bytes from 0 ≤ lastReading
-  small-byte (reading a) x = omega (arith, first-byte (reading a) x, reading-bounds ops a (x .over))
+  small-byte (reading a) x = omega (arith, first-byte (reading a) x, reading-byte ops a (x .over))
   small-byte (bracket t) x = omega (arith, first-byte (bracket t) x)
-  small-byte (binary o l r) x = omega (arith, first-byte (binary o l r) x, infix-low ops o (x .over .0))
+  small-byte (binary o l r) x = omega (arith, first-byte (binary o l r) x, infix-byte ops o (x .over .0))
 
   pub is-leaf : firstReading ≤ getD bytes from 0 → (t : Tree) {to : ℕ} → TreeAt ops bytes from t to → (t ≡ reading (getD bytes from 0)) × (to ≡ from + 1)
   is-leaf h (reading a) x = (ap reading (sym (first-byte (reading a) x)), x .ends)
   is-leaf h (bracket t) x = absurd (omega (arith, first-byte (bracket t) x))
-  is-leaf h (binary o l r) x = absurd (omega (arith, first-byte (binary o l r) x, infix-low ops o (x .over .0)))
+  is-leaf h (binary o l r) x = absurd (omega (arith, first-byte (binary o l r) x, infix-byte ops o (x .over .0)))
 
   pub is-bracket : getD bytes from 0 ≡ opening → (t : Tree) {to : ℕ} → TreeAt ops bytes from t to → (u : Tree) × (t ≡ bracket u) × TreeAt ops bytes (from + 1) u to
-  is-bracket h (reading a) x = absurd (omega (arith, first-byte (reading a) x, reading-bounds ops a (x .over)))
+  is-bracket h (reading a) x = absurd (omega (arith, first-byte (reading a) x, reading-byte ops a (x .over)))
   is-bracket h (bracket u) {to} x = (u, refl, in-bracket ops bytes from u to x)
-  is-bracket h (binary o l r) x = absurd (omega (arith, first-byte (binary o l r) x, infix-low ops o (x .over .0)))
+  is-bracket h (binary o l r) x = absurd (omega (arith, first-byte (binary o l r) x, infix-byte ops o (x .over .0)))
 
   pub is-operator : getD bytes from 0 < firstReading → (getD bytes from 0 ≡ opening → ⊥) → (t : Tree) {to : ℕ} → TreeAt ops bytes from t to
       → (l : Tree) × (r : Tree) × (mid : ℕ) × (t ≡ binary (getD bytes from 0) l r) × TreeAt ops bytes (from + 1) l mid × TreeAt ops bytes mid r to
-  is-operator h n (reading a) x = absurd (omega (arith, first-byte (reading a) x, reading-bounds ops a (x .over)))
+  is-operator h n (reading a) x = absurd (omega (arith, first-byte (reading a) x, reading-byte ops a (x .over)))
   is-operator h n (bracket u) x = absurd (n (first-byte (bracket u) x))
   is-operator h n (binary o l r) x =
       let (u, v, mid, e, a, b) = an-operator ops bytes from refl (top-node ops bytes from (binary o l r) x) (binary o l r) x in
@@ -71,15 +71,15 @@ module _ (ops : Operators) (bytes : List ℕ) (from : ℕ) where
 operands-meant : (lent : List ℕ) (o : ℕ) (l r : Tree) → lacksMeaning lent (binary o l r) ≡ false
     → (lacksMeaning lent l ≡ false) × (isMissing (meaningIn lent o) ≡ false) × (lacksMeaning lent r ≡ false)
 operands-meant lent o l r e =
-    let (a, b) = or-false (lacksMeaning lent l) (isMissing (meaningIn lent o) || lacksMeaning lent r)
+    let (a, b) = both-false (lacksMeaning lent l) (isMissing (meaningIn lent o) || lacksMeaning lent r)
     (sym (any-append (λ c. isMissing (meaningIn lent c)) (operatorsIn l) (o ∷ operatorsIn r)) ∙ e) in
-    let (c, d) = or-false (isMissing (meaningIn lent o)) (lacksMeaning lent r) b in
+    let (c, d) = both-false (isMissing (meaningIn lent o)) (lacksMeaning lent r) b in
     (a, c, d)
 
 operands-read : (readings : List ℤ) (o : ℕ) (l r : Tree) → lacksReading readings (binary o l r) ≡ false
     → (lacksReading readings l ≡ false) × (lacksReading readings r ≡ false)
 operands-read readings o l r e =
-    or-false (lacksReading readings l) (lacksReading readings r) (sym (any-append (λ a. leb (length readings) (indexOf a)) (readingsIn l) (readingsIn r)) ∙ e)
+    both-false (lacksReading readings l) (lacksReading readings r) (sym (any-append (λ a. leb (length readings) (indexOf a)) (readingsIn l) (readingsIn r)) ∙ e)
 
 module _ {bytes lent : List ℕ} {readings : List ℤ} {from : ℕ} (p : Evaluable bytes lent readings from) where
   pub inside : from < length bytes
@@ -108,7 +108,7 @@ module _ {bytes lent : List ℕ} {readings : List ℤ} {from : ℕ} (p : Evaluab
     pub index-inside : getD bytes from 0 - firstReading < length readings
     index-inside =
         let (e, _) = is-leaf (p .ops) bytes from h (p .tree) (p .stands) in
-        let (q, _) = or-false (leb (length readings) (indexOf (getD bytes from 0))) false (ap (lacksReading readings) (sym e) ∙ p .read) in
+        let (q, _) = both-false (leb (length readings) (indexOf (getD bytes from 0))) false (ap (lacksReading readings) (sym e) ∙ p .read) in
         leb-false (length readings) (getD bytes from 0 - firstReading) q
 
     pub leaf-value : {r : ℤ} → r ≡ getD readings (getD bytes from 0 - firstReading) (pos 0) → Values bytes lent readings from (from + 1) r

@@ -1,7 +1,7 @@
 -- The classes of bytes: which byte is of which class, and what the theory needs of them. Assumes nothing.
 use Prim.Native.Nat.{ℕ, _≤_, _<_}
 use native.Mathlib.Omega.{arith}
-use mathlib.Core.Path.{_≡_, refl, sym, _∙_}
+use mathlib.Core.Path.{_≡_, refl, ap, sym, _∙_}
 use mathlib.Core.Bool.{Bool, true, false, true≢false}
 use lib.Dec.{eqb, ltb}
 use borrow.Author.Tests.{ltb-true, ltb-false, lt-ltb, le-ltb, eqb-true, ne-eqb}
@@ -15,6 +15,14 @@ pub record Brackets (k : ℕ → Class) : Type 0 where
   pub closes : k closing ≡ Closing
   pub opening-only : (c : ℕ) → k c ≡ Opening → c ≡ opening
   pub closing-only : (c : ℕ) → k c ≡ Closing → c ≡ closing
+
+-- operators and readings told apart from the rest
+abbrev marked : Class → ℕ
+marked Infix = 1
+marked Opening = 0
+marked Closing = 0
+marked Reading = 2
+marked Meaningless = 0
 
 module _ (ops : Operators) where
   pub class-operator : (c : ℕ) → c < mostOperators → c < ops .count → class ops c ≡ Infix
@@ -42,6 +50,17 @@ module _ (ops : Operators) where
       (λ _. by-cond P (eqb c closing) (λ h. s (eqb-true c closing h))
       (λ _. by-cond P (ltb c firstReading) (λ _. m)
       (λ h. by-cond P (ltb lastReading c) (λ _. m) (λ g. r (ltb-false c firstReading h) (ltb-false lastReading c g))))))
+
+  -- which bytes are operators, and which are readings
+  pub infix-byte : (c : ℕ) → class ops c ≡ Infix → (c < mostOperators) × (c < ops .count)
+  infix-byte c e =
+      by-class (λ x. marked x ≡ 1 → (c < mostOperators) × (c < ops .count)) c (λ h g _. (h, g)) (λ _ q. absurd (omega arith)) (λ _ q. absurd (omega arith))
+      (λ _ _ q. absurd (omega arith)) (λ q. absurd (omega arith)) (ap marked e)
+
+  pub reading-byte : (c : ℕ) → class ops c ≡ Reading → (firstReading ≤ c) × (c ≤ lastReading)
+  reading-byte c e =
+      by-class (λ x. marked x ≡ 2 → (firstReading ≤ c) × (c ≤ lastReading)) c (λ _ _ q. absurd (omega arith)) (λ _ q. absurd (omega arith)) (λ _ q. absurd (omega arith))
+      (λ h g _. (h, g)) (λ q. absurd (omega arith)) (ap marked e)
 
   pub brackets : Brackets (class ops)
   unfolding class

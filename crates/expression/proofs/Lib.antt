@@ -8,3 +8,4 @@ pub mod Strangers
 pub mod Numbers
 pub mod Examples
 pub mod Looking
+pub mod Tests

@@ -17,6 +17,7 @@ use Rattle.expression.specs.Limits.{mostOperators, mostRecordBytes}
 use Rattle.expression.specs.Token.{opening, closing, firstReading, Operators, operators, class}
 use Rattle.expression.specs.Checks.{strangeInRecord}
 use Rattle.expression.proofs.Looking.{Looked, looked-none, looked-more, looked-all}
+use Rattle.expression.proofs.Tests.{at-most-one}
 use Rattle.expression.proofs.Cond.{by-cond}
 use Rattle.expression.proofs.Classes.{class-reading}
 use Rattle.record.specs.Checks.{strangerInRecord, rowLength}
@@ -56,10 +57,6 @@ by-count ops bytes e q = q ∙ ap (λ m. strangerInRecord (operators m) bytes) e
 
 pub ruleset stranger-ways = (by-count, needs)
 
-one-small : (b : Bool) → oneIf b ≤ 1
-one-small true = omega arith
-one-small false = omega arith
-
 -- the tokens of the row
 pub opens-one : (byte : ℕ) → byte ≡ opening → 1 ≡ oneIf (eqb byte opening)
 opens-one byte e = rw (eq-eqb byte opening e)
@@ -69,10 +66,10 @@ opens-none byte e = rw (ne-eqb byte opening e)
 
 module _ (bytes : List ℕ) (at brackets : ℕ) (small : brackets ≤ at) (within : at < length bytes) where
   pub brackets-fit : {v : ℕ} → length bytes ≤ mostRecordBytes → v ≡ oneIf (eqb (getD bytes at 0) opening) → Fits w16 (brackets + v)
-  brackets-fit h e = omega (arith, one-small (eqb (getD bytes at 0) opening))
+  brackets-fit h e = omega (arith, at-most-one (eqb (getD bytes at 0) opening))
 
   pub brackets-small : {v : ℕ} → v ≡ oneIf (eqb (getD bytes at 0) opening) → brackets + v ≤ at + 1
-  brackets-small e = omega (arith, one-small (eqb (getD bytes at 0) opening))
+  brackets-small e = omega (arith, at-most-one (eqb (getD bytes at 0) opening))
 
 pub brackets-on : (bytes : List ℕ) (at brackets : ℕ) {v : ℕ} → at < length bytes → v ≡ oneIf (eqb (getD bytes at 0) opening)
     → brackets + howMany (λ c. eqb c opening) (drop at bytes) ≡ howMany (λ c. eqb c opening) bytes
