@@ -28,7 +28,7 @@ use Rattle.record.specs.Counts.{excludedLeft}
 use Rattle.record.specs.declared.Answer.{Answer}
 use Rattle.parser.specs.Build.{built}
 use Rattle.parser.specs.Answers.{AnswersRepair}
-use Rattle.parser.proofs.BuildLaws.{quiet, BuiltTree, built-tree}
+use Rattle.parser.proofs.BuildLaws.{BuiltTree, built-tree}
 use Rattle.parser.proofs.RepairWays.{Accepted, accepted-record}
 use Rattle.brackets.specs.Shortest.{shortened, shortestOf, shortestNumber, AnswersShortest}
 use Rattle.brackets.specs.Walk.{rowUnder, StandsWithRoom, Shortens}
@@ -60,8 +60,8 @@ module _ (sheet bytes out zeros : List ℕ) {held : List ℕ} {y : Answer} (room
     known = accepted-record ops bytes (sym number-is ∙ zero)
 
     -- what is built of the record's row is a tree without a conflict
-    made : (t : Tree) × BuiltTree (closesIn sheet) (quiet sheet) ops row t
-    made = built-tree (closesIn sheet) (quiet sheet) ops row (known .is-row)
+    made : (t : Tree) × BuiltTree (closesIn sheet) ops row t
+    made = built-tree (closesIn sheet) ops row (known .is-row)
 
     abbrev tree : Tree
     tree = made .0

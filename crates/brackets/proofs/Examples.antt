@@ -6,6 +6,8 @@ use Rattle.expression.specs.Lists.{All}
 use Rattle.expression.specs.Token.{operators, class}
 use Rattle.expression.specs.Decode.{treeOf}
 use Rattle.disambiguation.specs.Rules.{L, R}
+use Rattle.disambiguation.specs.LeftToRight.{parse, made}
+use Rattle.disambiguation.specs.Repair.{repair}
 use Rattle.disambiguation.specs.SheetChecks.{rulesOf}
 use Rattle.disambiguation.specs.Cases.{sheetA}
 use Rattle.brackets.specs.Shortest.{shortestBy}
@@ -31,5 +33,5 @@ examples =
     ∷ []
 
 pub examples-hold : All Holds examples
-unfolding class treeOf L R
+unfolding class treeOf L R parse made repair
 examples-hold = (refl, (refl, (refl, (refl, (refl, tt)))))

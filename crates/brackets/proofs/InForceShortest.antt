@@ -10,13 +10,14 @@ use Rattle.expression.specs.Operand.{rowOf}
 use Rattle.expression.proofs.Classes.{brackets}
 use Rattle.expression.proofs.RecordsAndTrees.{treeOf-record, record-treeOf}
 use Rattle.disambiguation.specs.Rules.{Rule, L, R}
+use Rattle.disambiguation.specs.LeftToRight.{parse, made}
 use Rattle.disambiguation.specs.Repair.{repair}
 use Rattle.disambiguation.proofs.TestsDecide.{infix-below}
 use Rattle.disambiguation.proofs.Accepted.{accepted-passes, repair-is}
 use Rattle.sheet.specs.Relation.{closesIn}
 use Rattle.sheet.specs.InForce.{InForce}
 use Rattle.record.specs.Counts.{excludedLeft}
-use Rattle.parser.specs.Build.{progressOf, built}
+use Rattle.parser.specs.Build.{built}
 use Rattle.parser.proofs.InForceBuilds.{built-repairs}
 use Rattle.brackets.specs.Enclosed.{enclosed}
 use Rattle.brackets.specs.Shortest.{enclosedIn, shortened, shortestOf, shortestBy}
@@ -31,7 +32,7 @@ module _ (sheet : List ℕ) (ops : Operators) (rules : List Rule) (k : InForce s
 
   -- what the call answers is what the rules say
   pub shortest-by-rules : (bytes : List ℕ) → shortestOf sheet bytes ≡ shortestBy rules (treeOf (class ops) bytes)
-  unfolding shortestOf treeOf built progressOf
+  unfolding shortestOf treeOf built made parse
   shortest-by-rules bytes =
       ap (λ o. shortened sheet (treeOf (class o) (built (closesIn sheet) (rowOf (treeOf (class o) bytes))))) (k .operators) ∙ go (treeOf (class ops) bytes) refl
     where

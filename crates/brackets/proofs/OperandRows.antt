@@ -12,11 +12,15 @@ use Rattle.disambiguation.specs.Edges.{seenFromRight}
 use Rattle.disambiguation.proofs.Free.{all}
 use Rattle.sheet.specs.Relation.{closesIn}
 use Rattle.record.specs.Counts.{excludedLeft}
-use Rattle.parser.proofs.BuildLaws.{quiet}
 use Rattle.brackets.specs.Enclosed.{around}
 use Rattle.brackets.specs.Shortest.{enclosedIn}
 use Rattle.brackets.specs.Walk.{shows, shown, rowUnder}
 use Rattle.brackets.proofs.Enclosing.{any-agree}
+
+-- a bracket closes before nothing
+quiet : (sheet : List ℕ) (b : ℕ) → closesIn sheet opening b ≡ false
+unfolding closesIn
+quiet sheet b = refl
 
 module _ (sheet : List ℕ) where
   -- an operator on top is what is seen

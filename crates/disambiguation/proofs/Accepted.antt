@@ -14,7 +14,7 @@ use Rattle.disambiguation.specs.Verdict.{safe, total, level, verdict}
 use Rattle.disambiguation.specs.Repair.{repair}
 use Rattle.disambiguation.proofs.BelowLaws.{and-true, allPairs-at}
 use Rattle.disambiguation.proofs.TestsDecide.{infix-below, safe-safe}
-use Rattle.disambiguation.proofs.Insertion.{yield-repair, over-repair, repair-conflict-free}
+use Rattle.disambiguation.proofs.Repaired.{repair-makes, yield-repair, repair-safe}
 use Rattle.disambiguation.proofs.Agreement.{conflicts-agree}
 use Rattle.disambiguation.proofs.VerdictDecides.{tests-unique}
 
@@ -63,9 +63,9 @@ module _ (ops : Operators) (rules : List Rule) where
     pub repair-is : (t : Tree) → Over (class ops) t → ConflictFreeTree ops rules (yield t) (repair (R rules) t)
     repair-is t h =
         record {
-          over = over-repair (R rules) (class ops) t h;
-          yields = yield-repair (R rules) t;
-          free = repair-conflict-free (L rules) (R rules) (class ops) (safe-safe ops (L rules) (R rules) (passes .is-safe)) t h;
+          over = repair-makes (R rules) ops t h .over;
+          yields = yield-repair (R rules) ops t h;
+          free = repair-safe (R rules) ops t h (L rules) (safe-safe ops (L rules) (R rules) (passes .is-safe));
         }
 
     -- which is the only one,
@@ -82,6 +82,6 @@ module _ (ops : Operators) (rules : List Rule) where
     -- and two trees repair to one exactly if their rows are the same.
     pub repair-equal-exactly-if : (t u : Tree) → Over (class ops) t → Over (class ops) u → (repair (R rules) t ≡ repair (R rules) u) ↔ (yield t ≡ yield u)
     repair-equal-exactly-if t u ht hu = (
-      λ e. sym (yield-repair (R rules) t) ∙ ap yield e ∙ yield-repair (R rules) u,
+      λ e. sym (yield-repair (R rules) ops t ht) ∙ ap yield e ∙ yield-repair (R rules) ops u hu,
       λ e. only-one (yield t) (repair (R rules) t) (repair (R rules) u) (repair-is t ht) (rw (← e) at (repair-is u hu)),
     )

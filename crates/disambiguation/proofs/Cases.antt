@@ -13,6 +13,8 @@ use Rattle.disambiguation.specs.Rules.{L, R}
 use Rattle.disambiguation.specs.Below.{allBelow}
 use Rattle.disambiguation.specs.Verdict.{safe, total, within, level}
 use Rattle.disambiguation.specs.SheetChecks.{rulesOf, sheetNumber}
+use Rattle.disambiguation.specs.LeftToRight.{parse, made}
+use Rattle.disambiguation.specs.Repair.{repair}
 use Rattle.disambiguation.specs.ExactlyOne.{HasTwo}
 use Rattle.disambiguation.specs.Cases.{Holds, round, table}
 use Rattle.disambiguation.specs.Misreadings.{misreadings}
@@ -35,7 +37,7 @@ abbrev _next_ : {A B : Type 0} → A → B → A × B
 a next b = (a, b)
 
 pub cases-hold : All Holds table
-unfolding class isRow treeOf rowNumber recordNumber L R allBelow safe total within level sheetNumber
+unfolding class isRow treeOf rowNumber recordNumber L R allBelow safe total within level sheetNumber parse made repair
 cases-hold =
     (refl, (w, (refl, refl), record { over = refl; yields = refl; free = refl }))
     next (refl, (binary 0 w (binary 1 x y), (refl, refl), record { over = (refl, refl, (refl, refl, refl)); yields = refl; free = refl }))
@@ -57,7 +59,7 @@ cases-hold =
     next tt
 
 pub misreadings-hold : All Holds misreadings
-unfolding class isRow treeOf rowNumber recordNumber L R allBelow safe total within level sheetNumber
+unfolding class isRow treeOf rowNumber recordNumber L R allBelow safe total within level sheetNumber parse made repair
 misreadings-hold =
     (binary 0 w (binary 1 x y), (refl, refl), refl)
     next (binary 0 (binary 1 w x) y, (refl, refl), refl)

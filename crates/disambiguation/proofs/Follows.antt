@@ -9,8 +9,9 @@ use Rattle.expression.specs.Token.{Class, opening, closing}
 use Rattle.expression.specs.Tree.{Tree, reading, bracket, binary, yield, Over}
 use Rattle.expression.proofs.Classes.{Brackets}
 use Rattle.disambiguation.specs.Edges.{rightEdge, leftEdge}
+use Rattle.disambiguation.specs.LeftToRight.{after, Stack, bottom, opened, waiting, due, have, close, everything, whole, finish, whereDue, before, run, parse}
 use Rattle.disambiguation.proofs.Free.{all, None}
-use Rattle.disambiguation.proofs.LeftToRight.{after, Stack, bottom, opened, waiting, due, have, close, everything, whole, finish, whereDue, before, run, parse, run-append, Holds}
+use Rattle.disambiguation.proofs.LeftToRight.{run-append, Holds}
 
 -- t with its right edge open on the stack, and the operand at the edge's end
 abbrev laid : Tree → Stack → Stack

@@ -3,7 +3,11 @@ pub mod Conditions
 pub mod LeftToRight
 pub mod Follows
 pub mod Unique
-pub mod Insertion
+pub mod MachineInvariant
+pub mod MakesTree
+pub mod SafeMakes
+pub mod ClassesAgree
+pub mod Repaired
 pub mod FewOperators
 pub mod Converse
 pub mod BelowLaws

@@ -16,9 +16,8 @@ use Rattle.disambiguation.specs.Rules.{Rule, L, R}
 use Rattle.disambiguation.specs.Conflicts.{ConflictFreeTree}
 use Rattle.disambiguation.specs.ExactlyOne.{SomeRowHasNone, EveryRowHasOne, SomeRowHasTwo, EveryRowHasExactlyOne}
 use Rattle.disambiguation.specs.Verdict.{safe, total, level, verdict}
-use Rattle.disambiguation.specs.Repair.{repair}
 use Rattle.disambiguation.proofs.BelowLaws.{and-true, and-false}
-use Rattle.disambiguation.proofs.Insertion.{yield-repair, over-repair, repair-conflict-free}
+use Rattle.disambiguation.proofs.SafeMakes.{makes-safe}
 use Rattle.disambiguation.proofs.Unique.{unique}
 use Rattle.disambiguation.proofs.Converse.{Twins, not-safe, not-total, not-transitive, not-cotransitive}
 use Rattle.disambiguation.proofs.TestsDecide.{safe-safe, total-total, level-transitive, level-cotransitive, safe-fails, total-fails, Uneven, level-fails}
@@ -46,14 +45,9 @@ module _ (ops : Operators) (rules : List Rule) where
 
   pub safe-has-one : safe ops (L rules) (R rules) ≡ true → EveryRowHasOne ops rules
   safe-has-one e row r =
-      let (t, h, q) = row-exactly-if-yielded ops row .0 r in (
-        repair (R rules) t,
-        record {
-          over = over-repair (R rules) (class ops) t h;
-          yields = yield-repair (R rules) t ∙ q;
-          free = repair-conflict-free (L rules) (R rules) (class ops) (safe-safe ops (L rules) (R rules) e) t h;
-        },
-      )
+      let (t₀, h, q) = row-exactly-if-yielded ops row .0 r in
+      let (t, m, f) = makes-safe (L rules) (R rules) (class ops) (safe-safe ops (L rules) (R rules) e) (brackets ops) t₀ h in
+      (t, record { over = m .over; yields = m .yields-row ∙ q; free = f })
 
   pub tests-unique : total ops (L rules) (R rules) ≡ true → level ops (R rules) ≡ true → (row : List ℕ) (t u : Tree)
       → ConflictFreeTree ops rules row t → ConflictFreeTree ops rules row u → t ≡ u

@@ -5,6 +5,7 @@ pub mod ExactlyOne
 pub mod Below
 pub mod Verdict
 pub mod SheetChecks
+pub mod LeftToRight
 pub mod Repair
 pub mod Cases
 pub mod Misreadings

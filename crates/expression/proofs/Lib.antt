@@ -9,3 +9,4 @@ pub mod Numbers
 pub mod Examples
 pub mod Looking
 pub mod Tests
+pub mod Stores

@@ -1,6 +1,6 @@
 -- What each way through the calls of the parser gives, from what is known on it. Assumes nothing.
 use mathlib.Core.Path.{_≡_, refl, sym, ap, ap₂, _∙_}
-use mathlib.Core.Bool.{Bool, true, false, not}
+use mathlib.Core.Bool.{not}
 use mathlib.Core.List.{List, [], _∷_, _++_}
 use Prim.Native.Nat.{ℕ, _+_, _-_, _<_, _≤_}
 use native.Mathlib.Omega.{arith}
@@ -8,11 +8,10 @@ use native.Mathlib.Numerals.{add-one}
 use mir.Val.{Fits}
 use mir.Syntax.{w16}
 use lib.Dec.{eqb}
-use lib.ListN.{length, getD, take, drop, length-drop}
+use lib.ListN.{length, getD, take, drop}
 use lib.Seq.{take-suc, take-all, length-take-le}
 use borrow.Author.Tests.{ne-eqb}
 use borrow.Author.Needs.{needs}
-use Rattle.expression.specs.Lists.{oneIf}
 use Rattle.expression.specs.Limits.{mostTokens}
 use Rattle.expression.specs.Token.{closing}
 use Rattle.expression.specs.Checks.{recordBytes, shortCheck, rowChecks, rowNumber, buildNumber}
@@ -21,9 +20,10 @@ use Rattle.expression.proofs.Numbers.{first-refused, first-short, first-roomy, 
 use Rattle.sheet.specs.Layout.{operatorsOf}
 use Rattle.sheet.specs.Relation.{closesIn}
 use Rattle.parser.specs.Build.{built}
-use Rattle.parser.specs.Fronts.{share, Lays}
+use Rattle.parser.specs.Reading.{share, Buildable}
 use Rattle.parser.specs.Answers.{AnswersBuild}
-use Rattle.parser.proofs.BuildLaws.{quiet, built-length-accepted}
+use Rattle.parser.proofs.BuildLaws.{built-length-accepted, accepted-buildable}
+use Rattle.parser.proofs.BuildWays.{share-small}
 
 -- ---- share_of
 pub share-none : (c : ℕ) → c ≡ closing → 0 ≡ share c
@@ -37,14 +37,6 @@ share-byte c n = rw (ne-eqb c closing n)
 pub ruleset share-ways = (share-none, share-byte, needs)
 
 -- ---- record_bytes
-share-small : (c : ℕ) → share c ≤ 1
-unfolding share
-share-small c = go (eqb c closing)
-  where
-    go : (b : Bool) → oneIf (not b) ≤ 1
-    go true = omega arith
-    go false = omega arith
-
 module _ (row : List ℕ) where
   -- so many bytes for the tokens before the place
   pub record Counted (counted i : ℕ) : Type 0 where
@@ -96,15 +88,11 @@ module _ (sheet row out : List ℕ) where
         }
 
     -- the whole part is the record, and what lies past it is as before
-    pub build-done : {part : List ℕ} {at : ℕ} → m ≤ length out → Lays (closesIn sheet) row (take (m - 0) out) part at
-        → AnswersBuild sheet row out (part ++ drop (m - 0) out) (record { number = 0; length = m })
+    pub build-done : {part : List ℕ} → m ≤ length out → part ≡ built (closesIn sheet) row → AnswersBuild sheet row out (part ++ drop (m - 0) out) (record { number = 0; length = m })
     unfolding rowNumber buildNumber
-    build-done {part} {at} h l =
-        let long : length (built (closesIn sheet) row) ≡ m = built-length-accepted (closesIn sheet) (quiet sheet) (operatorsOf sheet) row (sym e ∙ f) ∙ sym b in
-        let size : length part ≡ m = l .same-length ∙ length-take-le (m - 0) out (omega arith) ∙ omega arith in
-        let start : at ≡ 0 = omega (arith, length-drop at part, ap length (l .held), long, size, l .inside) in
+    build-done h same =
+        let long : length (built (closesIn sheet) row) ≡ m = built-length-accepted (closesIn sheet) (operatorsOf sheet) row (sym e ∙ f) ∙ sym b in
         let ends : m - 0 ≡ length (built (closesIn sheet) row) = omega (arith, long) in
-        let same : part ≡ built (closesIn sheet) row = ap (λ x. drop x part) (sym start) ∙ l .held in
         record {
           numbered = sym (first-roomy (rowChecks (operatorsOf sheet) row) (recordBytes row) (length out) (sym e ∙ f) (row-numbered (operatorsOf sheet) row) (omega arith));
           measured = sym long;
@@ -114,7 +102,10 @@ module _ (sheet row out : List ℕ) where
   pub few-tokens : {number : ℕ} → number ≡ rowNumber (operatorsOf sheet) row → number ≡ 0 → length row ≤ mostTokens
   few-tokens e f = row-accepted (operatorsOf sheet) row .0 (sym e ∙ f) .0
 
-pub room-for-record : (row out : List ℕ) {m : ℕ} → m ≡ recordBytes row → m ≤ length out → recordBytes row ≤ length (take (m - 0) out)
-room-for-record row out {m} b h = omega (arith, length-take-le (m - 0) out (omega arith))
+  pub can-build : {number : ℕ} → number ≡ rowNumber (operatorsOf sheet) row → number ≡ 0 → Buildable (closesIn sheet) row
+  can-build e f = accepted-buildable (closesIn sheet) (operatorsOf sheet) row (sym e ∙ f)
 
-pub ruleset build-row-ways = (build-refused, build-short, build-done, few-tokens, room-for-record, needs)
+pub room-for-record : (row out : List ℕ) {m : ℕ} → m ≡ recordBytes row → m ≤ length out → length (take (m - 0) out) ≡ recordBytes row
+room-for-record row out {m} b h = length-take-le (m - 0) out (omega arith) ∙ omega (arith, b)
+
+pub ruleset build-row-ways = (build-refused, build-short, build-done, few-tokens, can-build, room-for-record, needs)

@@ -1,112 +1,140 @@
--- What each way through `build_into` gives, from what is known on it. Assumes nothing.
-use mathlib.Core.Path.{_≡_, refl, sym, ap, ap₂, _∙_}
-use mathlib.Core.Bool.{Bool, not}
+-- What each way through `read_row` and `build_into` gives, from what is known on it. Assumes nothing.
+use mathlib.Core.Path.{_≡_, refl, sym, ap, subst, _∙_}
+use mathlib.Core.Bool.{Bool, true, false, not}
+use mathlib.Core.Option.{some}
 use mathlib.Core.List.{List, [], _∷_}
-use Prim.Native.Nat.{ℕ, suc, _+_, _-_, _<_, _≤_}
+use Prim.Native.Nat.{ℕ, suc, _+_, _<_, _≤_}
 use native.Mathlib.Omega.{arith}
+use native.Mathlib.Numerals.{add-one}
 use lib.Dec.{eqb}
-use lib.ListN.{length, getD, take, drop, drop-of-length-le}
-use lib.Seq.{drop-cons, take-suc, take-length, drop-length}
+use lib.ListN.{length, getD, take, drop}
+use lib.Seq.{take-suc, take-all, split-at}
 use borrow.Author.Needs.{needs}
+use Rattle.expression.specs.Lists.{oneIf}
 use Rattle.expression.specs.Limits.{mostTokens}
-use Rattle.expression.specs.Token.{opening, closing}
+use Rattle.expression.specs.Token.{closing}
+use Rattle.expression.specs.Tree.{Tree, recordOf}
 use Rattle.expression.specs.Checks.{recordBytes}
-use Rattle.expression.proofs.Lengths.{count-append}
-use Rattle.parser.specs.Build.{progress, settleAll, step, progressOf, built}
-use Rattle.parser.specs.Fronts.{heldFrom, operatorsIn, share, Roomy, Settles, Takes, Lays}
-use Rattle.parser.specs.declared.build.Fronts.{Fronts}
+use Rattle.disambiguation.specs.LeftToRight.{bottom, State, due, have, stuck, finish, run, parse, made}
+use Rattle.disambiguation.proofs.LeftToRight.{run-append}
+use Rattle.parser.specs.Build.{recordIn, built}
+use Rattle.parser.specs.Notes.{notesOf, notesAt, laidOut, Inside}
+use Rattle.parser.specs.Reading.{share, classOf, next, Goes, Noted, Takeable, Takes, Buildable, Reads}
+use Rattle.parser.specs.declared.build.Front.{Front}
+use Rattle.parser.proofs.NoteLaws.{length-notesOf}
+use Rattle.parser.proofs.Closing.{finished-notes}
+use Rattle.parser.proofs.Laying.{enough-words, words-inside, words-laid}
+use Rattle.parser.proofs.OperandWays.{count-is}
 
-module _ (closes : ℕ → ℕ → Bool) (row out : List ℕ) where
-  -- The tokens from i on are taken, and there is room for the rest.
-  pub record Building (out′ stack : List ℕ) (f : Fronts) (i : ℕ) : Type 0 where
-    pub held : heldFrom out′ stack f ≡ progressOf closes (drop i row)
-    pub same-length : length out′ ≡ length out
-    pub roomy : Roomy (recordBytes (take i row)) out′ stack f
-    pub top-above : i ≤ f .top
+pub share-small : (c : ℕ) → share c ≤ 1
+unfolding share
+share-small c = go (eqb c closing)
+  where
+    go : (b : Bool) → oneIf (not b) ≤ 1
+    go true = omega arith
+    go false = omega arith
+
+-- ---- the machine on a row that it makes a tree of
+module _ (closes : ℕ → ℕ → Bool) where
+  -- the state after tokens
+  abbrev after : List ℕ → State
+  after tokens = run closes classOf tokens (due bottom)
+
+  run-stuck : (tokens : List ℕ) → run closes classOf tokens stuck ≡ stuck
+  run-stuck [] = refl
+  run-stuck (c ∷ tokens) = run-stuck tokens
+
+  goes-on : (m : State) (rest : List ℕ) (t : Tree) → finish (run closes classOf rest m) ≡ some t → Goes m
+  goes-on (due s) rest t e = tt
+  goes-on (have s u) rest t e = tt
+  goes-on stuck rest t e = let none-is-some = ap finish (sym (run-stuck rest)) ∙ e in let clash : _≡_ {A = ℕ} 0 1 = cc in omega arith
+
+  made-finishes : (row : List ℕ) (t : Tree) → made closes row ≡ some t → finish (after row) ≡ some t
+  unfolding made parse
+  made-finishes row t e = e
+
+-- ---- read_row
+module _ (closes : ℕ → ℕ → Bool) (row : List ℕ) where
+  -- the tokens before i are taken
+  pub record Reading (words : List ℕ) (f : Front) (i : ℕ) : Type 0 where
+    pub stands : Noted words f (after closes (take i row))
+    pub first-inside : f .first ≤ f .count
+    pub few : f .count ≤ i
     pub inside : i ≤ length row
 
-  no-operators : operatorsIn [] ≡ 0
-  unfolding operatorsIn
-  no-operators = refl
-
-  pub building-starts : (stack : List ℕ) → length stack ≡ mostTokens → length row ≤ mostTokens → recordBytes row ≤ length out
-      → Building out stack (record { at = length out; top = mostTokens }) (length row)
-  unfolding progressOf
-  building-starts stack size few fits =
-      let past : length stack ≤ mostTokens = omega arith in
-      let empty = drop-of-length-le stack past in
+  pub reading-starts : (words : List ℕ) → length words ≡ mostTokens → Reading words (record { count = 0; first = 0 }) 0
+  reading-starts words size =
       record {
-        held = ap₂ progress (drop-length out) empty ∙ ap (progressOf closes) (sym (drop-length row));
-        same-length = refl;
-        roomy = record {
-          stack-size = size;
-          at-inside = omega arith;
-          top-inside = omega arith;
-          room = rw (empty, no-operators, take-length row) (omega arith);
-        };
-        top-above = few;
+        stands = record { noted = refl; begins = tt; over = tt; size = size; inside = omega arith };
+        first-inside = omega arith;
+        few = omega arith;
         inside = omega arith;
       }
 
-  -- the token before the place
-  module _ {i : ℕ} (positive : 0 < i) (inside : i ≤ length row) where
-    last-share : recordBytes (take i row) ≡ recordBytes (take (i - 1) row) + share (getD row (i - 1) 0)
-    unfolding share
-    last-share =
-        let e : i ≡ suc (i - 1) = omega arith in
-        ap (λ x. recordBytes (take x row)) e ∙ ap recordBytes (take-suc row (i - 1) 0 (omega arith))
-        ∙ count-append (λ c. not (eqb c closing)) (take (i - 1) row) (getD row (i - 1) 0 ∷ []) ∙ omega arith
+  one-more : (i : ℕ) → i < length row → after closes (take (i + 1) row) ≡ next closes (getD row i 0) (after closes (take i row))
+  one-more i h = ap (after closes) (ap (λ k. take k row) (add-one i) ∙ take-suc row i 0 h) ∙ run-append closes classOf (take i row) (getD row i 0 ∷ []) (due bottom)
 
-    one-more : drop (i - 1) row ≡ getD row (i - 1) 0 ∷ drop i row
-    one-more = let e : suc (i - 1) ≡ i = omega arith in drop-cons row (i - 1) 0 (omega arith) ∙ ap (λ x. getD row (i - 1) 0 ∷ drop x row) e
+  goes : (i : ℕ) → i < length row → Buildable closes row → Goes (next closes (getD row i 0) (after closes (take i row)))
+  goes i h b =
+      goes-on closes (next closes (getD row i 0) (after closes (take i row))) (drop (suc i) row) (b .tree)
+      (sym (ap (λ r. finish (after closes r)) (split-at row i 0 h) ∙ ap finish (run-append closes classOf (take i row) (getD row i 0 ∷ drop (suc i) row) (due bottom)))
+      ∙ made-finishes closes row (b .tree) (b .makes))
 
-  module _ {out′ stack : List ℕ} {f : Fronts} {i : ℕ} (b : Building out′ stack f i) where
-    pub token-roomy : 0 < i → Roomy (share (getD row (i - 1) 0)) out′ stack f
-    token-roomy h =
-        let s = last-share h (b .inside) in
-        let r = b .roomy in
-        record { stack-size = r .stack-size; at-inside = r .at-inside; top-inside = r .top-inside; room = omega (arith, r .room, s) }
+  module _ {words : List ℕ} {f : Front} {i : ℕ} (r : Reading words f i) where
+    pub token-takeable : i < length row → Buildable closes row → Takeable closes (getD row i 0) words f
+    token-takeable h b = record { state = after closes (take i row); stands = r .stands; goes = goes i h b }
 
-    pub top-positive : 0 < i → 0 < f .top
-    top-positive h = omega (arith, b .top-above)
+    pub token-room : i < length row → length row ≤ mostTokens → f .count < mostTokens
+    token-room h l = omega (arith, r .few)
 
-    pub token-inside : 0 < i → i - 1 < length row
-    token-inside h = omega (arith, b .inside)
+    pub token-first : f .first ≤ f .count
+    token-first = r .first-inside
 
-    pub building-more : {out″ stack′ : List ℕ} {g : Fronts} → 0 < i → Takes closes (getD row (i - 1) 0) out′ stack f out″ stack′ g → Building out″ stack′ g (i - 1)
-    unfolding progressOf
-    building-more h t =
-        let s = last-share h (b .inside) in
-        let r = b .roomy in
+    pub reading-more : {words′ : List ℕ} {g : Front} → i < length row → Buildable closes row → Takes closes (getD row i 0) words f words′ g → Reading words′ g (i + 1)
+    reading-more {words′} {g} h b t =
         record {
-          held = t .held ∙ ap (step closes (getD row (i - 1) 0)) (b .held) ∙ ap (progressOf closes) (sym (one-more h (b .inside)));
-          same-length = t .same-length ∙ b .same-length;
-          roomy = record {
-            stack-size = t .same-stack ∙ r .stack-size;
-            at-inside = omega (arith, t .at-lower, t .same-length, r .at-inside);
-            top-inside = omega (arith, t .top-inside, t .same-stack);
-            room = omega (arith, t .spent, r .room, s);
-          };
-          top-above = omega (arith, b .top-above, t .one-more);
-          inside = omega (arith, b .inside);
+          stands = subst (λ m. Noted words′ g m) (sym (one-more i h)) (t .taken (after closes (take i row)) (r .stands) (goes i h b));
+          first-inside = t .first-inside;
+          few = omega (arith, t .counted, r .few, share-small (getD row i 0));
+          inside = omega arith;
         }
 
-    pub building-roomy : Roomy 0 out′ stack f
-    building-roomy =
-        let r = b .roomy in
-        record { stack-size = r .stack-size; at-inside = r .at-inside; top-inside = r .top-inside; room = omega (arith, r .room) }
+    pub reading-done : length row ≤ i → Reads closes row words
+    reading-done h =
+        let noted : (t : Tree) → made closes row ≡ some t → take (f .count) words ≡ notesOf 0 0 t =
+        λ t e. r .stands .noted ∙ ap (λ x. notesAt (after closes x)) (take-all i row h) ∙ finished-notes (after closes row) t (made-finishes closes row t e) in
+        let long : (t : Tree) → made closes row ≡ some t → f .count ≡ length (recordOf t) =
+        λ t e. count-is (r .stands) ∙ ap length (sym (r .stands .noted) ∙ noted t e) ∙ length-notesOf 0 0 t in
+        record {
+          noted = λ t e. ap (λ n. take n words) (sym (long t e)) ∙ noted t e;
+          few = λ t e. omega (arith, long t e, r .stands .inside);
+        }
 
-    pub building-done : {out″ : List ℕ} {g : Fronts} → i ≤ 0 → Settles closes opening out′ stack f out″ g → Lays closes row out out″ (g .at)
+pub ruleset read-ways = (reading-starts, token-takeable, token-room, token-first, reading-more, reading-done, needs)
+
+-- ---- build_into
+module _ (closes : ℕ → ℕ → Bool) (row out : List ℕ) (b : Buildable closes row) (size : length out ≡ recordBytes row) where
+  fills : length (recordOf (b .tree)) ≡ length out
+  fills = b .measured ∙ sym size
+
+  module _ {words : List ℕ} (r : Reads closes row words) where
+    noted : take (length (recordOf (b .tree))) words ≡ notesOf 0 0 (b .tree)
+    noted = r .noted (b .tree) (b .makes)
+
+    few : length (recordOf (b .tree)) ≤ 255
+    few = r .few (b .tree) (b .makes)
+
+    pub out-few : length out ≤ mostTokens
+    out-few = omega (arith, few, fills)
+
+    pub out-enough : length out ≤ length words
+    out-enough = enough-words (b .tree) (b .over) few words (length (recordOf (b .tree))) noted out fills
+
+    pub out-inside : Inside (length out) (take (length out) words) 0 0
+    out-inside = words-inside (b .tree) (b .over) few words (length (recordOf (b .tree))) noted out fills
+
+    pub out-built : {out′ : List ℕ} → out′ ≡ laidOut (take (length out) words) 0 0 out → out′ ≡ built closes row
     unfolding built
-    building-done h s =
-        let e : i ≡ 0 = omega arith in
-        record {
-          inside = omega (arith, s .at-lower, s .same-length, b .roomy .at-inside);
-          held = ap (λ x. x .done) (s .held ∙ ap (settleAll closes opening) (b .held ∙ ap (λ x. progressOf closes (drop x row)) e));
-          same-length = s .same-length ∙ b .same-length;
-        }
+    out-built e = e ∙ words-laid (b .tree) (b .over) few words (length (recordOf (b .tree))) noted out fills ∙ sym (ap recordIn (b .makes))
 
-    pub building-length : {out″ : List ℕ} {g : Fronts} → Settles closes opening out′ stack f out″ g → length out″ ≡ length out
-    building-length s = s .same-length ∙ b .same-length
-
-pub ruleset build-ways = (building-starts, token-roomy, top-positive, token-inside, building-more, building-roomy, building-done, needs)
+pub ruleset build-ways = (out-few, out-enough, out-inside, out-built, needs)

@@ -1,11 +1,10 @@
 -- Under a sheet in force, what is built of a row is the record of the row's conflict-free tree, the only one. Assumes nothing.
 use Prim.Native.Nat.{ℕ}
 use mathlib.Core.Path.{_≡_, refl, ap, sym, _∙_}
-use mathlib.Core.Bool.{false}
 use mathlib.Core.Logic.{_↔_}
 use mathlib.Core.List.{List}
 use lib.ListN.{length}
-use Rattle.expression.specs.Token.{opening, Operators, class}
+use Rattle.expression.specs.Token.{Operators, class}
 use Rattle.expression.specs.Tree.{Tree, yield, recordOf, Over}
 use Rattle.expression.specs.Grammar.{Row}
 use Rattle.expression.proofs.Classes.{brackets}
@@ -20,16 +19,13 @@ use Rattle.sheet.specs.Relation.{closesIn}
 use Rattle.sheet.specs.InForce.{InForce}
 use Rattle.sheet.proofs.Laws.{count-by-relation}
 use Rattle.parser.specs.Build.{built}
-use Rattle.parser.proofs.BuildLaws.{quiet, built-tree}
+use Rattle.parser.proofs.BuildLaws.{built-tree}
 
 module _ (s : List ℕ) (ops : Operators) (rules : List Rule) (in-force : InForce s ops rules) where
-  silent : (b : ℕ) → closesIn s opening b ≡ false
-  silent b = quiet s b
-
   -- A built row is the record of the row's conflict-free tree.
   pub built-conflict-free : (row : List ℕ) → Row ops row → (t : Tree) × ConflictFreeTree ops rules row t × (built (closesIn s) row ≡ recordOf t)
   built-conflict-free row r =
-      let (t, b) = built-tree (closesIn s) silent ops row r in
+      let (t, b) = built-tree (closesIn s) ops row r in
       (t, record { over = b .over; yields = b .yields-row; free = count-by-relation s ops rules in-force t (b .over) ∙ b .free }, b .recorded)
 
   pub one-tree : (row : List ℕ) (t u : Tree) → ConflictFreeTree ops rules row t → ConflictFreeTree ops rules row u → t ≡ u

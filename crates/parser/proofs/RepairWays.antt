@@ -3,7 +3,7 @@ use mathlib.Core.Path.{_≡_, refl, sym, ap, ap₂, _∙_}
 use mathlib.Core.List.{List, [], _∷_, _++_}
 use Prim.Native.Nat.{ℕ, _+_, _-_, _<_, _≤_}
 use native.Mathlib.Omega.{arith}
-use lib.ListN.{length, take, drop, length-drop, length-append}
+use lib.ListN.{length, take, drop, length-append}
 use lib.Seq.{take-at, length-take-le}
 use borrow.Author.Tests.{ne-eqb}
 use borrow.Author.Needs.{needs}
@@ -24,9 +24,9 @@ use Rattle.sheet.specs.Relation.{closesIn}
 use Rattle.record.specs.Answers.{Yields}
 use Rattle.record.specs.declared.Answer.{Answer}
 use Rattle.parser.specs.Build.{built}
-use Rattle.parser.specs.Fronts.{Lays}
+use Rattle.parser.specs.Reading.{Buildable}
 use Rattle.parser.specs.Answers.{AnswersRepair}
-use Rattle.parser.proofs.BuildLaws.{quiet, built-length}
+use Rattle.parser.proofs.BuildLaws.{row-buildable, built-length}
 
 module _ (ops : Operators) (bytes : List ℕ) where
   abbrev rowHere : List ℕ
@@ -98,26 +98,26 @@ module _ (sheet bytes out row : List ℕ) {row′ : List ℕ} {y : Answer} (room
     pub repair-few : length (take (y .length - 0) row′) ≤ mostTokens
     repair-few = rw laid (known .fits)
 
-    pub repair-room : length bytes ≤ length out → recordBytes (take (y .length - 0) row′) ≤ length (take (length bytes - 0) out)
-    repair-room h = omega (arith, ap recordBytes laid, known .same-length, length-take-le (length bytes - 0) out (omega arith))
+    pub repair-room : length bytes ≤ length out → length (take (length bytes - 0) out) ≡ recordBytes (take (y .length - 0) row′)
+    repair-room h = length-take-le (length bytes - 0) out (omega arith) ∙ omega (arith, ap recordBytes laid, known .same-length)
+
+    pub repair-buildable : Buildable (closesIn sheet) (take (y .length - 0) row′)
+    repair-buildable = rw laid (row-buildable (closesIn sheet) (operatorsOf sheet) (rowHere (operatorsOf sheet) bytes) (known .is-row))
 
     pub repair-part : y .length ≤ length row′
     repair-part = omega (arith, tokens-are, known .fits, room, ap length filled, length-append (rowHere (operatorsOf sheet) bytes) (drop (length (rowHere (operatorsOf sheet) bytes)) row))
 
-    pub repair-done : {part : List ℕ} {at : ℕ} → length bytes ≤ length out → Lays (closesIn sheet) (take (y .length - 0) row′) (take (length bytes - 0) out) part at
+    pub repair-done : {part : List ℕ} → length bytes ≤ length out → part ≡ built (closesIn sheet) (take (y .length - 0) row′)
         → AnswersRepair sheet bytes out (part ++ drop (length bytes - 0) out) (record { number = 0; length = length bytes })
     unfolding recordNumber repairNumber
-    repair-done {part} {at} h l =
-        let held : drop at part ≡ built (closesIn sheet) (rowHere (operatorsOf sheet) bytes) = l .held ∙ ap (built (closesIn sheet)) laid in
-        let long : length (built (closesIn sheet) (rowHere (operatorsOf sheet) bytes)) ≡ length bytes = built-length (closesIn sheet) (quiet sheet) (operatorsOf sheet) (rowHere (operatorsOf sheet) bytes) (known .is-row) ∙ known .same-length in
-        let size : length part ≡ length bytes = l .same-length ∙ length-take-le (length bytes - 0) out (omega arith) ∙ omega arith in
-        let start : at ≡ 0 = omega (arith, length-drop at part, ap length held, long, size, l .inside) in
+    repair-done h same =
+        let long : length (built (closesIn sheet) (rowHere (operatorsOf sheet) bytes)) ≡ length bytes =
+        built-length (closesIn sheet) (operatorsOf sheet) (rowHere (operatorsOf sheet) bytes) (known .is-row) ∙ known .same-length in
         let ends : length bytes - 0 ≡ length (built (closesIn sheet) (rowHere (operatorsOf sheet) bytes)) = omega (arith, long) in
-        let same : part ≡ built (closesIn sheet) (rowHere (operatorsOf sheet) bytes) = ap (λ x. drop x part) (sym start) ∙ held in
         record {
           numbered = sym (first-roomy (recordChecks (operatorsOf sheet) bytes) (length bytes) (length out) (sym number-is ∙ zero) (record-numbered (operatorsOf sheet) bytes) h);
           measured = sym long;
-          output = ap₂ _++_ same (ap (λ x. drop x out) ends);
+          output = ap₂ _++_ (same ∙ ap (built (closesIn sheet)) laid) (ap (λ x. drop x out) ends);
         }
 
-pub ruleset repair-ways = (repair-refused, repair-short, repair-few, repair-room, repair-part, repair-done, needs)
+pub ruleset repair-ways = (repair-refused, repair-short, repair-few, repair-room, repair-buildable, repair-part, repair-done, needs)

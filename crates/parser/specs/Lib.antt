@@ -1,4 +1,5 @@
 pub mod Build
+pub mod Notes
 pub mod Rows
-pub mod Fronts
+pub mod Reading
 pub mod Answers

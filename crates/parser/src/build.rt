@@ -1,4 +1,6 @@
-// Building a row into the record of its tree: operators are inserted from the right end of the row, in one pass.
+// Building a row into the record of its tree, from the left: operators wait until a later one closes them. The tokens are noted as they
+// come, and what the notes lay out is written at the end.
+use crate::notes;
 use expression::limits;
 use expression::limits::MOST_TOKENS;
 use expression::token;
@@ -6,160 +8,175 @@ use sheet::layout::SHEET_WORDS;
 ghost use mathlib.Core.Path.{_≡_};
 ghost use mathlib.Core.Bool.{Bool};
 ghost use Prim.Native.Nat.{ℕ, _+_, _≤_, _<_};
-ghost use lib.ListN.{length, drop};
+ghost use lib.ListN.{length, take};
 ghost use Rattle.expression.specs.Limits.{mostOperators, mostTokens};
-ghost use Rattle.expression.specs.Token.{opening};
+ghost use Rattle.expression.specs.Token.{closing};
 ghost use Rattle.expression.specs.Checks.{recordBytes};
 ghost use Rattle.sheet.specs.Relation.{closesIn};
-ghost use Rattle.parser.specs.Build.{settled, built};
-ghost use Rattle.parser.specs.Fronts.{Roomy, Waits, Prepends, Pops, Settles, Takes, Lays, share};
+ghost use Rattle.parser.specs.Build.{built};
+ghost use Rattle.parser.specs.Notes.{note, laidOut, Inside};
+ghost use Rattle.parser.specs.Reading.{ends, SomeWait, Closes, Takeable, Takes, Adds, Raisable, Frees, Buildable, Reads};
 
-// Where the record begins, and where the waiting operators do, in buffers that fill from their ends.
-pub struct Fronts {
-    pub at: usize,
-    pub top: usize,
+// How many tokens are noted, and which is the first of the operand that was read last. Right before that one stands what waits nearest.
+pub struct Front {
+    pub count: usize,
+    pub first: usize,
 }
 
-// Where c comes, the waiting b has its left operand.
-fn settles(sheet: &[u32; SHEET_WORDS], c: u8, b: u8) -> bool
-    ensures { λ r. ⌜ r ≡ settled (closesIn (now (sheet .entry))) c b ⌝ }
+// Where c comes, the byte a of something that waits closes.
+fn closes_at(sheet: &[u32; SHEET_WORDS], c: u8, a: u8) -> bool
+    ensures { λ r. ⌜ r ≡ ends (closesIn (now (sheet .entry))) c a ⌝ }
 {
-    if limits::MOST_OPERATORS <= b {
+    if limits::MOST_OPERATORS <= a {
         return false;
     }
-    !sheet::closes_before(sheet, c, b)
+    if c == token::CLOSING {
+        return true;
+    }
+    sheet::closes_before(sheet, a, c)
 }
 
-// What is settled where c comes goes to the record.
-fn settle(
+// What closes where c comes joins the operand: the place where that then begins.
+fn close_waiting(
     sheet: &[u32; SHEET_WORDS],
     c: u8,
-    stack: &[u8; MOST_TOKENS],
-    out: &mut [u8],
-    from: Fronts,
-) -> Fronts
-    requires { ⌜ Roomy 0 (now out) (now stack) from ⌝ }
-    ensures { λ r. ⌜ Settles (closesIn (now (sheet .entry))) c (now (out .entry)) (now (stack .entry)) from (now (out .exit)) r ⌝ }
+    words: &[u32; MOST_TOKENS],
+    from: usize,
+) -> usize
+    requires { ⌜ SomeWait (now words) from ⌝ }
+    ensures { λ r. ⌜ Closes (closesIn (now (sheet .entry))) c (now (words .entry)) from r ⌝ }
 {
-    let mut at = from.at;
-    let mut top = from.top;
-    while top < MOST_TOKENS {
-        let b = stack[top];
-        if !settles(sheet, c, b) {
-            return Fronts { at: at, top: top };
+    let mut first = from;
+    while 0 < first {
+        let w = words[first - 1];
+        if !closes_at(sheet, c, notes::byte_in(w)) {
+            return first;
         }
-        at -= 1;
-        out[at] = b;
-        top += 1;
+        first = notes::begin_in(w);
     }
-    Fronts { at: at, top: top }
+    first
 }
 
-// An operator, or a closing bracket, waits.
-fn wait(c: u8, stack: &mut [u8; MOST_TOKENS], from: Fronts) -> Fronts
-    requires { ⌜ (0 < from .top) × (from .top ≤ mostTokens) × (length (now stack) ≡ mostTokens) ⌝ }
-    ensures { λ r. ⌜ Waits c (now (stack .entry)) from (now (stack .exit)) r ⌝ }
+// A word more.
+fn add(w: u32, words: &mut [u32; MOST_TOKENS], count: usize)
+    requires { ⌜ (length (now words) ≡ mostTokens) × (count < mostTokens) ⌝ }
+    ensures { λ _. ⌜ Adds w (now (words .entry)) count (now (words .exit)) ⌝ }
 {
-    let at = from.at;
-    let top = from.top - 1;
-    stack[top] = c;
-    Fronts { at: at, top: top }
+    words[count] = w;
 }
 
-// A byte goes before the record.
-fn prepend(c: u8, out: &mut [u8], from: Fronts) -> Fronts
-    requires { ⌜ (0 < from .at) × (from .at ≤ length (now out)) ⌝ }
-    ensures { λ r. ⌜ Prepends c (now (out .entry)) from (now (out .exit)) r ⌝ }
+// A reading, or an opening bracket, begins an operand.
+fn take_operand(
+    sheet: &[u32; SHEET_WORDS],
+    c: u8,
+    words: &mut [u32; MOST_TOKENS],
+    from: Front,
+) -> Front
+    requires { ⌜ (from .count < mostTokens) × (mostOperators ≤ c) × (c ≡ closing → ⊥) × Takeable (closesIn (now sheet)) c (now words) from ⌝ }
+    ensures { λ r. ⌜ Takes (closesIn (now (sheet .entry))) c (now (words .entry)) from (now (words .exit)) r ⌝ }
 {
-    let at = from.at - 1;
-    let top = from.top;
-    out[at] = c;
-    Fronts { at: at, top: top }
+    let count = from.count;
+    add(notes::note(c, 1, count), words, count);
+    Front {
+        count: count + 1,
+        first: count,
+    }
 }
 
-// An operator comes: what it lies above is settled, and it waits.
+// A place is left free before the operand that begins at `first`, for the operator c that is noted.
+fn free_place(c: u8, words: &mut [u32; MOST_TOKENS], count: usize, first: usize)
+    requires { ⌜ (length (now words) ≡ mostTokens) × (count < mostTokens) × Raisable (now words) count first ⌝ }
+    ensures { λ _. ⌜ Frees c (now (words .entry)) count first (now (words .exit)) ⌝ }
+{
+    words[first] = notes::one_more(words[first]);
+    add(notes::note(c, 0, first), words, count);
+}
+
+// An operator comes: what closes before it is its left operand. It waits.
 fn take_operator(
     sheet: &[u32; SHEET_WORDS],
     c: u8,
-    stack: &mut [u8; MOST_TOKENS],
-    out: &mut [u8],
-    from: Fronts,
-) -> Fronts
-    requires { ⌜ (c < mostOperators) × (0 < from .top) × Roomy 1 (now out) (now stack) from ⌝ }
-    ensures { λ r. ⌜ Takes (closesIn (now (sheet .entry))) c (now (out .entry)) (now (stack .entry)) from (now (out .exit)) (now (stack .exit)) r ⌝ }
+    words: &mut [u32; MOST_TOKENS],
+    from: Front,
+) -> Front
+    requires { ⌜ (from .first ≤ from .count) × (from .count < mostTokens) × (c < mostOperators) × Takeable (closesIn (now sheet)) c (now words) from ⌝ }
+    ensures { λ r. ⌜ Takes (closesIn (now (sheet .entry))) c (now (words .entry)) from (now (words .exit)) r ⌝ }
 {
-    let to = settle(sheet, c, stack, out, from);
-    wait(c, stack, to)
-}
-
-// The stack without its first byte, if there is one.
-fn pop(from: Fronts) -> Fronts
-    ensures { λ r. ⌜ Pops from r ⌝ }
-{
-    let at = from.at;
-    let top = from.top;
-    if top < MOST_TOKENS {
-        return Fronts {
-            at: at,
-            top: top + 1,
-        };
+    let count = from.count;
+    let first = close_waiting(sheet, c, words, from.first);
+    free_place(c, words, count, first);
+    Front {
+        count: count + 1,
+        first: first,
     }
-    Fronts { at: at, top: top }
 }
 
-// An opening bracket comes: all that waits back to its closing bracket is settled, and that one waits no longer.
-fn take_opening(
-    sheet: &[u32; SHEET_WORDS],
-    stack: &[u8; MOST_TOKENS],
-    out: &mut [u8],
-    from: Fronts,
-) -> Fronts
-    requires { ⌜ Roomy 1 (now out) (now stack) from ⌝ }
-    ensures { λ r. ⌜ Takes (closesIn (now (sheet .entry))) opening (now (out .entry)) (now (stack .entry)) from (now (out .exit)) (now (stack .entry)) r ⌝ }
+// A closing bracket comes: all that waits back to its opening one closes, and the operand begins there.
+fn take_closing(sheet: &[u32; SHEET_WORDS], words: &[u32; MOST_TOKENS], from: Front) -> Front
+    requires { ⌜ (from .first ≤ from .count) × (from .count ≤ mostTokens) × Takeable (closesIn (now sheet)) closing (now words) from ⌝ }
+    ensures { λ r. ⌜ Takes (closesIn (now (sheet .entry))) closing (now (words .entry)) from (now (words .entry)) r ⌝ }
 {
-    let inside = settle(sheet, token::OPENING, stack, out, from);
-    let before = prepend(token::OPENING, out, inside);
-    pop(before)
+    let count = from.count;
+    let inside = close_waiting(sheet, token::CLOSING, words, from.first);
+    Front {
+        count: count,
+        first: inside - 1,
+    }
 }
 
-// The next token from the right is taken.
+// The next token from the left is taken.
 fn take_token(
     sheet: &[u32; SHEET_WORDS],
     c: u8,
-    stack: &mut [u8; MOST_TOKENS],
-    out: &mut [u8],
-    from: Fronts,
-) -> Fronts
-    requires { ⌜ (0 < from .top) × Roomy (share c) (now out) (now stack) from ⌝ }
-    ensures { λ r. ⌜ Takes (closesIn (now (sheet .entry))) c (now (out .entry)) (now (stack .entry)) from (now (out .exit)) (now (stack .exit)) r ⌝ }
+    words: &mut [u32; MOST_TOKENS],
+    from: Front,
+) -> Front
+    requires { ⌜ (from .first ≤ from .count) × (from .count < mostTokens) × Takeable (closesIn (now sheet)) c (now words) from ⌝ }
+    ensures { λ r. ⌜ Takes (closesIn (now (sheet .entry))) c (now (words .entry)) from (now (words .exit)) r ⌝ }
 {
     if c < limits::MOST_OPERATORS {
-        return take_operator(sheet, c, stack, out, from);
-    }
-    if c == token::OPENING {
-        return take_opening(sheet, stack, out, from);
+        return take_operator(sheet, c, words, from);
     }
     if c == token::CLOSING {
-        return wait(token::CLOSING, stack, from);
+        return take_closing(sheet, words, from);
     }
-    prepend(c, out, from)
+    take_operand(sheet, c, words, from)
 }
 
-// All tokens are taken, from the right; the record stands at the end of the output, from the place that is answered.
-pub fn build_into(sheet: &[u32; SHEET_WORDS], row: &[u8], out: &mut [u8]) -> usize
-    requires { ⌜ (length (now row) ≤ mostTokens) × (recordBytes (now row) ≤ length (now out)) ⌝ }
-    ensures { λ r. ⌜ Lays (closesIn (now (sheet .entry))) (now (row .entry)) (now (out .entry)) (now (out .exit)) r ⌝ }
+// All tokens are taken, from the left. What waits at the end closes there, which changes no note.
+fn read_row(sheet: &[u32; SHEET_WORDS], row: &[u8], words: &mut [u32; MOST_TOKENS])
+    requires { ⌜ (length (now words) ≡ mostTokens) × (length (now row) ≤ mostTokens) × Buildable (closesIn (now sheet)) (now row) ⌝ }
+    ensures { λ _. ⌜ Reads (closesIn (now (sheet .entry))) (now (row .entry)) (now (words .exit)) ⌝ }
 {
-    let mut stack = [0u8; MOST_TOKENS];
-    let mut fronts = Fronts {
-        at: out.len(),
-        top: MOST_TOKENS,
-    };
-    let mut i = row.len();
-    while 0 < i {
-        i -= 1;
-        fronts = take_token(sheet, row[i], &mut stack, out, fronts);
+    let mut front = Front { count: 0, first: 0 };
+    let mut i = 0;
+    while i < row.len() {
+        front = take_token(sheet, row[i], words, front);
+        i += 1;
     }
-    let last = settle(sheet, token::OPENING, &stack, out, fronts);
-    last.at
+}
+
+// The record that the notes lay out.
+fn lay_out(words: &[u32; MOST_TOKENS], out: &mut [u8])
+    requires { ⌜ (length (now out) ≤ mostTokens) × (length (now out) ≤ length (now words)) × Inside (length (now out)) (take (length (now out)) (now words)) 0 0 ⌝ }
+    ensures { λ _. ⌜ now (out .exit) ≡ laidOut (take (length (now (out .entry))) (now (words .entry))) 0 0 (now (out .entry)) ⌝ }
+{
+    let mut at = 0;
+    let mut i = 0;
+    while i < out.len() {
+        let w = words[i];
+        at = at + notes::places_in(w);
+        out[at + notes::begin_in(w) - (i + 1)] = notes::byte_in(w);
+        i += 1;
+    }
+}
+
+// The record of the tree that is made of the row fills the output.
+pub fn build_into(sheet: &[u32; SHEET_WORDS], row: &[u8], out: &mut [u8])
+    requires { ⌜ (length (now row) ≤ mostTokens) × (length (now out) ≡ recordBytes (now row)) × Buildable (closesIn (now sheet)) (now row) ⌝ }
+    ensures { λ _. ⌜ now (out .exit) ≡ built (closesIn (now (sheet .entry))) (now (row .entry)) ⌝ }
+{
+    let mut words = [0u32; MOST_TOKENS];
+    read_row(sheet, row, &mut words);
+    lay_out(&words, out);
 }

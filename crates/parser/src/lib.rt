@@ -12,6 +12,7 @@ ghost use Rattle.sheet.specs.Layout.{operatorsOf};
 ghost use Rattle.parser.specs.Answers.{AnswersBuild, AnswersRepair};
 
 mod build;
+mod notes;
 mod row;
 
 // The number of a row under the sheet's operators: 1, 3, 6 or 0.

@@ -11,7 +11,7 @@ ghost use Rattle.expression.specs.Limits.{mostTokens};
 ghost use Rattle.expression.specs.Token.{operators, class};
 ghost use Rattle.expression.specs.Checks.{strangeInRow, rowNumber, recordBytes};
 ghost use Rattle.sheet.specs.Layout.{operatorsOf};
-ghost use Rattle.parser.specs.Fronts.{share};
+ghost use Rattle.parser.specs.Reading.{share};
 ghost use Rattle.parser.specs.Rows.{tokenOf, tokenAt, isOperator, isClosing, ReadsOperand, ReadsExpression, strangerInRow};
 
 // What a token is under a sheet's operators.

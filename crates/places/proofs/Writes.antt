@@ -8,8 +8,8 @@ use lib.ListN.{length, getD, take, set, replicate, length-set, length-replicate,
 use lib.Seq.{sets, length-sets, length-take-le, take-suc, take-all}
 use borrow.Author.Needs.{needs}
 use Rattle.expression.specs.Limits.{mostRecordBytes}
+use Rattle.expression.proofs.Stores.{sets-append}
 use Rattle.places.specs.Store.{slotBytes, imageOf}
-use Rattle.places.proofs.Parts.{sets-append}
 
 -- ---- copy
 module _ (before : List ℕ) (at : ℕ) (bytes : List ℕ) where

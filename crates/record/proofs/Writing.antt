@@ -1,6 +1,5 @@
 -- What each way through `write_row` gives. Assumes nothing.
 use Prim.Native.Nat.{ℕ, suc, _+_, _-_, _*_, _≤_, _<_}
-use native.Mathlib.Nat.{add-zero, add-suc, suc-add}
 use native.Mathlib.Numerals.{add-one}
 use native.Mathlib.Omega.{arith}
 use mathlib.Core.Path.{_≡_, refl, ap, sym, _∙_}
@@ -16,6 +15,7 @@ use Rattle.expression.specs.Refusal.{noTree}
 use Rattle.expression.specs.Limits.{mostTokens, mostRecordBytes}
 use Rattle.expression.specs.Token.{opening, closing, Operators}
 use Rattle.expression.specs.Tree.{Tree, reading, bracket, binary, yield}
+use Rattle.expression.proofs.Stores.{sets-append}
 use Rattle.record.specs.Held.{front, base}
 use Rattle.record.specs.Node.{nodeAt}
 use Rattle.record.specs.TreeAt.{TreeAt}
@@ -28,17 +28,12 @@ use Rattle.record.proofs.Holding.{front-fits}
 use Rattle.record.proofs.Trees.{record-positive, ends-within, a-reading, a-bracket, an-operator, no-tree, none-past}
 use Rattle.record.proofs.Standing.{leaf-at, bracket-at, operator-at, onward, operands-in, joined-in}
 
--- a list that is set part by part
-pub sets-append : (v w d : List ℕ) (i : ℕ) → sets d i (v ++ w) ≡ sets (sets d i v) (i + length v) w
-sets-append [] w d i = rw add-zero
-sets-append (x ∷ v) w d i = sets-append v w (set d i x) (suc i) ∙ rw (suc-add, add-suc)
-
 pub set-bracket : (d v : List ℕ) (i : ℕ) → set (sets (set d i opening) (i + 1) v) (i + 1 + length v) closing ≡ sets d i (opening ∷ v ++ (closing ∷ []))
 set-bracket d v i =
-    ap (λ j. set (sets (set d i opening) j v) (j + length v) closing) (add-one i) ∙ sym (sets-append v (closing ∷ []) (set d i opening) (suc i))
+    ap (λ j. set (sets (set d i opening) j v) (j + length v) closing) (add-one i) ∙ sets-append (set d i opening) (suc i) v (closing ∷ [])
 
 pub set-operator : (d v w : List ℕ) (i o : ℕ) → sets (set (sets d i v) (i + length v) o) (i + length v + 1) w ≡ sets d i (v ++ o ∷ w)
-set-operator d v w i o = ap (λ j. sets (set (sets d i v) (i + length v) o) j w) (add-one (i + length v)) ∙ sym (sets-append v (o ∷ w) d i)
+set-operator d v w i o = ap (λ j. sets (set (sets d i v) (i + length v) o) j w) (add-one (i + length v)) ∙ sets-append d i v (o ∷ w)
 
 pub yield-positive : (t : Tree) → 1 ≤ length (yield t)
 yield-positive (reading a) = omega arith

@@ -1,5 +1,5 @@
 -- `parser::build::take_operator` meets its contract. Assumes nothing.
-use Rattle.parser.proofs.TakeWays.{operator-ways}
+use Rattle.parser.proofs.OperatorWays.{operator-ways}
 use Rattle.parser.proofs.build.take_operator.Statement.{statement}
 use Rattle.parser.proofs.build.take_operator.Tie as tie
 

@@ -1,5 +1,5 @@
 -- `parser::build::take_token` meets its contract. Assumes nothing.
-use Rattle.parser.proofs.TakeWays.{token-ways}
+use Rattle.parser.proofs.OperatorWays.{token-ways}
 use Rattle.parser.proofs.build.take_token.Statement.{statement}
 use Rattle.parser.proofs.build.take_token.Tie as tie
 
@@ -9,12 +9,7 @@ take-token-spec =
     (tie.spec
     (λ c κs. search token-ways)
     (λ c. search token-ways)
-    (λ c. search token-ways)
-    (λ c κs. search token-ways)
-    (λ c. search token-ways)
-    (λ c. search token-ways)
     (λ c κs. search token-ways)
     (λ c. search token-ways)
     (λ c κs. search token-ways)
-    (λ c. search token-ways)
     (λ c. search token-ways))

@@ -1,0 +1,101 @@
+-- What holds of the tree and the operators that wait while a row is read from the left. Assumes nothing.
+use Prim.Native.Nat.{ℕ}
+use mathlib.Core.Path.{_≡_, refl, ap, sym, _∙_}
+use mathlib.Core.Bool.{Bool, not}
+use mathlib.Core.List.{List, [], _∷_, _++_, append-assoc}
+use Rattle.expression.specs.Lists.{All}
+use Rattle.expression.specs.Token.{Class, Infix, opening}
+use Rattle.expression.specs.Tree.{Tree, reading, bracket, binary, yield, Over}
+use Rattle.expression.proofs.Cond.{by-cond}
+use Rattle.disambiguation.specs.Edges.{seenFromRight, seenFromLeft}
+use Rattle.disambiguation.specs.LeftToRight.{after, Stack, bottom, opened, waiting, close, everything, before}
+use Rattle.disambiguation.proofs.Free.{None, Free}
+use Rattle.disambiguation.proofs.LeftToRight.{Holds}
+
+-- an operand that shows no operator
+abbrev pub Bare : Tree → Type 0
+Bare (reading a) = Unit {0}
+Bare (bracket t) = Unit {0}
+Bare (binary o l r) = ⊥
+
+pub bare-right : (P : ℕ → Type 0) (t : Tree) → Bare t → All P (seenFromRight t)
+bare-right P (reading a) h = tt
+bare-right P (bracket t) h = tt
+bare-right P (binary o l r) h = absurd h
+
+-- the tokens that a stack stands for
+abbrev pub tokensOf : Stack → List ℕ
+tokensOf bottom = []
+tokensOf (opened s) = tokensOf s ++ (opening ∷ [])
+tokensOf (waiting (after l o) s) = tokensOf s ++ (yield l ++ (o ∷ []))
+
+-- a waiting operator, its left operand and what comes after it
+pub tokens-waiting : (l : Tree) (o : ℕ) (s : Stack) (rest : List ℕ) → tokensOf (waiting (after l o) s) ++ rest ≡ tokensOf s ++ (yield l ++ o ∷ rest)
+tokens-waiting l o s rest =
+    append-assoc (tokensOf s) (yield l ++ (o ∷ [])) rest ∙ ap (λ x. tokensOf s ++ x) (append-assoc (yield l) (o ∷ []) rest)
+
+-- the stack without the operators that wait since the last open bracket: what closing leaves alone, and all that is left once everything is closed
+abbrev pub base : Stack → Stack
+base bottom = bottom
+base (opened s) = opened s
+base (waiting f s) = base s
+
+pub close-everything : (s : Stack) (t : Tree) → (close everything s t) .0 ≡ base s
+close-everything bottom t = refl
+close-everything (opened s) t = refl
+close-everything (waiting (after l o) s) t = close-everything s (binary o l t)
+
+pub base-close : (p : ℕ → Bool) (s : Stack) (t : Tree) → base ((close p s t) .0) ≡ base s
+base-close p bottom t = refl
+base-close p (opened s) t = refl
+base-close p (waiting (after l o) s) t = by-cond (λ (x : Stack × Tree). base (x .0) ≡ base s) (p o) (λ _. base-close p s (binary o l t)) (λ _. refl)
+
+module _ (closes : ℕ → ℕ → Bool) where
+  -- operator b may not have a on its left unless a closes before b
+  abbrev pub yields : ℕ → ℕ → Bool
+  yields b a = not (closes a b)
+
+  module _ (k : ℕ → Class) where
+    -- each operator that waits has a conflict-free left operand, which it may keep, and may itself stand right of the one that waits before it
+    abbrev pub Good : Stack → Type 0
+    Good bottom = Unit {0}
+    Good (opened s) = Good s
+    Good (waiting (after l o) s) = (k o ≡ Infix) × Over k l × Free yields closes l × None (yields o) (seenFromRight l) × Holds closes s o × Good s
+
+    -- the tree t after the stack, made of the tokens
+    pub record Stands (s : Stack) (t : Tree) (tokens : List ℕ) : Type 0 where
+      pub over : Over k t
+      pub free : Free yields closes t
+      pub held : All (Holds closes s) (seenFromLeft t)
+      pub good : Good s
+      pub reads : tokensOf s ++ yield t ≡ tokens
+
+    filled : (l : Tree) (o : ℕ) (s : Stack) (t : Tree) (tokens : List ℕ) → Stands (waiting (after l o) s) t tokens → Stands s (binary o l t) tokens
+    filled l o s t tokens h =
+        let g = h .good in
+        record {
+          over = (g .0, g .1, h .over);
+          free = (g .3, h .held, g .2, h .free);
+          held = (g .4, tt);
+          good = g .5;
+          reads = sym (tokens-waiting l o s (yield t)) ∙ h .reads;
+        }
+
+    pub close-stands : (p : ℕ → Bool) (s : Stack) (t : Tree) (tokens : List ℕ) → Stands s t tokens → Stands ((close p s t) .0) ((close p s t) .1) tokens
+    close-stands p bottom t tokens h = h
+    close-stands p (opened s) t tokens h = h
+    close-stands p (waiting (after l o) s) t tokens h =
+        by-cond (λ (x : Stack × Tree). Stands (x .0) (x .1) tokens) (p o) (λ _. close-stands p s (binary o l t) tokens (filled l o s t tokens h)) (λ _. h)
+
+  -- where b comes, the operator that still waits on top does not close before it
+  pub close-holds : (b : ℕ) (s : Stack) (t : Tree) → Holds closes ((close (before closes b) s t) .0) b
+  close-holds b bottom t = tt
+  close-holds b (opened s) t = tt
+  close-holds b (waiting (after l o) s) t = by-cond (λ (x : Stack × Tree). Holds closes (x .0) b) (closes o b) (λ _. close-holds b s (binary o l t)) (λ q. q)
+
+  -- and what it sees of the tree on its left closes before it, if that was so before
+  pub close-yields : (b : ℕ) (s : Stack) (t : Tree) → None (yields b) (seenFromRight t) → None (yields b) (seenFromRight ((close (before closes b) s t) .1))
+  close-yields b bottom t h = h
+  close-yields b (opened s) t h = h
+  close-yields b (waiting (after l o) s) t h =
+      by-cond (λ (x : Stack × Tree). None (yields b) (seenFromRight (x .1))) (closes o b) (λ q. close-yields b s (binary o l t) (ap not q, tt)) (λ _. h)

@@ -1,0 +1,197 @@
+-- What each way through `take_operator`, `take_closing` and `take_token` gives, from what is known on it. Assumes nothing.
+use mathlib.Core.Path.{_≡_, refl, sym, ap, ap₂, subst, _∙_}
+use mathlib.Core.Bool.{Bool, cond}
+use mathlib.Core.List.{List, [], _∷_, _++_}
+use Prim.Native.Nat.{ℕ, suc, _+_, _-_, _<_, _≤_}
+use native.Mathlib.Omega.{arith}
+use lib.ListN.{length, getD, take, set, length-set}
+use lib.Seq.{take-set-lt, set-at, getD-at, getD-take}
+use borrow.Author.Tests.{ne-eqb}
+use borrow.Author.Needs.{needs}
+use Rattle.expression.specs.Limits.{mostOperators, mostTokens}
+use Rattle.expression.specs.Token.{Infix, closing}
+use Rattle.expression.specs.Tree.{Tree, bracket, recordOf, Over}
+use Rattle.expression.proofs.Classes.{class-operator, brackets}
+use Rattle.disambiguation.specs.LeftToRight.{after, Stack, bottom, opened, waiting, State, due, have, stuck, close, everything, shut, whereDue, before, whereRead, everyOperator}
+use Rattle.parser.specs.Notes.{note, notesOf, notesBelow, notesAt}
+use Rattle.parser.specs.Reading.{classOf, next, Goes, OverBelow, closer, remains, Waits, SomeWait, Noted, Closes, Takeable, Takes, Adds, Raisable, Frees}
+use Rattle.parser.specs.declared.build.Front.{Front}
+use Rattle.parser.proofs.NoteLaws.{length-notesOf, first-note}
+use Rattle.parser.proofs.Closing.{close-remains, close-over, length-opened, length-notesAt, close-notes, shut-notes, waits-length}
+use Rattle.parser.proofs.OperandWays.{share-one, share-closing, count-is, waits-before, noted-size}
+
+-- a token that no operand begins with comes where an operand was read: what waits stands before that
+some-wait : (closes : ℕ → ℕ → Bool) (c : ℕ) (words : List ℕ) (f : Front) → ((s : Stack) → Goes (whereDue (classOf c) c s) → ⊥) → (m : State) → Noted words f m → Goes (next closes c m)
+    → SomeWait words (f .first)
+some-wait closes c words f d (due s) n g = absurd (d s g)
+some-wait closes c words f d (have s t) n g = record { stack = s; stands = waits-before n }
+some-wait closes c words f d stuck n g = absurd g
+
+-- ---- take_operator
+module _ (closes : ℕ → ℕ → Bool) (c : ℕ) (words : List ℕ) (f : Front) (operator : c < mostOperators) where
+  is-infix : classOf c ≡ Infix
+  is-infix = class-operator everyOperator c operator operator
+
+  due-stuck : (s : Stack) → Goes (whereDue (classOf c) c s) → ⊥
+  due-stuck s g = rw is-infix at g
+
+  pub operator-waits : Takeable closes c words f → SomeWait words (f .first)
+  operator-waits k = some-wait closes c words f due-stuck (k .state) (k .stands) (k .goes)
+
+  module _ {first : ℕ} (closed : Closes closes c words (f .first) first) (inside : f .count ≤ mostTokens) where
+    -- The operator's left operand: the tree that begins at `first`.
+    record Left (s : Stack) (t : Tree) : Type 0 where
+      first-is : first ≡ length (notesBelow s)
+      noted : take (f .count) words ≡ notesBelow s ++ notesOf first 0 t
+      over-stack : OverBelow s
+      over-tree : Over classOf t
+      first-word : ℕ
+      words-after : List ℕ
+      begins : notesOf first 0 t ≡ first-word ∷ words-after
+      raised : notesOf first 1 t ≡ (first-word + 0x100) ∷ words-after
+      small : first-word < 0x80000000
+      before-count : first < f .count
+      is-word : getD words first 0 ≡ first-word
+
+    left-operand : (s : Stack) (t : Tree) → Noted words f (have s t) → Left ((close (before closes c) s t) .0) ((close (before closes c) s t) .1)
+    left-operand s t n = go ((close (before closes c) s t) .0) ((close (before closes c) s t) .1) same (n .noted ∙ close-notes (before closes c) s t) (close-over (before closes c) s t (n .over .0) (n .over .1))
+      where
+        same : remains (closer closes c) s ≡ (close (before closes c) s t) .0
+        same = ap (λ b. remains (cond b everything (before closes c)) s) (ne-eqb c closing (λ e. omega arith)) ∙ sym (close-remains (before closes c) s t)
+
+        go : (u : Stack) (v : Tree) → remains (closer closes c) s ≡ u → take (f .count) words ≡ notesAt (have u v) → OverBelow u × Over classOf v → Left u v
+        go u v e q over =
+            let w = subst (λ x. Waits words first x) e (closed .left s (waits-before n)) in
+            let at = waits-length words first w in
+            let long : f .count ≡ length (notesBelow u) + length (recordOf v) = count-is n ∙ ap length (sym (n .noted) ∙ q) ∙ length-notesAt u v in
+            let noted : take (f .count) words ≡ notesBelow u ++ notesOf first 0 v = q ∙ ap (λ x. notesBelow u ++ notesOf x 0 v) (sym at) in
+            let (x, xs, b, r, small) = first-note first 0 v (over .1) (omega (arith, at, long)) (omega (arith, long)) in
+            let some : length (recordOf v) ≡ suc (length xs) = sym (length-notesOf first 0 v) ∙ ap length b in
+            let lower : first < f .count = omega (arith, at, long, some) in
+            record {
+              first-is = at;
+              noted = noted;
+              over-stack = over .0;
+              over-tree = over .1;
+              first-word = x;
+              words-after = xs;
+              begins = b;
+              raised = r;
+              small = small;
+              before-count = lower;
+              is-word =
+                  sym (getD-take (f .count) words first 0 lower) ∙ ap (λ l. getD l first 0) (noted ∙ ap (λ l. notesBelow u ++ l) b)
+                  ∙ getD-at (notesBelow u) x xs 0 first (sym at);
+            }
+
+    -- the word of its first token can be raised
+    raisable : (m : State) → Noted words f m → Goes (next closes c m) → Raisable words (f .count) first
+    raisable (due s) n g = absurd (due-stuck s g)
+    raisable (have s t) n g = let l = left-operand s t n in record { before-count = l .before-count; small = rw (l .is-word) (l .small) }
+    raisable stuck n g = absurd g
+
+    pub operator-raisable : Takeable closes c words f → Raisable words (f .count) first
+    operator-raisable k = raisable (k .state) (k .stands) (k .goes)
+
+    module _ {words′ : List ℕ} (frees : Frees c words (f .count) first words′) (room : f .count < mostTokens) where
+      abbrev grown : Front
+      grown = record { count = f .count + 1; first = first }
+
+      operator-goes : (m : State) → Noted words f m → Goes (next closes c m) → Noted words′ grown (next closes c m)
+      operator-goes (due s) n g = absurd (due-stuck s g)
+      operator-goes (have s t) n g = rw is-infix (go ((close (before closes c) s t) .0) ((close (before closes c) s t) .1) (left-operand s t n))
+        where
+          go : (u : Stack) (v : Tree) → Left u v → Noted words′ grown (due (waiting (after v c) u))
+          go u v l =
+              let e : f .count + 1 ≡ suc (f .count) = omega arith in
+              let x : ℕ = getD words first 0 + 0x100 in
+              let raised : set (take (f .count) words) first x ≡ notesBelow u ++ notesOf first 1 v =
+              ap (λ w. set w first x) (l .noted ∙ ap (λ w. notesBelow u ++ w) (l .begins)) ∙ set-at (notesBelow u) (l .first-word) (l .words-after) x first (sym (l .first-is))
+              ∙ ap (λ w. notesBelow u ++ (w + 0x100) ∷ l .words-after) (l .is-word) ∙ ap (λ w. notesBelow u ++ w) (sym (l .raised)) in
+              record {
+                noted =
+                    ap (λ k. take k words′) e ∙ frees .added ∙ ap (λ w. w ++ note c 0 first ∷ []) raised
+                    ∙ ap (λ b. notesBelow u ++ notesOf b 1 v ++ note c 0 b ∷ []) (l .first-is);
+                begins = tt;
+                over = (is-infix, l .over-tree, l .over-stack);
+                size = frees .same-length ∙ n .size;
+                inside = omega arith;
+              }
+      operator-goes stuck n g = absurd g
+
+      pub operator-taken : f .first ≤ f .count → Takes closes c words f words′ grown
+      operator-taken h = record { taken = operator-goes; counted = omega (arith, share-one c (λ e. omega arith)); first-inside = omega (arith, closed .lower) }
+
+pub ruleset operator-ways = (operator-waits, operator-raisable, operator-taken, noted-size, needs)
+
+-- ---- free_place
+module _ (c : ℕ) (words : List ℕ) (count first : ℕ) (size : length words ≡ mostTokens) (room : count < mostTokens) (can : Raisable words count first) where
+  pub place-freed : {words′ : List ℕ} {x y : ℕ} → x ≡ getD words first 0 + 0x100 → y ≡ note c 0 first → Adds y (set words first x) count words′ → Frees c words count first words′
+  place-freed {words′} {x} {y} e q adds =
+      record {
+        added = adds .added ∙ ap₂ (λ w z. w ++ z ∷ []) (take-set-lt count words first x (can .before-count) ∙ ap (set (take count words) first) e) q;
+        same-length = adds .same-length ∙ length-set words first x;
+      }
+
+  pub first-inside : first < mostTokens
+  first-inside = omega (arith, can .before-count)
+
+  pub first-low : first ≤ mostTokens
+  first-low = omega (arith, can .before-count)
+
+  pub still-long : (x : ℕ) → length (set words first x) ≡ mostTokens
+  still-long x = length-set words first x ∙ size
+
+pub ruleset place-ways = (place-freed, first-inside, first-low, still-long, needs)
+
+-- ---- take_closing
+module _ (closes : ℕ → ℕ → Bool) (words : List ℕ) (f : Front) where
+  closing-due : (s : Stack) → Goes (whereDue (classOf closing) closing s) → ⊥
+  closing-due s g = rw (brackets everyOperator .closes) at g
+
+  pub closing-waits : Takeable closes closing words f → SomeWait words (f .first)
+  closing-waits k = some-wait closes closing words f closing-due (k .state) (k .stands) (k .goes)
+
+  module _ {inside : ℕ} (closed : Closes closes closing words (f .first) inside) where
+    abbrev shorter : Front
+    shorter = record { count = f .count; first = inside - 1 }
+
+    shuts : (s : Stack) (t : Tree) → Noted words f (have s t) → Goes (shut ((close everything s t) .0) ((close everything s t) .1))
+        → (1 ≤ inside) × Noted words shorter (shut ((close everything s t) .0) ((close everything s t) .1))
+    shuts s t n =
+        go ((close everything s t) .0) ((close everything s t) .1) (subst (λ x. Waits words inside x) (sym (close-remains everything s t)) (closed .left s (waits-before n)))
+        (n .noted ∙ close-notes everything s t) (close-over everything s t (n .over .0) (n .over .1))
+      where
+        go : (u : Stack) (v : Tree) → Waits words inside u → take (f .count) words ≡ notesAt (have u v) → OverBelow u × Over classOf v → Goes (shut u v)
+            → (1 ≤ inside) × Noted words shorter (shut u v)
+        go bottom v w q over g = absurd g
+        go (opened u) v w q over g =
+            let at = waits-length words inside w ∙ length-opened u in (
+              omega (arith, at),
+              record { noted = q ∙ shut-notes u v; begins = omega (arith, at); over = over; size = n .size; inside = n .inside },
+            )
+        go (waiting x u) v w q over g = absurd g
+
+    -- what a closing bracket needs and leaves, in each state
+    closing-goes : (m : State) → Noted words f m → Goes (next closes closing m) → (1 ≤ inside) × Noted words shorter (next closes closing m)
+    closing-goes (due s) n g = absurd (closing-due s g)
+    closing-goes (have s t) n g = rw (brackets everyOperator .closes) (shuts s t n (rw (brackets everyOperator .closes) at g))
+    closing-goes stuck n g = absurd g
+
+    pub closing-positive : Takeable closes closing words f → 1 ≤ inside
+    closing-positive k = closing-goes (k .state) (k .stands) (k .goes) .0
+
+    pub closing-taken : f .first ≤ f .count → Takes closes closing words f words shorter
+    closing-taken h = record { taken = λ m n g. closing-goes m n g .1; counted = omega (arith, share-closing); first-inside = omega (arith, closed .lower) }
+
+pub ruleset closing-ways = (closing-waits, closing-positive, closing-taken, needs)
+
+-- ---- take_token
+module _ (closes : ℕ → ℕ → Bool) (c : ℕ) (words : List ℕ) (f : Front) where
+  pub closing-takeable : c ≡ closing → Takeable closes c words f → Takeable closes closing words f
+  closing-takeable e k = rw e at k
+
+  pub closing-token : {words′ : List ℕ} {g : Front} → c ≡ closing → Takes closes closing words f words′ g → Takes closes c words f words′ g
+  closing-token e t = rw e t
+
+pub ruleset token-ways = (closing-takeable, closing-token, needs)

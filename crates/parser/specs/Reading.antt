@@ -1,0 +1,127 @@
+-- Reading a row from the left into notes: what each step leaves, in terms of the machine's states. Assumes nothing.
+use Prim.Native.Nat.{ℕ, suc, _+_, _≤_, _<_}
+use mathlib.Core.Path.{_≡_}
+use mathlib.Core.Bool.{Bool, not, _&&_, cond}
+use mathlib.Core.Option.{some}
+use mathlib.Core.List.{List, [], _∷_, _++_}
+use lib.Dec.{eqb, ltb}
+use lib.ListN.{length, getD, take, set}
+use Rattle.expression.specs.Lists.{oneIf}
+use Rattle.expression.specs.Limits.{mostOperators, mostTokens}
+use Rattle.expression.specs.Token.{Class, Infix, closing, class}
+use Rattle.expression.specs.Tree.{Tree, recordOf, Over}
+use Rattle.expression.specs.Checks.{recordBytes}
+use Rattle.disambiguation.specs.LeftToRight.{Frame, after, operatorOf, Stack, bottom, opened, waiting, State, due, have, stuck, everything, before, step, everyOperator, made}
+use Rattle.parser.specs.Notes.{note, notesOf, notesBelow, notesAt}
+use Rattle.parser.specs.declared.build.Front.{Front}
+
+-- a token's share of the record: none for a closing bracket
+unfoldable pub share : ℕ → ℕ
+share c = oneIf (not (eqb c closing))
+
+-- the class of a token, and one token more
+abbrev pub classOf : ℕ → Class
+classOf = class everyOperator
+
+abbrev pub next : (ℕ → ℕ → Bool) → ℕ → State → State
+next closes = step closes classOf
+
+-- The machine goes on.
+abbrev pub Goes : State → Type 0
+Goes (due s) = Unit {0}
+Goes (have s t) = Unit {0}
+Goes stuck = ⊥
+
+-- What waits and what has been read is over the operators.
+abbrev pub OverBelow : Stack → Type 0
+OverBelow bottom = Unit {0}
+OverBelow (opened s) = OverBelow s
+OverBelow (waiting (after l o) s) = (classOf o ≡ Infix) × Over classOf l × OverBelow s
+
+abbrev pub OverAt : State → Type 0
+OverAt (due s) = OverBelow s
+OverAt (have s t) = OverBelow s × Over classOf t
+OverAt stuck = Unit {0}
+
+-- the place where the operand that was read last begins
+abbrev pub Begins : State → ℕ → Type 0
+Begins (due s) first = Unit {0}
+Begins (have s t) first = first ≡ length (notesBelow s)
+Begins stuck first = Unit {0}
+
+-- What closes where the token c comes: what closes before it, and all back to its bracket if it is a closing one.
+abbrev pub closer : (ℕ → ℕ → Bool) → ℕ → ℕ → Bool
+closer closes c = cond (eqb c closing) everything (before closes c)
+
+-- The byte of something that waits closes where c comes; an opening bracket does not.
+unfoldable pub ends : (ℕ → ℕ → Bool) → ℕ → ℕ → Bool
+ends closes c a = ltb a mostOperators && closer closes c a
+
+-- what is left of a stack
+abbrev pub remains : (ℕ → Bool) → Stack → Stack
+remains p bottom = bottom
+remains p (opened s) = opened s
+remains p (waiting f s) = cond (p (operatorOf f)) (remains p s) (waiting f s)
+
+-- The words before `first` are the notes of what waits.
+pub record Waits (words : List ℕ) (first : ℕ) (s : Stack) : Type 0 where
+  pub noted : take first words ≡ notesBelow s
+  pub over : OverBelow s
+  pub size : length words ≡ mostTokens
+  pub inside : first ≤ mostTokens
+
+pub record SomeWait (words : List ℕ) (first : ℕ) : Type 0 where
+  pub stack : Stack
+  pub stands : Waits words first stack
+
+-- The words before the count are the notes of the state.
+pub record Noted (words : List ℕ) (f : Front) (m : State) : Type 0 where
+  pub noted : take (f .count) words ≡ notesAt m
+  pub begins : Begins m (f .first)
+  pub over : OverAt m
+  pub size : length words ≡ mostTokens
+  pub inside : f .count ≤ mostTokens
+
+module _ (closes : ℕ → ℕ → Bool) (c : ℕ) where
+  -- Where c came, the words before `first` are those of what still waits.
+  pub record Closes (words : List ℕ) (from first : ℕ) : Type 0 where
+    pub left : (s : Stack) → Waits words from s → Waits words first (remains (closer closes c) s)
+    pub lower : first ≤ from
+
+  -- The token c can be taken, and it has been taken.
+  pub record Takeable (words : List ℕ) (f : Front) : Type 0 where
+    pub state : State
+    pub stands : Noted words f state
+    pub goes : Goes (next closes c state)
+
+  pub record Takes (words : List ℕ) (f : Front) (words′ : List ℕ) (g : Front) : Type 0 where
+    pub taken : (m : State) → Noted words f m → Goes (next closes c m) → Noted words′ g (next closes c m)
+    pub counted : g .count ≡ f .count + share c
+    pub first-inside : g .first ≤ g .count
+
+-- One word more.
+pub record Adds (w : ℕ) (words : List ℕ) (count : ℕ) (words′ : List ℕ) : Type 0 where
+  pub added : take (suc count) words′ ≡ take count words ++ w ∷ []
+  pub same-length : length words′ ≡ length words
+
+-- The word at `first`, one of those before the count, can be raised.
+pub record Raisable (words : List ℕ) (count first : ℕ) : Type 0 where
+  pub before-count : first < count
+  pub small : getD words first 0 < 0x80000000
+
+-- A place is left free before the token at `first`, and the operator c has its note.
+pub record Frees (c : ℕ) (words : List ℕ) (count first : ℕ) (words′ : List ℕ) : Type 0 where
+  pub added : take (suc count) words′ ≡ set (take count words) first (getD words first 0 + 0x100) ++ note c 0 first ∷ []
+  pub same-length : length words′ ≡ length words
+
+-- The machine makes a tree of the row, and its record has the bytes that are counted in the row.
+pub record Buildable (closes : ℕ → ℕ → Bool) (row : List ℕ) : Type 0 where
+  pub tree : Tree
+  pub makes : made closes row ≡ some tree
+  pub over : Over classOf tree
+  pub measured : length (recordOf tree) ≡ recordBytes row
+
+-- The words begin with the notes of the tree that is made of the row.
+pub record Reads (closes : ℕ → ℕ → Bool) (row words : List ℕ) : Type 0 where
+  pub noted : (t : Tree) → made closes row ≡ some t → take (length (recordOf t)) words ≡ notesOf 0 0 t
+  pub few : (t : Tree) → made closes row ≡ some t → length (recordOf t) ≤ mostTokens

@@ -1,0 +1,44 @@
+// The word that a build notes of a token, as in the specification's `Notes`: its byte, the places that the record goes on with it, and
+// the number of the token where it begins.
+ghost use mathlib.Core.Path.{_≡_};
+ghost use Prim.Native.Nat.{_+_, _<_, _≤_};
+ghost use Rattle.expression.specs.Limits.{mostTokens};
+ghost use Rattle.parser.specs.Notes.{note, byteIn, placesIn, beginIn};
+
+const PLACE: u32 = 0x100;
+
+const MOST_PLACES: u32 = 0x1000;
+
+// The word.
+pub fn note(byte: u8, places: u32, begin: usize) -> u32
+    requires { ⌜ (places ≤ 1) × (begin ≤ mostTokens) ⌝ }
+    ensures { λ r. ⌜ r ≡ note byte places begin ⌝ }
+{
+    byte as u32 + PLACE * (places + MOST_PLACES * begin as u32)
+}
+
+pub fn byte_in(w: u32) -> u8
+    ensures { λ r. ⌜ r ≡ byteIn w ⌝ }
+{
+    (w % PLACE) as u8
+}
+
+pub fn places_in(w: u32) -> usize
+    ensures { λ r. ⌜ (r ≡ placesIn w) × (r < 4096) ⌝ }
+{
+    (w / PLACE % MOST_PLACES) as usize
+}
+
+pub fn begin_in(w: u32) -> usize
+    ensures { λ r. ⌜ (r ≡ beginIn w) × (r < 4096) ⌝ }
+{
+    (w / (PLACE * MOST_PLACES)) as usize
+}
+
+// A place more is left free before the token.
+pub fn one_more(w: u32) -> u32
+    requires { ⌜ w < 0x80000000 ⌝ }
+    ensures { λ r. ⌜ r ≡ w + 0x100 ⌝ }
+{
+    w + PLACE
+}
