@@ -101,10 +101,10 @@ module _ (closes : ℕ → ℕ → Bool) (row : List ℕ) where
 
     pub reading-done : length row ≤ i → Reads closes row words
     reading-done h =
-        let noted : (t : Tree) → made closes row ≡ some t → take (f .count) words ≡ notesOf 0 0 t =
+        let noted : (t : Tree) → made closes row ≡ some t → take (f .count) words ≡ notesOf 0 t =
         λ t e. r .stands .noted ∙ ap (λ x. notesAt (after closes x)) (take-all i row h) ∙ finished-notes (after closes row) t (made-finishes closes row t e) in
         let long : (t : Tree) → made closes row ≡ some t → f .count ≡ length (recordOf t) =
-        λ t e. count-is (r .stands) ∙ ap length (sym (r .stands .noted) ∙ noted t e) ∙ length-notesOf 0 0 t in
+        λ t e. count-is (r .stands) ∙ ap length (sym (r .stands .noted) ∙ noted t e) ∙ length-notesOf 0 t in
         record {
           noted = λ t e. ap (λ n. take n words) (sym (long t e)) ∙ noted t e;
           few = λ t e. omega (arith, long t e, r .stands .inside);
@@ -118,10 +118,10 @@ module _ (closes : ℕ → ℕ → Bool) (row out : List ℕ) (b : Buildable clo
   fills = b .measured ∙ sym size
 
   module _ {words : List ℕ} (r : Reads closes row words) where
-    noted : take (length (recordOf (b .tree))) words ≡ notesOf 0 0 (b .tree)
+    noted : take (length (recordOf (b .tree))) words ≡ notesOf 0 (b .tree)
     noted = r .noted (b .tree) (b .makes)
 
-    few : length (recordOf (b .tree)) ≤ 255
+    few : length (recordOf (b .tree)) ≤ mostTokens
     few = r .few (b .tree) (b .makes)
 
     pub out-few : length out ≤ mostTokens
@@ -130,10 +130,10 @@ module _ (closes : ℕ → ℕ → Bool) (row out : List ℕ) (b : Buildable clo
     pub out-enough : length out ≤ length words
     out-enough = enough-words (b .tree) (b .over) few words (length (recordOf (b .tree))) noted out fills
 
-    pub out-inside : Inside (length out) (take (length out) words) 0 0
+    pub out-inside : Inside (length out) (take (length out) words) 0
     out-inside = words-inside (b .tree) (b .over) few words (length (recordOf (b .tree))) noted out fills
 
-    pub out-built : {out′ : List ℕ} → out′ ≡ laidOut (take (length out) words) 0 0 out → out′ ≡ built closes row
+    pub out-built : {out′ : List ℕ} → out′ ≡ laidOut (take (length out) words) 0 out → out′ ≡ built closes row
     unfolding built
     out-built e = e ∙ words-laid (b .tree) (b .over) few words (length (recordOf (b .tree))) noted out fills ∙ sym (ap recordIn (b .makes))
 

@@ -13,7 +13,7 @@ use Rattle.expression.specs.Limits.{mostOperators, mostTokens}
 use Rattle.expression.specs.Token.{opening, closing}
 use Rattle.disambiguation.specs.LeftToRight.{Frame, after, Stack, bottom, opened, waiting}
 use Rattle.disambiguation.proofs.BelowLaws.{and-true}
-use Rattle.parser.specs.Notes.{byteIn, beginIn}
+use Rattle.parser.specs.Notes.{byteIn, backIn}
 use Rattle.parser.specs.Reading.{closer, ends, remains, Waits, SomeWait, Closes, Adds}
 use Rattle.parser.proofs.Closing.{length-waiting, waits-length, Top, top-note}
 
@@ -54,7 +54,7 @@ module _ (closes : ℕ → ℕ → Bool) (c : ℕ) (words : List ℕ) (from : �
       word = getD words (first - 1) 0
 
       lower-stack : ends closes c byte ≡ true → (s : Stack) → Waits words first s
-          → (u : Stack) × Waits words (beginIn word) u × (beginIn word < first) × (remains (closer closes c) u ≡ remains (closer closes c) s)
+          → (u : Stack) × Waits words (first - 1 - backIn word) u × (backIn word < first) × (remains (closer closes c) u ≡ remains (closer closes c) s)
       unfolding ends
       lower-stack e bottom w = absurd (top-note words first positive bottom w)
       lower-stack e (opened s) w =
@@ -65,7 +65,13 @@ module _ (closes : ℕ → ℕ → Bool) (c : ℕ) (words : List ℕ) (from : �
           let closed : closer closes c o ≡ true = ap (closer closes c) (sym (is-byte ∙ is)) ∙ and-true (ltb byte mostOperators) (closer closes c byte) e .1 in
           (s, below, low, sym (rw closed refl))
 
-      pub closing-more : {r : ℕ} → not b ≡ false → r ≡ beginIn word → Closing r
+      pub back-inside : {r : ℕ} → not b ≡ false → r ≡ backIn word → r ≤ first - 1
+      back-inside e q =
+          let w = k .some-wait in
+          let (u, v, low, same) = lower-stack (sym told ∙ not-false b e) (w .stack) (w .stands) in
+          omega (arith, q, low)
+
+      pub closing-more : {r : ℕ} → not b ≡ false → r ≡ backIn word → Closing (first - 1 - r)
       closing-more e q =
           let yes = sym told ∙ not-false b e in
           let w = k .some-wait in
@@ -76,11 +82,8 @@ module _ (closes : ℕ → ℕ → Bool) (c : ℕ) (words : List ℕ) (from : �
                 let (x₁, y₁, e₁) = k .left x y in
                 let (x₂, y₂, low₂, e₂) = lower-stack yes x₁ y₁ in
                 (x₂, y₂, e₂ ∙ e₁);
-            lower = omega (arith, low, k .lower);
+            lower = omega (arith, k .lower);
           })
-
-      pub closing-lower : {r : ℕ} → not b ≡ false → r ≡ beginIn word → r < first
-      closing-lower e q = let w = k .some-wait in let (u, v, low, same) = lower-stack (sym told ∙ not-false b e) (w .stack) (w .stands) in rw q low
 
       stays : ends closes c byte ≡ false → (s : Stack) → Waits words first s → remains (closer closes c) s ≡ s
       unfolding ends
@@ -115,7 +118,7 @@ module _ (closes : ℕ → ℕ → Bool) (c : ℕ) (words : List ℕ) (from : �
           lower = k .lower;
         }
 
-pub ruleset close-ways = (closing-starts, before-inside, closing-more, closing-lower, closing-stops, closing-ends, needs)
+pub ruleset close-ways = (closing-starts, before-inside, closing-more, back-inside, closing-stops, closing-ends, needs)
 
 -- ---- add
 pub adds : (w : ℕ) (words : List ℕ) (count : ℕ) → length words ≡ mostTokens → count < mostTokens → Adds w words count (set words count w)

@@ -13,9 +13,9 @@ use Rattle.expression.specs.Tree.{Tree, bracket, binary, recordOf, Over}
 use Rattle.expression.proofs.Classes.{infix-byte}
 use Rattle.expression.proofs.Cond.{by-cond}
 use Rattle.disambiguation.specs.LeftToRight.{Frame, after, Stack, bottom, opened, waiting, State, due, have, stuck, close, everything, whole, finish, everyOperator}
-use Rattle.parser.specs.Notes.{note, byteIn, beginIn, notesOf, notesBelow, notesAt}
+use Rattle.parser.specs.Notes.{note, byteIn, backIn, notesOf, notesBelow, notesAt}
 use Rattle.parser.specs.Reading.{classOf, OverBelow, remains, Waits}
-use Rattle.parser.proofs.NoteLaws.{byte-note, begin-note, length-notesOf}
+use Rattle.parser.proofs.NoteLaws.{byte-note, back-note, length-notesOf}
 
 -- ---- what is left
 pub close-remains : (p : ℕ → Bool) (s : Stack) (t : Tree) → (close p s t) .0 ≡ remains p s
@@ -36,25 +36,21 @@ close-over p (waiting (after l o) s) t hs ht =
 
 -- ---- lengths
 pub length-opened : (s : Stack) → length (notesBelow (opened s)) ≡ suc (length (notesBelow s))
-length-opened s = length-append (notesBelow s) (note opening 1 (length (notesBelow s)) ∷ []) ∙ omega arith
+length-opened s = length-append (notesBelow s) (note opening 1 0 ∷ []) ∙ omega arith
 
 pub length-waiting : (l : Tree) (o : ℕ) (s : Stack) → length (notesBelow (waiting (after l o) s)) ≡ suc (length (notesBelow s) + length (recordOf l))
 length-waiting l o s =
-    let b : ℕ = length (notesBelow s) in
-    length-append (notesBelow s ++ notesOf b 1 l) (note o 0 b ∷ [])
-    ∙ ap (λ n. n + 1) (length-append (notesBelow s) (notesOf b 1 l) ∙ ap (λ n. b + n) (length-notesOf b 1 l)) ∙ omega arith
+    length-append (notesBelow s ++ notesOf 1 l) (note o 0 (length (recordOf l)) ∷ [])
+    ∙ ap (λ n. n + 1) (length-append (notesBelow s) (notesOf 1 l) ∙ ap (λ n. length (notesBelow s) + n) (length-notesOf 1 l)) ∙ omega arith
 
 pub length-notesAt : (s : Stack) (t : Tree) → length (notesAt (have s t)) ≡ length (notesBelow s) + length (recordOf t)
-length-notesAt s t = length-append (notesBelow s) (notesOf (length (notesBelow s)) 0 t) ∙ ap (λ n. length (notesBelow s) + n) (length-notesOf (length (notesBelow s)) 0 t)
+length-notesAt s t = length-append (notesBelow s) (notesOf 0 t) ∙ ap (λ n. length (notesBelow s) + n) (length-notesOf 0 t)
 
 -- ---- the notes
 fill-notes : (l : Tree) (o : ℕ) (s : Stack) (t : Tree) → notesAt (have (waiting (after l o) s) t) ≡ notesAt (have s (binary o l t))
 fill-notes l o s t =
-    let b : ℕ = length (notesBelow s) in
-    let rest : List ℕ = notesOf (suc (b + length (recordOf l))) 0 t in
-    ap (λ n. (notesBelow s ++ notesOf b 1 l ++ note o 0 b ∷ []) ++ notesOf n 0 t) (length-waiting l o s)
-    ∙ append-assoc (notesBelow s ++ notesOf b 1 l) (note o 0 b ∷ []) rest
-    ∙ append-assoc (notesBelow s) (notesOf b 1 l) (note o 0 b ∷ rest)
+    let n : ℕ = note o 0 (length (recordOf l)) in
+    append-assoc (notesBelow s ++ notesOf 1 l) (n ∷ []) (notesOf 0 t) ∙ append-assoc (notesBelow s) (notesOf 1 l) (n ∷ notesOf 0 t)
 
 pub close-notes : (p : ℕ → Bool) (s : Stack) (t : Tree) → notesAt (have s t) ≡ notesAt (have ((close p s t) .0) ((close p s t) .1))
 close-notes p bottom t = refl
@@ -65,9 +61,7 @@ close-notes p (waiting (after l o) s) t =
 
 -- a bracket that closes has its note already
 pub shut-notes : (s : Stack) (t : Tree) → notesAt (have (opened s) t) ≡ notesAt (have s (bracket t))
-shut-notes s t =
-    let b : ℕ = length (notesBelow s) in
-    ap (λ n. (notesBelow s ++ note opening 1 b ∷ []) ++ notesOf n 0 t) (length-opened s) ∙ append-assoc (notesBelow s) (note opening 1 b ∷ []) (notesOf (suc b) 0 t)
+shut-notes s t = append-assoc (notesBelow s) (note opening 1 0 ∷ []) (notesOf 0 t)
 
 -- ---- what stands right before an operand
 module _ (words : List ℕ) (first : ℕ) where
@@ -78,44 +72,44 @@ module _ (words : List ℕ) (first : ℕ) where
   abbrev pub Top : ℕ → Stack → Type 0
   Top w bottom = ⊥
   Top w (opened s) = byteIn w ≡ opening
-  Top w (waiting (after l o) s) = (byteIn w ≡ o) × (o < mostOperators) × (beginIn w < first) × Waits words (beginIn w) s
+  Top w (waiting (after l o) s) = (byteIn w ≡ o) × (o < mostOperators) × (backIn w < first) × Waits words (first - 1 - backIn w) s
 
   last-word : (xs : List ℕ) (w : ℕ) → take first words ≡ xs ++ w ∷ [] → first ≡ suc (length xs) → getD words (first - 1) 0 ≡ w
   last-word xs w e n = sym (getD-take first words (first - 1) 0 (omega arith)) ∙ ap (λ x. getD x (first - 1) 0) e ∙ getD-at xs w [] 0 (first - 1) (omega arith)
 
   pub top-note : 0 < first → (s : Stack) → Waits words first s → Top (getD words (first - 1) 0) s
   top-note h bottom w = absurd (omega (arith, waits-length w))
-  top-note h (opened s) w =
-      let b : ℕ = length (notesBelow s) in
-      ap byteIn (last-word (notesBelow s) (note opening 1 b) (w .noted) (waits-length w ∙ length-opened s)) ∙ byte-note opening 1 b (omega arith)
+  top-note h (opened s) w = ap byteIn (last-word (notesBelow s) (note opening 1 0) (w .noted) (waits-length w ∙ length-opened s)) ∙ byte-note opening 1 0 (omega arith)
   top-note h (waiting (after l o) s) w =
-      let b : ℕ = length (notesBelow s) in
+      let m : ℕ = length (recordOf l) in
       let small = infix-byte everyOperator o (w .over .0) .0 in
       let long = waits-length w ∙ length-waiting l o s in
-      let size = length-append (notesBelow s) (notesOf b 1 l) ∙ ap (λ n. b + n) (length-notesOf b 1 l) in
-      let word = last-word (notesBelow s ++ notesOf b 1 l) (note o 0 b) (w .noted) (long ∙ ap suc (sym size)) in
-      let begin : beginIn (getD words (first - 1) 0) ≡ b = ap beginIn word ∙ begin-note o 0 b (omega arith) (omega arith) in (
-        ap byteIn word ∙ byte-note o 0 b (omega arith),
+      let size = length-append (notesBelow s) (notesOf 1 l) ∙ ap (λ n. length (notesBelow s) + n) (length-notesOf 1 l) in
+      let word = last-word (notesBelow s ++ notesOf 1 l) (note o 0 m) (w .noted) (long ∙ ap suc (sym size)) in
+      let back : backIn (getD words (first - 1) 0) ≡ m = ap backIn word ∙ back-note o 0 m (omega arith) (omega arith) in
+      let at : first - 1 - backIn (getD words (first - 1) 0) ≡ length (notesBelow s) = omega (arith, back, long) in (
+        ap byteIn word ∙ byte-note o 0 m (omega arith),
         small,
-        omega (arith, begin, long),
+        omega (arith, back, long),
         record {
           noted =
-              ap (λ n. take n words) begin ∙ sym (take-take b first words (omega (arith, long)))
-              ∙ ap (take b) (w .noted ∙ append-assoc (notesBelow s) (notesOf b 1 l) (note o 0 b ∷ [])) ∙ take-at (notesBelow s) (notesOf b 1 l ++ note o 0 b ∷ []) b refl;
+              sym (take-take (first - 1 - backIn (getD words (first - 1) 0)) first words (omega arith))
+              ∙ ap (take (first - 1 - backIn (getD words (first - 1) 0))) (w .noted ∙ append-assoc (notesBelow s) (notesOf 1 l) (note o 0 m ∷ []))
+              ∙ take-at (notesBelow s) (notesOf 1 l ++ note o 0 m ∷ []) (first - 1 - backIn (getD words (first - 1) 0)) (sym at);
           over = w .over .2;
           size = w .size;
-          inside = omega (arith, begin, long, w .inside);
+          inside = omega (arith, w .inside);
         },
       )
 
 -- ---- at the end
-whole-notes : (s : Stack) (u t : Tree) → whole s u ≡ some t → notesAt (have s u) ≡ notesOf 0 0 t
-whole-notes bottom u t e = ap (notesOf 0 0) (Option·some-injective u t e)
+whole-notes : (s : Stack) (u t : Tree) → whole s u ≡ some t → notesAt (have s u) ≡ notesOf 0 t
+whole-notes bottom u t e = ap (notesOf 0) (Option·some-injective u t e)
 whole-notes (opened s) u t e = cc
 whole-notes (waiting f s) u t e = cc
 
 -- all that waits at the end closes, which changes no note
-pub finished-notes : (m : State) (t : Tree) → finish m ≡ some t → notesAt m ≡ notesOf 0 0 t
+pub finished-notes : (m : State) (t : Tree) → finish m ≡ some t → notesAt m ≡ notesOf 0 t
 finished-notes (due s) t e = cc
 finished-notes (have s u) t e = close-notes everything s u ∙ whole-notes ((close everything s u) .0) ((close everything s u) .1) t e
 finished-notes stuck t e = cc

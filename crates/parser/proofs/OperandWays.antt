@@ -39,7 +39,7 @@ module _ {words : List ℕ} {f : Front} where
       record {
         noted =
             sym (take-take (f .first) (f .count) words (omega (arith, n .begins, long))) ∙ ap (take (f .first)) (n .noted)
-            ∙ take-at (notesBelow s) (notesOf (length (notesBelow s)) 0 t) (f .first) (sym (n .begins));
+            ∙ take-at (notesBelow s) (notesOf 0 t) (f .first) (sym (n .begins));
         over = n .over .0;
         size = n .size;
         inside = omega (arith, n .begins, long, n .inside);
@@ -47,20 +47,20 @@ module _ {words : List ℕ} {f : Front} where
 
 -- ---- take_operand
 module _ (closes : ℕ → ℕ → Bool) (c : ℕ) {words words′ : List ℕ} {x : ℕ} (f : Front) (small : f .count < mostTokens) (no-operator : mostOperators ≤ c) (no-closing : c ≡ closing → ⊥)
-    (is-note : x ≡ note c 1 (f .count)) (adds : Adds x words (f .count) words′) where
+    (is-note : x ≡ note c 1 0) (adds : Adds x words (f .count) words′) where
   abbrev grown : Front
   grown = record { count = f .count + 1; first = f .count }
 
   -- the words with the note of c
-  with-note : (s : Stack) → Noted words f (due s) → take (f .count + 1) words′ ≡ notesBelow s ++ note c 1 (length (notesBelow s)) ∷ []
+  with-note : (s : Stack) → Noted words f (due s) → take (f .count + 1) words′ ≡ notesBelow s ++ note c 1 0 ∷ []
   with-note s n =
       let e : f .count + 1 ≡ suc (f .count) = omega arith in
-      ap (λ k. take k words′) e ∙ adds .added ∙ ap₂ (λ l w. l ++ w ∷ []) (n .noted) (is-note ∙ ap (note c 1) (count-is n))
+      ap (λ k. take k words′) e ∙ adds .added ∙ ap₂ (λ l w. l ++ w ∷ []) (n .noted) is-note
 
   opens : (s : Stack) → c ≡ opening → Noted words f (due s) → Noted words′ grown (due (opened s))
   opens s e n =
       record {
-        noted = with-note s n ∙ ap (λ b. notesBelow s ++ note b 1 (length (notesBelow s)) ∷ []) e;
+        noted = with-note s n ∙ ap (λ b. notesBelow s ++ note b 1 0 ∷ []) e;
         begins = tt;
         over = n .over;
         size = adds .same-length ∙ n .size;

@@ -42,13 +42,14 @@ module _ (closes : ℕ → ℕ → Bool) (c : ℕ) (words : List ℕ) (f : Front
     -- The operator's left operand: the tree that begins at `first`.
     record Left (s : Stack) (t : Tree) : Type 0 where
       first-is : first ≡ length (notesBelow s)
-      noted : take (f .count) words ≡ notesBelow s ++ notesOf first 0 t
+      size-is : f .count - first ≡ length (recordOf t)
+      noted : take (f .count) words ≡ notesBelow s ++ notesOf 0 t
       over-stack : OverBelow s
       over-tree : Over classOf t
       first-word : ℕ
       words-after : List ℕ
-      begins : notesOf first 0 t ≡ first-word ∷ words-after
-      raised : notesOf first 1 t ≡ (first-word + 0x100) ∷ words-after
+      begins : notesOf 0 t ≡ first-word ∷ words-after
+      raised : notesOf 1 t ≡ (first-word + 0x100) ∷ words-after
       small : first-word < 0x80000000
       before-count : first < f .count
       is-word : getD words first 0 ≡ first-word
@@ -64,13 +65,13 @@ module _ (closes : ℕ → ℕ → Bool) (c : ℕ) (words : List ℕ) (f : Front
             let w = subst (λ x. Waits words first x) e (closed .left s (waits-before n)) in
             let at = waits-length words first w in
             let long : f .count ≡ length (notesBelow u) + length (recordOf v) = count-is n ∙ ap length (sym (n .noted) ∙ q) ∙ length-notesAt u v in
-            let noted : take (f .count) words ≡ notesBelow u ++ notesOf first 0 v = q ∙ ap (λ x. notesBelow u ++ notesOf x 0 v) (sym at) in
-            let (x, xs, b, r, small) = first-note first 0 v (over .1) (omega (arith, at, long)) (omega (arith, long)) in
-            let some : length (recordOf v) ≡ suc (length xs) = sym (length-notesOf first 0 v) ∙ ap length b in
+            let (x, xs, b, r, small) = first-note 0 v (over .1) (omega (arith, long)) in
+            let some : length (recordOf v) ≡ suc (length xs) = sym (length-notesOf 0 v) ∙ ap length b in
             let lower : first < f .count = omega (arith, at, long, some) in
             record {
               first-is = at;
-              noted = noted;
+              size-is = omega (arith, at, long);
+              noted = q;
               over-stack = over .0;
               over-tree = over .1;
               first-word = x;
@@ -80,7 +81,7 @@ module _ (closes : ℕ → ℕ → Bool) (c : ℕ) (words : List ℕ) (f : Front
               small = small;
               before-count = lower;
               is-word =
-                  sym (getD-take (f .count) words first 0 lower) ∙ ap (λ l. getD l first 0) (noted ∙ ap (λ l. notesBelow u ++ l) b)
+                  sym (getD-take (f .count) words first 0 lower) ∙ ap (λ l. getD l first 0) (q ∙ ap (λ l. notesBelow u ++ l) b)
                   ∙ getD-at (notesBelow u) x xs 0 first (sym at);
             }
 
@@ -105,13 +106,12 @@ module _ (closes : ℕ → ℕ → Bool) (c : ℕ) (words : List ℕ) (f : Front
           go u v l =
               let e : f .count + 1 ≡ suc (f .count) = omega arith in
               let x : ℕ = getD words first 0 + 0x100 in
-              let raised : set (take (f .count) words) first x ≡ notesBelow u ++ notesOf first 1 v =
+              let raised : set (take (f .count) words) first x ≡ notesBelow u ++ notesOf 1 v =
               ap (λ w. set w first x) (l .noted ∙ ap (λ w. notesBelow u ++ w) (l .begins)) ∙ set-at (notesBelow u) (l .first-word) (l .words-after) x first (sym (l .first-is))
               ∙ ap (λ w. notesBelow u ++ (w + 0x100) ∷ l .words-after) (l .is-word) ∙ ap (λ w. notesBelow u ++ w) (sym (l .raised)) in
               record {
                 noted =
-                    ap (λ k. take k words′) e ∙ frees .added ∙ ap (λ w. w ++ note c 0 first ∷ []) raised
-                    ∙ ap (λ b. notesBelow u ++ notesOf b 1 v ++ note c 0 b ∷ []) (l .first-is);
+                    ap (λ k. take k words′) e ∙ frees .added ∙ ap₂ (λ w n. w ++ note c 0 n ∷ []) raised (l .size-is);
                 begins = tt;
                 over = (is-infix, l .over-tree, l .over-stack);
                 size = frees .same-length ∙ n .size;
@@ -126,7 +126,7 @@ pub ruleset operator-ways = (operator-waits, operator-raisable, operator-taken, 
 
 -- ---- free_place
 module _ (c : ℕ) (words : List ℕ) (count first : ℕ) (size : length words ≡ mostTokens) (room : count < mostTokens) (can : Raisable words count first) where
-  pub place-freed : {words′ : List ℕ} {x y : ℕ} → x ≡ getD words first 0 + 0x100 → y ≡ note c 0 first → Adds y (set words first x) count words′ → Frees c words count first words′
+  pub place-freed : {words′ : List ℕ} {x y : ℕ} → x ≡ getD words first 0 + 0x100 → y ≡ note c 0 (count - first) → Adds y (set words first x) count words′ → Frees c words count first words′
   place-freed {words′} {x} {y} e q adds =
       record {
         added = adds .added ∙ ap₂ (λ w z. w ++ z ∷ []) (take-set-lt count words first x (can .before-count) ∙ ap (set (take count words) first) e) q;

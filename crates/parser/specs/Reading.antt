@@ -1,5 +1,5 @@
 -- Reading a row from the left into notes: what each step leaves, in terms of the machine's states. Assumes nothing.
-use Prim.Native.Nat.{ℕ, suc, _+_, _≤_, _<_}
+use Prim.Native.Nat.{ℕ, suc, _+_, _-_, _≤_, _<_}
 use mathlib.Core.Path.{_≡_}
 use mathlib.Core.Bool.{Bool, not, _&&_, cond}
 use mathlib.Core.Option.{some}
@@ -111,7 +111,7 @@ pub record Raisable (words : List ℕ) (count first : ℕ) : Type 0 where
 
 -- A place is left free before the token at `first`, and the operator c has its note.
 pub record Frees (c : ℕ) (words : List ℕ) (count first : ℕ) (words′ : List ℕ) : Type 0 where
-  pub added : take (suc count) words′ ≡ set (take count words) first (getD words first 0 + 0x100) ++ note c 0 first ∷ []
+  pub added : take (suc count) words′ ≡ set (take count words) first (getD words first 0 + 0x100) ++ note c 0 (count - first) ∷ []
   pub same-length : length words′ ≡ length words
 
 -- The machine makes a tree of the row, and its record has the bytes that are counted in the row.
@@ -123,5 +123,5 @@ pub record Buildable (closes : ℕ → ℕ → Bool) (row : List ℕ) : Type 0 w
 
 -- The words begin with the notes of the tree that is made of the row.
 pub record Reads (closes : ℕ → ℕ → Bool) (row words : List ℕ) : Type 0 where
-  pub noted : (t : Tree) → made closes row ≡ some t → take (length (recordOf t)) words ≡ notesOf 0 0 t
+  pub noted : (t : Tree) → made closes row ≡ some t → take (length (recordOf t)) words ≡ notesOf 0 t
   pub few : (t : Tree) → made closes row ≡ some t → length (recordOf t) ≤ mostTokens

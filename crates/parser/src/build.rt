@@ -52,7 +52,7 @@ fn close_waiting(
         if !closes_at(sheet, c, notes::byte_in(w)) {
             return first;
         }
-        first = notes::begin_in(w);
+        first = first - 1 - notes::back_in(w);
     }
     first
 }
@@ -76,7 +76,7 @@ fn take_operand(
     ensures { λ r. ⌜ Takes (closesIn (now (sheet .entry))) c (now (words .entry)) from (now (words .exit)) r ⌝ }
 {
     let count = from.count;
-    add(notes::note(c, 1, count), words, count);
+    add(notes::note(c, 1, 0), words, count);
     Front {
         count: count + 1,
         first: count,
@@ -89,7 +89,7 @@ fn free_place(c: u8, words: &mut [u32; MOST_TOKENS], count: usize, first: usize)
     ensures { λ _. ⌜ Frees c (now (words .entry)) count first (now (words .exit)) ⌝ }
 {
     words[first] = notes::one_more(words[first]);
-    add(notes::note(c, 0, first), words, count);
+    add(notes::note(c, 0, count - first), words, count);
 }
 
 // An operator comes: what closes before it is its left operand. It waits.
@@ -158,15 +158,15 @@ fn read_row(sheet: &[u32; SHEET_WORDS], row: &[u8], words: &mut [u32; MOST_TOKEN
 
 // The record that the notes lay out.
 fn lay_out(words: &[u32; MOST_TOKENS], out: &mut [u8])
-    requires { ⌜ (length (now out) ≤ mostTokens) × (length (now out) ≤ length (now words)) × Inside (length (now out)) (take (length (now out)) (now words)) 0 0 ⌝ }
-    ensures { λ _. ⌜ now (out .exit) ≡ laidOut (take (length (now (out .entry))) (now (words .entry))) 0 0 (now (out .entry)) ⌝ }
+    requires { ⌜ (length (now out) ≤ mostTokens) × (length (now out) ≤ length (now words)) × Inside (length (now out)) (take (length (now out)) (now words)) 0 ⌝ }
+    ensures { λ _. ⌜ now (out .exit) ≡ laidOut (take (length (now (out .entry))) (now (words .entry))) 0 (now (out .entry)) ⌝ }
 {
     let mut at = 0;
     let mut i = 0;
     while i < out.len() {
         let w = words[i];
         at = at + notes::places_in(w);
-        out[at + notes::begin_in(w) - (i + 1)] = notes::byte_in(w);
+        out[at - (notes::back_in(w) + 1)] = notes::byte_in(w);
         i += 1;
     }
 }

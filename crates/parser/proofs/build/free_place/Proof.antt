@@ -12,6 +12,7 @@ free-place-spec =
     (λ c κs. search place-ways)
     (λ c. search place-ways)
     (λ c. search place-ways)
+    (λ c. search place-ways)
     (λ c κs. search place-ways)
     (λ c κs. search place-ways)
     (λ c. search place-ways))

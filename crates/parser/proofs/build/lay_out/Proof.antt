@@ -31,5 +31,4 @@ lay-out-spec =
     (λ c. search lay-ways)
     (λ c. search lay-ways)
     (λ c. search lay-ways)
-    (λ c. search lay-ways)
     (λ c. search lay-ways))
