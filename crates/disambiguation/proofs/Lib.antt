@@ -18,3 +18,4 @@ pub mod RuleBytes
 pub mod Agreement
 pub mod Accepted
 pub mod Cases
+pub mod MachineExamples

@@ -16,6 +16,7 @@ pub mod Demand1
 pub mod Demand2
 pub mod Demand3
 pub mod ShortestRows
+pub mod ReadFromTheLeft
 pub mod AnswerWays
 pub mod StoreWays
 pub mod LoadWays

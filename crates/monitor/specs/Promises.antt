@@ -18,6 +18,7 @@ use Rattle.disambiguation.specs.Conflicts.{conflictCount, ConflictFreeTree}
 use Rattle.disambiguation.specs.ExactlyOne.{SomeRowHasNone, SomeRowHasTwo, EveryRowHasExactlyOne}
 use Rattle.disambiguation.specs.SheetChecks.{rulesOf, InOrder, ListInOrder}
 use Rattle.sheet.specs.InForce.{InForce}
+use Rattle.parser.specs.FromTheLeft.{FromTheLeft}
 use Rattle.brackets.specs.SameMeaning.{ShortestRow}
 use Rattle.monitor.specs.Call.{Call, Reply, lentTo, load, loadList, putRecord, ask, build, repair, judge, yield, shortestRow}
 use Rattle.monitor.specs.Panel.{Panel}
@@ -102,3 +103,8 @@ module _ (cs : List Call) where
     pub shortened : (t : Tree) → Over (class ops) t → Within t
         → (row : List ℕ) × ShortestRow ops rules (tree.yield t) row × (length row ≤ length (tree.yield t))
         × ((out : List ℕ) → length row ≤ length out → AnsweredBy cs (ask (shortestRow (recordOf t) out)) out row)
+
+  -- W3, repair from the left. By the relation of the panel's sheet, wherever a beginning of a row is itself a row, closing all that waits there gives that beginning's
+  -- conflict-free tree; and what build and repair write is what is made so.
+  abbrev pub ReadFromTheLeft : Type 0
+  ReadFromTheLeft = FromTheLeft (panelAfter cs .sheet) ops rules

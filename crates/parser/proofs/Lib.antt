@@ -8,6 +8,7 @@ pub mod OperatorWays
 pub mod BuildWays
 pub mod BuildLaws
 pub mod InForceBuilds
+pub mod FromTheLeft
 pub mod TokenWays
 pub mod ReaderWays
 pub mod RowWays

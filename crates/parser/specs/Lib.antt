@@ -1,4 +1,5 @@
 pub mod Build
+pub mod FromTheLeft
 pub mod Notes
 pub mod Rows
 pub mod Reading
