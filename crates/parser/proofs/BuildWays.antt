@@ -54,21 +54,23 @@ module _ (closes : ℕ → ℕ → Bool) where
   made-finishes row t e = e
 
 -- ---- read_row
-module _ (closes : ℕ → ℕ → Bool) (row : List ℕ) where
+module _ (closes : ℕ → ℕ → Bool) (row words₀ : List ℕ) where
   -- the tokens before i are taken
   pub record Reading (words : List ℕ) (f : Front) (i : ℕ) : Type 0 where
     pub stands : Noted words f (after closes (take i row))
     pub first-inside : f .first ≤ f .count
     pub few : f .count ≤ i
     pub inside : i ≤ length row
+    pub same-length : length words ≡ length words₀
 
-  pub reading-starts : (words : List ℕ) → length words ≡ mostTokens → Reading words (record { count = 0; first = 0 }) 0
-  reading-starts words size =
+  pub reading-starts : length words₀ ≤ mostTokens → Reading words₀ (record { count = 0; first = 0 }) 0
+  reading-starts size =
       record {
         stands = record { noted = refl; begins = tt; over = tt; size = size; inside = omega arith };
         first-inside = omega arith;
         few = omega arith;
         inside = omega arith;
+        same-length = refl;
       }
 
   one-more : (i : ℕ) → i < length row → after closes (take (i + 1) row) ≡ next closes (getD row i 0) (after closes (take i row))
@@ -84,8 +86,11 @@ module _ (closes : ℕ → ℕ → Bool) (row : List ℕ) where
     pub token-takeable : i < length row → Buildable closes row → Takeable closes (getD row i 0) words f
     token-takeable h b = record { state = after closes (take i row); stands = r .stands; goes = goes i h b }
 
-    pub token-room : i < length row → length row ≤ mostTokens → f .count < mostTokens
-    token-room h l = omega (arith, r .few)
+    pub token-room : i < length row → length row ≤ length words₀ → f .count < length words
+    token-room h l = omega (arith, r .few, r .same-length)
+
+    pub words-same : length words ≡ length words₀
+    words-same = r .same-length
 
     pub token-first : f .first ≤ f .count
     token-first = r .first-inside
@@ -97,6 +102,7 @@ module _ (closes : ℕ → ℕ → Bool) (row : List ℕ) where
           first-inside = t .first-inside;
           few = omega (arith, t .counted, r .few, share-small (getD row i 0));
           inside = omega arith;
+          same-length = t .same-length ∙ r .same-length;
         }
 
     pub reading-done : length row ≤ i → Reads closes row words
@@ -107,10 +113,10 @@ module _ (closes : ℕ → ℕ → Bool) (row : List ℕ) where
         λ t e. count-is (r .stands) ∙ ap length (sym (r .stands .noted) ∙ noted t e) ∙ length-notesOf 0 t in
         record {
           noted = λ t e. ap (λ n. take n words) (sym (long t e)) ∙ noted t e;
-          few = λ t e. omega (arith, long t e, r .stands .inside);
+          few = λ t e. omega (arith, long t e, r .stands .inside, r .stands .size);
         }
 
-pub ruleset read-ways = (reading-starts, token-takeable, token-room, token-first, reading-more, reading-done, needs)
+pub ruleset read-ways = (reading-starts, token-takeable, token-room, words-same, token-first, reading-more, reading-done, needs)
 
 -- ---- build_into
 module _ (closes : ℕ → ℕ → Bool) (row out : List ℕ) (b : Buildable closes row) (size : length out ≡ recordBytes row) where

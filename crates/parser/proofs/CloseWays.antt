@@ -45,7 +45,7 @@ module _ (closes : ℕ → ℕ → Bool) (c : ℕ) (words : List ℕ) (from : �
   closing-starts w = record { some-wait = w; left = λ u v. (u, v, refl); lower = omega arith }
 
   module _ {first : ℕ} (k : Closing first) where
-    pub before-inside : 0 < first → first - 1 < mostTokens
+    pub before-inside : 0 < first → first - 1 < length words
     before-inside h = omega (arith, k .some-wait .stands .inside)
 
     -- what closes is an operator, and what waits below it begins where its word says
@@ -121,7 +121,7 @@ module _ (closes : ℕ → ℕ → Bool) (c : ℕ) (words : List ℕ) (from : �
 pub ruleset close-ways = (closing-starts, before-inside, closing-more, back-inside, closing-stops, closing-ends, needs)
 
 -- ---- add
-pub adds : (w : ℕ) (words : List ℕ) (count : ℕ) → length words ≡ mostTokens → count < mostTokens → Adds w words count (set words count w)
-adds w words count s h = record { added = take-suc-set words count w (omega arith); same-length = length-set words count w }
+pub adds : (w : ℕ) (words : List ℕ) (count : ℕ) → count < length words → Adds w words count (set words count w)
+adds w words count h = record { added = take-suc-set words count w h; same-length = length-set words count w }
 
 pub ruleset add-ways = (adds, needs)

@@ -46,7 +46,7 @@ module _ {words : List ℕ} {f : Front} where
       }
 
 -- ---- take_operand
-module _ (closes : ℕ → ℕ → Bool) (c : ℕ) {words words′ : List ℕ} {x : ℕ} (f : Front) (small : f .count < mostTokens) (no-operator : mostOperators ≤ c) (no-closing : c ≡ closing → ⊥)
+module _ (closes : ℕ → ℕ → Bool) (c : ℕ) {words words′ : List ℕ} {x : ℕ} (f : Front) (small : f .count < length words) (no-operator : mostOperators ≤ c) (no-closing : c ≡ closing → ⊥)
     (is-note : x ≡ note c 1 0) (adds : Adds x words (f .count) words′) where
   abbrev grown : Front
   grown = record { count = f .count + 1; first = f .count }
@@ -63,8 +63,8 @@ module _ (closes : ℕ → ℕ → Bool) (c : ℕ) {words words′ : List ℕ} {
         noted = with-note s n ∙ ap (λ b. notesBelow s ++ note b 1 0 ∷ []) e;
         begins = tt;
         over = n .over;
-        size = adds .same-length ∙ n .size;
-        inside = omega arith;
+        size = omega (arith, adds .same-length, n .size);
+        inside = omega (arith, adds .same-length);
       }
 
   reads-one : (s : Stack) → classOf c ≡ Reading → Noted words f (due s) → Noted words′ grown (have s (reading c))
@@ -73,8 +73,8 @@ module _ (closes : ℕ → ℕ → Bool) (c : ℕ) {words words′ : List ℕ} {
         noted = with-note s n;
         begins = count-is n;
         over = (n .over, e);
-        size = adds .same-length ∙ n .size;
-        inside = omega arith;
+        size = omega (arith, adds .same-length, n .size);
+        inside = omega (arith, adds .same-length);
       }
 
   where-due : (s : Stack) → Noted words f (due s) → Goes (whereDue (classOf c) c s) → Noted words′ grown (whereDue (classOf c) c s)
@@ -92,9 +92,9 @@ module _ (closes : ℕ → ℕ → Bool) (c : ℕ) {words words′ : List ℕ} {
   operand-goes stuck n g = absurd g
 
   pub operand-taken : Takes closes c words f words′ grown
-  operand-taken = record { taken = operand-goes; counted = omega (arith, share-one c no-closing); first-inside = omega arith }
+  operand-taken = record { taken = operand-goes; counted = omega (arith, share-one c no-closing); first-inside = omega arith; same-length = adds .same-length }
 
-pub noted-size : (closes : ℕ → ℕ → Bool) (c : ℕ) (words : List ℕ) (f : Front) → Takeable closes c words f → length words ≡ mostTokens
+pub noted-size : (closes : ℕ → ℕ → Bool) (c : ℕ) (words : List ℕ) (f : Front) → Takeable closes c words f → length words ≤ mostTokens
 noted-size closes c words f k = k .stands .size
 
 pub ruleset operand-ways = (operand-taken, noted-size, needs)

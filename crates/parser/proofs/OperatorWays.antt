@@ -38,7 +38,7 @@ module _ (closes : ℕ → ℕ → Bool) (c : ℕ) (words : List ℕ) (f : Front
   pub operator-waits : Takeable closes c words f → SomeWait words (f .first)
   operator-waits k = some-wait closes c words f due-stuck (k .state) (k .stands) (k .goes)
 
-  module _ {first : ℕ} (closed : Closes closes c words (f .first) first) (inside : f .count ≤ mostTokens) where
+  module _ {first : ℕ} (closed : Closes closes c words (f .first) first) where
     -- The operator's left operand: the tree that begins at `first`.
     record Left (s : Stack) (t : Tree) : Type 0 where
       first-is : first ≡ length (notesBelow s)
@@ -65,7 +65,7 @@ module _ (closes : ℕ → ℕ → Bool) (c : ℕ) (words : List ℕ) (f : Front
             let w = subst (λ x. Waits words first x) e (closed .left s (waits-before n)) in
             let at = waits-length words first w in
             let long : f .count ≡ length (notesBelow u) + length (recordOf v) = count-is n ∙ ap length (sym (n .noted) ∙ q) ∙ length-notesAt u v in
-            let (x, xs, b, r, small) = first-note 0 v (over .1) (omega (arith, long)) in
+            let (x, xs, b, r, small) = first-note 0 v (over .1) (omega (arith, long, n .size, n .inside)) in
             let some : length (recordOf v) ≡ suc (length xs) = sym (length-notesOf 0 v) ∙ ap length b in
             let lower : first < f .count = omega (arith, at, long, some) in
             record {
@@ -94,7 +94,7 @@ module _ (closes : ℕ → ℕ → Bool) (c : ℕ) (words : List ℕ) (f : Front
     pub operator-raisable : Takeable closes c words f → Raisable words (f .count) first
     operator-raisable k = raisable (k .state) (k .stands) (k .goes)
 
-    module _ {words′ : List ℕ} (frees : Frees c words (f .count) first words′) (room : f .count < mostTokens) where
+    module _ {words′ : List ℕ} (frees : Frees c words (f .count) first words′) (room : f .count < length words) where
       abbrev grown : Front
       grown = record { count = f .count + 1; first = first }
 
@@ -114,18 +114,18 @@ module _ (closes : ℕ → ℕ → Bool) (c : ℕ) (words : List ℕ) (f : Front
                     ap (λ k. take k words′) e ∙ frees .added ∙ ap₂ (λ w n. w ++ note c 0 n ∷ []) raised (l .size-is);
                 begins = tt;
                 over = (is-infix, l .over-tree, l .over-stack);
-                size = frees .same-length ∙ n .size;
-                inside = omega arith;
+                size = omega (arith, frees .same-length, n .size);
+                inside = omega (arith, frees .same-length);
               }
       operator-goes stuck n g = absurd g
 
       pub operator-taken : f .first ≤ f .count → Takes closes c words f words′ grown
-      operator-taken h = record { taken = operator-goes; counted = omega (arith, share-one c (λ e. omega arith)); first-inside = omega (arith, closed .lower) }
+      operator-taken h = record { taken = operator-goes; counted = omega (arith, share-one c (λ e. omega arith)); first-inside = omega (arith, closed .lower); same-length = frees .same-length }
 
 pub ruleset operator-ways = (operator-waits, operator-raisable, operator-taken, noted-size, needs)
 
 -- ---- free_place
-module _ (c : ℕ) (words : List ℕ) (count first : ℕ) (size : length words ≡ mostTokens) (room : count < mostTokens) (can : Raisable words count first) where
+module _ (c : ℕ) (words : List ℕ) (count first : ℕ) (size : length words ≤ mostTokens) (room : count < length words) (can : Raisable words count first) where
   pub place-freed : {words′ : List ℕ} {x y : ℕ} → x ≡ getD words first 0 + 0x100 → y ≡ note c 0 (count - first) → Adds y (set words first x) count words′ → Frees c words count first words′
   place-freed {words′} {x} {y} e q adds =
       record {
@@ -133,16 +133,19 @@ module _ (c : ℕ) (words : List ℕ) (count first : ℕ) (size : length words �
         same-length = adds .same-length ∙ length-set words first x;
       }
 
-  pub first-inside : first < mostTokens
+  pub first-inside : first < length words
   first-inside = omega (arith, can .before-count)
 
-  pub first-low : first ≤ mostTokens
-  first-low = omega (arith, can .before-count)
+  pub back-small : count - first ≤ mostTokens
+  back-small = omega arith
 
-  pub still-long : (x : ℕ) → length (set words first x) ≡ mostTokens
-  still-long x = length-set words first x ∙ size
+  pub freed-same : {words′ : List ℕ} {y : ℕ} (x : ℕ) → Adds y (set words first x) count words′ → length words′ ≡ length words
+  freed-same x adds = adds .same-length ∙ length-set words first x
 
-pub ruleset place-ways = (place-freed, first-inside, first-low, still-long, needs)
+  pub still-inside : (x : ℕ) → count < length (set words first x)
+  still-inside x = omega (arith, length-set words first x)
+
+pub ruleset place-ways = (place-freed, freed-same, first-inside, back-small, still-inside, needs)
 
 -- ---- take_closing
 module _ (closes : ℕ → ℕ → Bool) (words : List ℕ) (f : Front) where
@@ -182,7 +185,7 @@ module _ (closes : ℕ → ℕ → Bool) (words : List ℕ) (f : Front) where
     closing-positive k = closing-goes (k .state) (k .stands) (k .goes) .0
 
     pub closing-taken : f .first ≤ f .count → Takes closes closing words f words shorter
-    closing-taken h = record { taken = λ m n g. closing-goes m n g .1; counted = omega (arith, share-closing); first-inside = omega (arith, closed .lower) }
+    closing-taken h = record { taken = λ m n g. closing-goes m n g .1; counted = omega (arith, share-closing); first-inside = omega (arith, closed .lower); same-length = refl }
 
 pub ruleset closing-ways = (closing-waits, closing-positive, closing-taken, needs)
 

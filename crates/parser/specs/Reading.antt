@@ -67,8 +67,8 @@ remains p (waiting f s) = cond (p (operatorOf f)) (remains p s) (waiting f s)
 pub record Waits (words : List ℕ) (first : ℕ) (s : Stack) : Type 0 where
   pub noted : take first words ≡ notesBelow s
   pub over : OverBelow s
-  pub size : length words ≡ mostTokens
-  pub inside : first ≤ mostTokens
+  pub size : length words ≤ mostTokens
+  pub inside : first ≤ length words
 
 pub record SomeWait (words : List ℕ) (first : ℕ) : Type 0 where
   pub stack : Stack
@@ -79,8 +79,8 @@ pub record Noted (words : List ℕ) (f : Front) (m : State) : Type 0 where
   pub noted : take (f .count) words ≡ notesAt m
   pub begins : Begins m (f .first)
   pub over : OverAt m
-  pub size : length words ≡ mostTokens
-  pub inside : f .count ≤ mostTokens
+  pub size : length words ≤ mostTokens
+  pub inside : f .count ≤ length words
 
 module _ (closes : ℕ → ℕ → Bool) (c : ℕ) where
   -- Where c came, the words before `first` are those of what still waits.
@@ -98,6 +98,7 @@ module _ (closes : ℕ → ℕ → Bool) (c : ℕ) where
     pub taken : (m : State) → Noted words f m → Goes (next closes c m) → Noted words′ g (next closes c m)
     pub counted : g .count ≡ f .count + share c
     pub first-inside : g .first ≤ g .count
+    pub same-length : length words′ ≡ length words
 
 -- One word more.
 pub record Adds (w : ℕ) (words : List ℕ) (count : ℕ) (words′ : List ℕ) : Type 0 where

@@ -17,6 +17,9 @@ ghost use Rattle.parser.specs.Build.{built};
 ghost use Rattle.parser.specs.Notes.{note, laidOut, Inside};
 ghost use Rattle.parser.specs.Reading.{ends, SomeWait, Closes, Takeable, Takes, Adds, Raisable, Frees, Buildable, Reads};
 
+// The tokens of a short row.
+const FEW_TOKENS: usize = 32;
+
 // How many tokens are noted, and which is the first of the operand that was read last. Right before that one stands what waits nearest.
 pub struct Front {
     pub count: usize,
@@ -37,12 +40,7 @@ fn closes_at(sheet: &[u32; SHEET_WORDS], c: u8, a: u8) -> bool
 }
 
 // What closes where c comes joins the operand: the place where that then begins.
-fn close_waiting(
-    sheet: &[u32; SHEET_WORDS],
-    c: u8,
-    words: &[u32; MOST_TOKENS],
-    from: usize,
-) -> usize
+fn close_waiting(sheet: &[u32; SHEET_WORDS], c: u8, words: &[u32], from: usize) -> usize
     requires { ⌜ SomeWait (now words) from ⌝ }
     ensures { λ r. ⌜ Closes (closesIn (now (sheet .entry))) c (now (words .entry)) from r ⌝ }
 {
@@ -58,21 +56,16 @@ fn close_waiting(
 }
 
 // A word more.
-fn add(w: u32, words: &mut [u32; MOST_TOKENS], count: usize)
-    requires { ⌜ (length (now words) ≡ mostTokens) × (count < mostTokens) ⌝ }
+fn add(w: u32, words: &mut [u32], count: usize)
+    requires { ⌜ count < length (now words) ⌝ }
     ensures { λ _. ⌜ Adds w (now (words .entry)) count (now (words .exit)) ⌝ }
 {
     words[count] = w;
 }
 
 // A reading, or an opening bracket, begins an operand.
-fn take_operand(
-    sheet: &[u32; SHEET_WORDS],
-    c: u8,
-    words: &mut [u32; MOST_TOKENS],
-    from: Front,
-) -> Front
-    requires { ⌜ (from .count < mostTokens) × (mostOperators ≤ c) × (c ≡ closing → ⊥) × Takeable (closesIn (now sheet)) c (now words) from ⌝ }
+fn take_operand(sheet: &[u32; SHEET_WORDS], c: u8, words: &mut [u32], from: Front) -> Front
+    requires { ⌜ (from .count < length (now words)) × (mostOperators ≤ c) × (c ≡ closing → ⊥) × Takeable (closesIn (now sheet)) c (now words) from ⌝ }
     ensures { λ r. ⌜ Takes (closesIn (now (sheet .entry))) c (now (words .entry)) from (now (words .exit)) r ⌝ }
 {
     let count = from.count;
@@ -84,8 +77,8 @@ fn take_operand(
 }
 
 // A place is left free before the operand that begins at `first`, for the operator c that is noted.
-fn free_place(c: u8, words: &mut [u32; MOST_TOKENS], count: usize, first: usize)
-    requires { ⌜ (length (now words) ≡ mostTokens) × (count < mostTokens) × Raisable (now words) count first ⌝ }
+fn free_place(c: u8, words: &mut [u32], count: usize, first: usize)
+    requires { ⌜ (length (now words) ≤ mostTokens) × (count < length (now words)) × Raisable (now words) count first ⌝ }
     ensures { λ _. ⌜ Frees c (now (words .entry)) count first (now (words .exit)) ⌝ }
 {
     words[first] = notes::one_more(words[first]);
@@ -93,13 +86,8 @@ fn free_place(c: u8, words: &mut [u32; MOST_TOKENS], count: usize, first: usize)
 }
 
 // An operator comes: what closes before it is its left operand. It waits.
-fn take_operator(
-    sheet: &[u32; SHEET_WORDS],
-    c: u8,
-    words: &mut [u32; MOST_TOKENS],
-    from: Front,
-) -> Front
-    requires { ⌜ (from .first ≤ from .count) × (from .count < mostTokens) × (c < mostOperators) × Takeable (closesIn (now sheet)) c (now words) from ⌝ }
+fn take_operator(sheet: &[u32; SHEET_WORDS], c: u8, words: &mut [u32], from: Front) -> Front
+    requires { ⌜ (from .first ≤ from .count) × (from .count < length (now words)) × (c < mostOperators) × Takeable (closesIn (now sheet)) c (now words) from ⌝ }
     ensures { λ r. ⌜ Takes (closesIn (now (sheet .entry))) c (now (words .entry)) from (now (words .exit)) r ⌝ }
 {
     let count = from.count;
@@ -112,8 +100,8 @@ fn take_operator(
 }
 
 // A closing bracket comes: all that waits back to its opening one closes, and the operand begins there.
-fn take_closing(sheet: &[u32; SHEET_WORDS], words: &[u32; MOST_TOKENS], from: Front) -> Front
-    requires { ⌜ (from .first ≤ from .count) × (from .count ≤ mostTokens) × Takeable (closesIn (now sheet)) closing (now words) from ⌝ }
+fn take_closing(sheet: &[u32; SHEET_WORDS], words: &[u32], from: Front) -> Front
+    requires { ⌜ (from .first ≤ from .count) × Takeable (closesIn (now sheet)) closing (now words) from ⌝ }
     ensures { λ r. ⌜ Takes (closesIn (now (sheet .entry))) closing (now (words .entry)) from (now (words .entry)) r ⌝ }
 {
     let count = from.count;
@@ -125,13 +113,8 @@ fn take_closing(sheet: &[u32; SHEET_WORDS], words: &[u32; MOST_TOKENS], from: Fr
 }
 
 // The next token from the left is taken.
-fn take_token(
-    sheet: &[u32; SHEET_WORDS],
-    c: u8,
-    words: &mut [u32; MOST_TOKENS],
-    from: Front,
-) -> Front
-    requires { ⌜ (from .first ≤ from .count) × (from .count < mostTokens) × Takeable (closesIn (now sheet)) c (now words) from ⌝ }
+fn take_token(sheet: &[u32; SHEET_WORDS], c: u8, words: &mut [u32], from: Front) -> Front
+    requires { ⌜ (from .first ≤ from .count) × (from .count < length (now words)) × Takeable (closesIn (now sheet)) c (now words) from ⌝ }
     ensures { λ r. ⌜ Takes (closesIn (now (sheet .entry))) c (now (words .entry)) from (now (words .exit)) r ⌝ }
 {
     if c < limits::MOST_OPERATORS {
@@ -144,8 +127,8 @@ fn take_token(
 }
 
 // All tokens are taken, from the left. What waits at the end closes there, which changes no note.
-fn read_row(sheet: &[u32; SHEET_WORDS], row: &[u8], words: &mut [u32; MOST_TOKENS])
-    requires { ⌜ (length (now words) ≡ mostTokens) × (length (now row) ≤ mostTokens) × Buildable (closesIn (now sheet)) (now row) ⌝ }
+fn read_row(sheet: &[u32; SHEET_WORDS], row: &[u8], words: &mut [u32])
+    requires { ⌜ (length (now words) ≤ mostTokens) × (length (now row) ≤ length (now words)) × Buildable (closesIn (now sheet)) (now row) ⌝ }
     ensures { λ _. ⌜ Reads (closesIn (now (sheet .entry))) (now (row .entry)) (now (words .exit)) ⌝ }
 {
     let mut front = Front { count: 0, first: 0 };
@@ -157,7 +140,7 @@ fn read_row(sheet: &[u32; SHEET_WORDS], row: &[u8], words: &mut [u32; MOST_TOKEN
 }
 
 // The record that the notes lay out.
-fn lay_out(words: &[u32; MOST_TOKENS], out: &mut [u8])
+fn lay_out(words: &[u32], out: &mut [u8])
     requires { ⌜ (length (now out) ≤ mostTokens) × (length (now out) ≤ length (now words)) × Inside (length (now out)) (take (length (now out)) (now words)) 0 ⌝ }
     ensures { λ _. ⌜ now (out .exit) ≡ laidOut (take (length (now (out .entry))) (now (words .entry))) 0 (now (out .entry)) ⌝ }
 {
@@ -171,12 +154,25 @@ fn lay_out(words: &[u32; MOST_TOKENS], out: &mut [u8])
     }
 }
 
-// The record of the tree that is made of the row fills the output.
+// The same with the words lent.
+fn build_with(sheet: &[u32; SHEET_WORDS], row: &[u8], words: &mut [u32], out: &mut [u8])
+    requires { ⌜ (length (now words) ≤ mostTokens) × (length (now row) ≤ length (now words)) × (length (now out) ≡ recordBytes (now row)) × Buildable (closesIn (now sheet)) (now row) ⌝ }
+    ensures { λ _. ⌜ now (out .exit) ≡ built (closesIn (now (sheet .entry))) (now (row .entry)) ⌝ }
+{
+    read_row(sheet, row, words);
+    lay_out(words, out);
+}
+
+// The record of the tree that is made of the row fills the output. Of a short row few words are cleared.
 pub fn build_into(sheet: &[u32; SHEET_WORDS], row: &[u8], out: &mut [u8])
     requires { ⌜ (length (now row) ≤ mostTokens) × (length (now out) ≡ recordBytes (now row)) × Buildable (closesIn (now sheet)) (now row) ⌝ }
     ensures { λ _. ⌜ now (out .exit) ≡ built (closesIn (now (sheet .entry))) (now (row .entry)) ⌝ }
 {
+    if row.len() <= FEW_TOKENS {
+        let mut words = [0u32; FEW_TOKENS];
+        build_with(sheet, row, &mut words, out);
+        return;
+    }
     let mut words = [0u32; MOST_TOKENS];
-    read_row(sheet, row, &mut words);
-    lay_out(&words, out);
+    build_with(sheet, row, &mut words, out);
 }

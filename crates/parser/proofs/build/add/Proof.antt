@@ -9,4 +9,5 @@ add-spec =
     (tie.spec
     (λ c. search add-ways)
     (λ c. search add-ways)
+    (λ c. search add-ways)
     (λ c. search add-ways))

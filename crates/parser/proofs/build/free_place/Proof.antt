@@ -15,4 +15,5 @@ free-place-spec =
     (λ c. search place-ways)
     (λ c κs. search place-ways)
     (λ c κs. search place-ways)
+    (λ c. search place-ways)
     (λ c. search place-ways))

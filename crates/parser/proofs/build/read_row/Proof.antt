@@ -7,7 +7,7 @@ use Rattle.parser.proofs.build.read_row.Statement.{statement}
 use Rattle.parser.proofs.build.read_row.Tie as tie
 
 abbrev Inv-loop : tie.InvT-loop
-Inv-loop sheet row words₀ front₀ i₀ words front i = Reading (closesIn sheet) row words front i
+Inv-loop sheet row words₀ front₀ i₀ words front i = Reading (closesIn sheet) row words₀ words front i
 
 abbrev μ-loop : tie.MeasureT-loop
 μ-loop sheet row words₀ front₀ i₀ words front i = length row - i
@@ -21,6 +21,7 @@ read-row-spec =
     (λ c. search read-ways)
     (λ c. search read-ways)
     (λ c κs. search read-ways)
+    (λ c. search read-ways)
     (λ c. search read-ways)
     (λ c. search read-ways)
     (λ c. search read-ways)

@@ -10,4 +10,5 @@ take-operand-spec =
     (λ c κs. search operand-ways)
     (λ c κs. search operand-ways)
     (λ c. search operand-ways)
+    (λ c. search operand-ways)
     (λ c. search operand-ways))

@@ -10,4 +10,5 @@ take-operator-spec =
     (λ c κs. search operator-ways)
     (λ c κs. search operator-ways)
     (λ c. search operator-ways)
+    (λ c. search operator-ways)
     (λ c. search operator-ways))

@@ -9,7 +9,10 @@ take-token-spec =
     (tie.spec
     (λ c κs. search token-ways)
     (λ c. search token-ways)
-    (λ c κs. search token-ways)
     (λ c. search token-ways)
     (λ c κs. search token-ways)
+    (λ c. search token-ways)
+    (λ c. search token-ways)
+    (λ c κs. search token-ways)
+    (λ c. search token-ways)
     (λ c. search token-ways))
