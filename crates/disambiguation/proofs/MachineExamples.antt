@@ -1,7 +1,7 @@
 -- The left-to-right machine on rows under sheet A, token by token, by computation. Assumes nothing.
 use Prim.Native.Nat.{ℕ}
 use mathlib.Core.Path.{_≡_, refl}
-use mathlib.Core.Option.{Option, none, some}
+use mathlib.Core.Option.{none, some}
 use mathlib.Core.List.{List, [], _∷_}
 use Rattle.expression.specs.Token.{operators, class}
 use Rattle.expression.specs.Tree.{Tree, reading, bracket, binary}

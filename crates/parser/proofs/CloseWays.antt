@@ -1,21 +1,21 @@
 -- What each way through `closes_at`, `close` and `add` gives, from what is known on it. Assumes nothing.
 use mathlib.Core.Path.{_≡_, refl, sym, ap, _∙_}
-use mathlib.Core.Bool.{Bool, true, false, not, _&&_, cond, true≢false}
-use mathlib.Core.List.{List, [], _∷_, _++_}
-use Prim.Native.Nat.{ℕ, suc, _-_, _<_, _≤_}
+use mathlib.Core.Bool.{Bool, true, false, not, _&&_, true≢false}
+use mathlib.Core.List.{List}
+use Prim.Native.Nat.{ℕ, _-_, _<_, _≤_}
 use native.Mathlib.Omega.{arith}
 use lib.Dec.{ltb}
-use lib.ListN.{length, getD, take, set, length-set}
+use lib.ListN.{length, getD, set, length-set}
 use lib.Seq.{take-suc-set}
 use borrow.Author.Tests.{lt-ltb, le-ltb, ne-eqb, not-true, not-false}
 use borrow.Author.Needs.{needs}
-use Rattle.expression.specs.Limits.{mostOperators, mostTokens}
+use Rattle.expression.specs.Limits.{mostOperators}
 use Rattle.expression.specs.Token.{opening, closing}
-use Rattle.disambiguation.specs.LeftToRight.{Frame, after, Stack, bottom, opened, waiting}
+use Rattle.disambiguation.specs.LeftToRight.{after, Stack, bottom, opened, waiting}
 use Rattle.disambiguation.proofs.BelowLaws.{and-true}
 use Rattle.parser.specs.Notes.{byteIn, backIn}
 use Rattle.parser.specs.Reading.{closer, ends, remains, Waits, SomeWait, Closes, Adds}
-use Rattle.parser.proofs.Closing.{length-waiting, waits-length, Top, top-note}
+use Rattle.parser.proofs.Closing.{length-waiting, waits-length, top-note}
 
 -- ---- closes_at
 module _ (closes : ℕ → ℕ → Bool) (c a : ℕ) where

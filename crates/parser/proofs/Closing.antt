@@ -1,5 +1,5 @@
 -- What closes on the stack changes no note: an operator that closes has its place already. Assumes nothing.
-use Prim.Native.Nat.{ℕ, suc, _+_, _-_, _≤_, _<_}
+use Prim.Native.Nat.{ℕ, suc, _+_, _-_, _<_}
 use native.Mathlib.Omega.{arith}
 use mathlib.Core.Path.{_≡_, refl, ap, sym, _∙_}
 use mathlib.Core.Bool.{Bool, true, false, cond}
@@ -7,12 +7,12 @@ use mathlib.Core.Option.{some, Option·some-injective}
 use mathlib.Core.List.{List, [], _∷_, _++_, append-assoc}
 use lib.ListN.{length, length-append, getD, take}
 use lib.Seq.{length-take-le, take-take, take-at, getD-at, getD-take}
-use Rattle.expression.specs.Limits.{mostOperators, mostTokens}
+use Rattle.expression.specs.Limits.{mostOperators}
 use Rattle.expression.specs.Token.{opening}
 use Rattle.expression.specs.Tree.{Tree, bracket, binary, recordOf, Over}
 use Rattle.expression.proofs.Classes.{infix-byte}
 use Rattle.expression.proofs.Cond.{by-cond}
-use Rattle.disambiguation.specs.LeftToRight.{Frame, after, Stack, bottom, opened, waiting, State, due, have, stuck, close, everything, whole, finish, everyOperator}
+use Rattle.disambiguation.specs.LeftToRight.{after, Stack, bottom, opened, waiting, State, due, have, stuck, close, everything, whole, finish, everyOperator}
 use Rattle.parser.specs.Notes.{note, byteIn, backIn, notesOf, notesBelow, notesAt}
 use Rattle.parser.specs.Reading.{classOf, OverBelow, remains, Waits}
 use Rattle.parser.proofs.NoteLaws.{byte-note, back-note, length-notesOf}

@@ -1,17 +1,16 @@
 -- Under a sheet in force, closing all that waits after a row gives the row's conflict-free tree, whatever follows it. Assumes nothing.
 use Prim.Native.Nat.{ℕ}
-use mathlib.Core.Path.{_≡_, ap, sym, _∙_}
+use mathlib.Core.Path.{_≡_, ap, _∙_}
 use mathlib.Core.Option.{some}
-use mathlib.Core.List.{List, _++_}
+use mathlib.Core.List.{List}
 use Rattle.expression.specs.Token.{Operators, class}
 use Rattle.expression.specs.Tree.{Tree, yield, recordOf, Over}
 use Rattle.expression.specs.Grammar.{Row}
 use Rattle.expression.proofs.RowsAndTrees.{row-exactly-if-yielded}
 use Rattle.disambiguation.specs.Rules.{Rule}
 use Rattle.disambiguation.specs.Conflicts.{ConflictFreeTree}
-use Rattle.disambiguation.specs.LeftToRight.{due, bottom, finish, parse, made}
+use Rattle.disambiguation.specs.LeftToRight.{due, bottom, finish, parse}
 use Rattle.disambiguation.proofs.LeftToRight.{run-append}
-use Rattle.disambiguation.proofs.MakesTree.{Makes}
 use Rattle.disambiguation.proofs.ClassesAgree.{made-makes}
 use Rattle.sheet.specs.Relation.{closesIn}
 use Rattle.sheet.specs.InForce.{InForce}

@@ -9,7 +9,7 @@ use Rattle.expression.specs.Token.{opening}
 use Rattle.expression.specs.Tree.{Tree, reading, bracket, binary, recordOf, Over}
 use Rattle.expression.proofs.Classes.{reading-byte}
 use Rattle.disambiguation.specs.LeftToRight.{everyOperator}
-use Rattle.parser.specs.Notes.{note, byteIn, placesIn, backIn, notesOf}
+use Rattle.parser.specs.Notes.{note, raised, byteIn, placesIn, backIn, notesOf}
 use Rattle.parser.specs.Reading.{classOf}
 
 -- ---- the parts of a note
@@ -27,12 +27,12 @@ module _ (c p b : ℕ) where
   back-note h g = omega arith
 
   -- a place more
-  one-more : note c p b + 0x100 ≡ note c (suc p) b
+  one-more : raised (note c p b) ≡ note c (suc p) b
   unfolding note
   one-more = omega arith
 
--- the note of a token that goes back over none is no great number
-note-small : (c p : ℕ) → c < 0x100 → p < 0x100 → note c p 0 < 0x80000000
+-- the note of a token that goes back over none has room for one place more
+note-small : (c p : ℕ) → c < 0x100 → p < 0x100 → raised (note c p 0) < 0x100000000
 unfolding note
 note-small c p h g = omega arith
 
@@ -48,7 +48,7 @@ length-notesOf free (binary o l r) =
 
 -- A place more left free before a tree is a place more in its first note.
 pub first-note : (free : ℕ) (t : Tree) → Over classOf t → free + length (recordOf t) ≤ mostTokens
-    → (w : ℕ) × (ws : List ℕ) × (notesOf free t ≡ w ∷ ws) × (notesOf (suc free) t ≡ (w + 0x100) ∷ ws) × (w < 0x80000000)
+    → (w : ℕ) × (ws : List ℕ) × (notesOf free t ≡ w ∷ ws) × (notesOf (suc free) t ≡ raised w ∷ ws) × (raised w < 0x100000000)
 first-note free (reading a) v g = (
   note a (suc free) 0,
   [],

@@ -10,15 +10,18 @@ use borrow.Author.Tests.{ne-eqb}
 use borrow.Author.Needs.{needs}
 use Rattle.expression.specs.Limits.{mostOperators, mostTokens}
 use Rattle.expression.specs.Token.{Infix, closing}
-use Rattle.expression.specs.Tree.{Tree, bracket, recordOf, Over}
+use Rattle.expression.specs.Tree.{Tree, recordOf, Over}
 use Rattle.expression.proofs.Classes.{class-operator, brackets}
-use Rattle.disambiguation.specs.LeftToRight.{after, Stack, bottom, opened, waiting, State, due, have, stuck, close, everything, shut, whereDue, before, whereRead, everyOperator}
-use Rattle.parser.specs.Notes.{note, notesOf, notesBelow, notesAt}
+use Rattle.disambiguation.specs.LeftToRight.{after, Stack, bottom, opened, waiting, State, due, have, stuck, close, everything, shut, whereDue, before, everyOperator}
+use Rattle.parser.specs.Notes.{note, raised, notesOf, notesBelow, notesAt}
 use Rattle.parser.specs.Reading.{classOf, next, Goes, OverBelow, closer, remains, Waits, SomeWait, Noted, Closes, Takeable, Takes, Adds, Raisable, Frees}
 use Rattle.parser.specs.declared.build.Front.{Front}
 use Rattle.parser.proofs.NoteLaws.{length-notesOf, first-note}
 use Rattle.parser.proofs.Closing.{close-remains, close-over, length-opened, length-notesAt, close-notes, shut-notes, waits-length}
-use Rattle.parser.proofs.OperandWays.{share-one, share-closing, count-is, waits-before, noted-size}
+use Rattle.parser.proofs.OperandWays.{share-one, share-closing, count-is, waits-before, operand-taken, operand-same}
+
+pub noted-size : (closes : ℕ → ℕ → Bool) (c : ℕ) (words : List ℕ) (f : Front) → Takeable closes c words f → length words ≤ mostTokens
+noted-size closes c words f k = k .stands .size
 
 -- a token that no operand begins with comes where an operand was read: what waits stands before that
 some-wait : (closes : ℕ → ℕ → Bool) (c : ℕ) (words : List ℕ) (f : Front) → ((s : Stack) → Goes (whereDue (classOf c) c s) → ⊥) → (m : State) → Noted words f m → Goes (next closes c m)
@@ -49,8 +52,8 @@ module _ (closes : ℕ → ℕ → Bool) (c : ℕ) (words : List ℕ) (f : Front
       first-word : ℕ
       words-after : List ℕ
       begins : notesOf 0 t ≡ first-word ∷ words-after
-      raised : notesOf 1 t ≡ (first-word + 0x100) ∷ words-after
-      small : first-word < 0x80000000
+      raised-to : notesOf 1 t ≡ raised first-word ∷ words-after
+      small : raised first-word < 0x100000000
       before-count : first < f .count
       is-word : getD words first 0 ≡ first-word
 
@@ -77,7 +80,7 @@ module _ (closes : ℕ → ℕ → Bool) (c : ℕ) (words : List ℕ) (f : Front
               first-word = x;
               words-after = xs;
               begins = b;
-              raised = r;
+              raised-to = r;
               small = small;
               before-count = lower;
               is-word =
@@ -105,13 +108,13 @@ module _ (closes : ℕ → ℕ → Bool) (c : ℕ) (words : List ℕ) (f : Front
           go : (u : Stack) (v : Tree) → Left u v → Noted words′ grown (due (waiting (after v c) u))
           go u v l =
               let e : f .count + 1 ≡ suc (f .count) = omega arith in
-              let x : ℕ = getD words first 0 + 0x100 in
-              let raised : set (take (f .count) words) first x ≡ notesBelow u ++ notesOf 1 v =
+              let x : ℕ = raised (getD words first 0) in
+              let freed : set (take (f .count) words) first x ≡ notesBelow u ++ notesOf 1 v =
               ap (λ w. set w first x) (l .noted ∙ ap (λ w. notesBelow u ++ w) (l .begins)) ∙ set-at (notesBelow u) (l .first-word) (l .words-after) x first (sym (l .first-is))
-              ∙ ap (λ w. notesBelow u ++ (w + 0x100) ∷ l .words-after) (l .is-word) ∙ ap (λ w. notesBelow u ++ w) (sym (l .raised)) in
+              ∙ ap (λ w. notesBelow u ++ raised w ∷ l .words-after) (l .is-word) ∙ ap (λ w. notesBelow u ++ w) (sym (l .raised-to)) in
               record {
                 noted =
-                    ap (λ k. take k words′) e ∙ frees .added ∙ ap₂ (λ w n. w ++ note c 0 n ∷ []) raised (l .size-is);
+                    ap (λ k. take k words′) e ∙ frees .added ∙ ap₂ (λ w n. w ++ note c 0 n ∷ []) freed (l .size-is);
                 begins = tt;
                 over = (is-infix, l .over-tree, l .over-stack);
                 size = omega (arith, frees .same-length, n .size);
@@ -126,7 +129,7 @@ pub ruleset operator-ways = (operator-waits, operator-raisable, operator-taken, 
 
 -- ---- free_place
 module _ (c : ℕ) (words : List ℕ) (count first : ℕ) (size : length words ≤ mostTokens) (room : count < length words) (can : Raisable words count first) where
-  pub place-freed : {words′ : List ℕ} {x y : ℕ} → x ≡ getD words first 0 + 0x100 → y ≡ note c 0 (count - first) → Adds y (set words first x) count words′ → Frees c words count first words′
+  pub place-freed : {words′ : List ℕ} {x y : ℕ} → x ≡ raised (getD words first 0) → y ≡ note c 0 (count - first) → Adds y (set words first x) count words′ → Frees c words count first words′
   place-freed {words′} {x} {y} e q adds =
       record {
         added = adds .added ∙ ap₂ (λ w z. w ++ z ∷ []) (take-set-lt count words first x (can .before-count) ∙ ap (set (take count words) first) e) q;
@@ -197,4 +200,4 @@ module _ (closes : ℕ → ℕ → Bool) (c : ℕ) (words : List ℕ) (f : Front
   pub closing-token : {words′ : List ℕ} {g : Front} → c ≡ closing → Takes closes closing words f words′ g → Takes closes c words f words′ g
   closing-token e t = rw e t
 
-pub ruleset token-ways = (closing-takeable, closing-token, needs)
+pub ruleset token-ways = (closing-takeable, closing-token, operand-taken, operand-same, needs)

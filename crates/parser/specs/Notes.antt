@@ -13,6 +13,10 @@ use Rattle.disambiguation.specs.LeftToRight.{after, Stack, bottom, opened, wait
 unfoldable pub note : ℕ → ℕ → ℕ → ℕ
 note byte places back = byte + 0x100 * (places + 0x100 * back)
 
+-- with one place more
+abbrev pub raised : ℕ → ℕ
+raised w = w + 0x100
+
 unfoldable pub byteIn : ℕ → ℕ
 byteIn w = w % 0x100
 

@@ -11,8 +11,8 @@ use Rattle.expression.specs.Limits.{mostOperators, mostTokens}
 use Rattle.expression.specs.Token.{Class, Infix, closing, class}
 use Rattle.expression.specs.Tree.{Tree, recordOf, Over}
 use Rattle.expression.specs.Checks.{recordBytes}
-use Rattle.disambiguation.specs.LeftToRight.{Frame, after, operatorOf, Stack, bottom, opened, waiting, State, due, have, stuck, everything, before, step, everyOperator, made}
-use Rattle.parser.specs.Notes.{note, notesOf, notesBelow, notesAt}
+use Rattle.disambiguation.specs.LeftToRight.{after, operatorOf, Stack, bottom, opened, waiting, State, due, have, stuck, everything, before, step, everyOperator, made}
+use Rattle.parser.specs.Notes.{note, raised, notesOf, notesBelow, notesAt}
 use Rattle.parser.specs.declared.build.Front.{Front}
 
 -- a token's share of the record: none for a closing bracket
@@ -105,14 +105,20 @@ pub record Adds (w : ℕ) (words : List ℕ) (count : ℕ) (words′ : List ℕ)
   pub added : take (suc count) words′ ≡ take count words ++ w ∷ []
   pub same-length : length words′ ≡ length words
 
--- The word at `first`, one of those before the count, can be raised.
+-- A token that begins an operand, and is noted so.
+pub record StartsOperand (c : ℕ) (words : List ℕ) (f : Front) (words′ : List ℕ) (g : Front) : Type 0 where
+  pub adds : Adds (note c 1 0) words (f .count) words′
+  pub counted : g .count ≡ f .count + 1
+  pub first-is : g .first ≡ f .count
+
+-- The word at `first`, one of those before the count, has room for one place more.
 pub record Raisable (words : List ℕ) (count first : ℕ) : Type 0 where
   pub before-count : first < count
-  pub small : getD words first 0 < 0x80000000
+  pub small : raised (getD words first 0) < 0x100000000
 
 -- A place is left free before the token at `first`, and the operator c has its note.
 pub record Frees (c : ℕ) (words : List ℕ) (count first : ℕ) (words′ : List ℕ) : Type 0 where
-  pub added : take (suc count) words′ ≡ set (take count words) first (getD words first 0 + 0x100) ++ note c 0 (count - first) ∷ []
+  pub added : take (suc count) words′ ≡ set (take count words) first (raised (getD words first 0)) ++ note c 0 (count - first) ∷ []
   pub same-length : length words′ ≡ length words
 
 -- The machine makes a tree of the row, and its record has the bytes that are counted in the row.

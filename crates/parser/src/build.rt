@@ -6,16 +6,15 @@ use expression::limits::MOST_TOKENS;
 use expression::token;
 use sheet::layout::SHEET_WORDS;
 ghost use mathlib.Core.Path.{_≡_};
-ghost use mathlib.Core.Bool.{Bool};
-ghost use Prim.Native.Nat.{ℕ, _+_, _≤_, _<_};
+ghost use Prim.Native.Nat.{_+_, _≤_, _<_};
 ghost use lib.ListN.{length, take};
 ghost use Rattle.expression.specs.Limits.{mostOperators, mostTokens};
 ghost use Rattle.expression.specs.Token.{closing};
 ghost use Rattle.expression.specs.Checks.{recordBytes};
 ghost use Rattle.sheet.specs.Relation.{closesIn};
 ghost use Rattle.parser.specs.Build.{built};
-ghost use Rattle.parser.specs.Notes.{note, laidOut, Inside};
-ghost use Rattle.parser.specs.Reading.{ends, SomeWait, Closes, Takeable, Takes, Adds, Raisable, Frees, Buildable, Reads};
+ghost use Rattle.parser.specs.Notes.{laidOut, Inside};
+ghost use Rattle.parser.specs.Reading.{ends, SomeWait, Closes, Takeable, Takes, Adds, StartsOperand, Raisable, Frees, Buildable, Reads};
 
 // The tokens of a short row.
 const FEW_TOKENS: usize = 32;
@@ -64,9 +63,9 @@ fn add(w: u32, words: &mut [u32], count: usize)
 }
 
 // A reading, or an opening bracket, begins an operand.
-fn take_operand(sheet: &[u32; SHEET_WORDS], c: u8, words: &mut [u32], from: Front) -> Front
-    requires { ⌜ (from .count < length (now words)) × (mostOperators ≤ c) × (c ≡ closing → ⊥) × Takeable (closesIn (now sheet)) c (now words) from ⌝ }
-    ensures { λ r. ⌜ Takes (closesIn (now (sheet .entry))) c (now (words .entry)) from (now (words .exit)) r ⌝ }
+fn take_operand(c: u8, words: &mut [u32], from: Front) -> Front
+    requires { ⌜ from .count < length (now words) ⌝ }
+    ensures { λ r. ⌜ StartsOperand c (now (words .entry)) from (now (words .exit)) r ⌝ }
 {
     let count = from.count;
     add(notes::note(c, 1, 0), words, count);
@@ -123,7 +122,7 @@ fn take_token(sheet: &[u32; SHEET_WORDS], c: u8, words: &mut [u32], from: Front)
     if c == token::CLOSING {
         return take_closing(sheet, words, from);
     }
-    take_operand(sheet, c, words, from)
+    take_operand(c, words, from)
 }
 
 // All tokens are taken, from the left. What waits at the end closes there, which changes no note.
@@ -154,7 +153,7 @@ fn lay_out(words: &[u32], out: &mut [u8])
     }
 }
 
-// The same with the words lent.
+// The record of the tree that is made of the row fills the output. The words are lent.
 fn build_with(sheet: &[u32; SHEET_WORDS], row: &[u8], words: &mut [u32], out: &mut [u8])
     requires { ⌜ (length (now words) ≤ mostTokens) × (length (now row) ≤ length (now words)) × (length (now out) ≡ recordBytes (now row)) × Buildable (closesIn (now sheet)) (now row) ⌝ }
     ensures { λ _. ⌜ now (out .exit) ≡ built (closesIn (now (sheet .entry))) (now (row .entry)) ⌝ }
@@ -163,7 +162,7 @@ fn build_with(sheet: &[u32; SHEET_WORDS], row: &[u8], words: &mut [u32], out: &m
     lay_out(words, out);
 }
 
-// The record of the tree that is made of the row fills the output. Of a short row few words are cleared.
+// The same with words of its own, of which a short row has few: all are cleared first.
 pub fn build_into(sheet: &[u32; SHEET_WORDS], row: &[u8], out: &mut [u8])
     requires { ⌜ (length (now row) ≤ mostTokens) × (length (now out) ≡ recordBytes (now row)) × Buildable (closesIn (now sheet)) (now row) ⌝ }
     ensures { λ _. ⌜ now (out .exit) ≡ built (closesIn (now (sheet .entry))) (now (row .entry)) ⌝ }

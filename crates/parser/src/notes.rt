@@ -1,9 +1,9 @@
 // The word that a build notes of a token, as in the specification's `Notes`: its byte, the places by which the record grows with it, and
 // the tokens that it goes back over.
 ghost use mathlib.Core.Path.{_≡_};
-ghost use Prim.Native.Nat.{_+_, _<_, _≤_};
+ghost use Prim.Native.Nat.{_<_, _≤_};
 ghost use Rattle.expression.specs.Limits.{mostTokens};
-ghost use Rattle.parser.specs.Notes.{note, byteIn, placesIn, backIn};
+ghost use Rattle.parser.specs.Notes.{note, raised, byteIn, placesIn, backIn};
 
 const PLACE: u32 = 0x100;
 
@@ -37,8 +37,8 @@ pub fn back_in(w: u32) -> usize
 
 // A place more is left free before the token.
 pub fn one_more(w: u32) -> u32
-    requires { ⌜ w < 0x80000000 ⌝ }
-    ensures { λ r. ⌜ r ≡ w + 0x100 ⌝ }
+    requires { ⌜ raised w < 0x100000000 ⌝ }
+    ensures { λ r. ⌜ r ≡ raised w ⌝ }
 {
     w + PLACE
 }
