@@ -16,9 +16,6 @@ ghost use Rattle.parser.specs.Build.{built};
 ghost use Rattle.parser.specs.Notes.{laidOut, Inside};
 ghost use Rattle.parser.specs.Reading.{ends, SomeWait, Closes, Takeable, Takes, Adds, StartsOperand, Raisable, Frees, Buildable, Reads};
 
-// The tokens of a short row.
-const FEW_TOKENS: usize = 32;
-
 // How many tokens are noted, and which is the first of the operand that was read last. Right before that one stands what waits nearest.
 pub struct Front {
     pub count: usize,
@@ -153,25 +150,12 @@ fn lay_out(words: &[u32], out: &mut [u8])
     }
 }
 
-// The record of the tree that is made of the row fills the output. The words are lent.
-fn build_with(sheet: &[u32; SHEET_WORDS], row: &[u8], words: &mut [u32], out: &mut [u8])
-    requires { ⌜ (length (now words) ≤ mostTokens) × (length (now row) ≤ length (now words)) × (length (now out) ≡ recordBytes (now row)) × Buildable (closesIn (now sheet)) (now row) ⌝ }
-    ensures { λ _. ⌜ now (out .exit) ≡ built (closesIn (now (sheet .entry))) (now (row .entry)) ⌝ }
-{
-    read_row(sheet, row, words);
-    lay_out(words, out);
-}
-
-// The same with words of its own, of which a short row has few: all are cleared first.
+// The record of the tree that is made of the row fills the output.
 pub fn build_into(sheet: &[u32; SHEET_WORDS], row: &[u8], out: &mut [u8])
     requires { ⌜ (length (now row) ≤ mostTokens) × (length (now out) ≡ recordBytes (now row)) × Buildable (closesIn (now sheet)) (now row) ⌝ }
     ensures { λ _. ⌜ now (out .exit) ≡ built (closesIn (now (sheet .entry))) (now (row .entry)) ⌝ }
 {
-    if row.len() <= FEW_TOKENS {
-        let mut words = [0u32; FEW_TOKENS];
-        build_with(sheet, row, &mut words, out);
-        return;
-    }
     let mut words = [0u32; MOST_TOKENS];
-    build_with(sheet, row, &mut words, out);
+    read_row(sheet, row, &mut words);
+    lay_out(&words, out);
 }
