@@ -82,6 +82,14 @@ misreadings-hold =
       record { over = (refl, (refl, refl, refl), refl); yields = refl; free = refl },
       refl,
     )
+    next (
+      binary 1 (binary 0 w (bracket (binary 0 x y))) z,
+      binary 0 w (binary 1 (bracket (binary 0 x y)) z),
+      (refl, refl),
+      (refl, refl),
+      record { over = (refl, refl, (refl, (refl, refl, refl), refl)); yields = refl; free = refl },
+      refl,
+    )
     next (binary 0 (binary 1 (binary 0 w x) y) z, (refl, refl), refl)
     next (
       binary 1 (binary 1 (binary 0 w x) y) z,

@@ -1,14 +1,26 @@
 -- The left-to-right machine on a row in two parts, and the operators that it leaves waiting. Assumes nothing.
 use Prim.Native.Nat.{ℕ}
 use mathlib.Core.Path.{_≡_, refl}
-use mathlib.Core.Bool.{Bool, false}
+use mathlib.Core.Bool.{Bool, true, false, cond}
 use mathlib.Core.List.{List, [], _∷_, _++_}
 use Rattle.expression.specs.Token.{Class}
-use Rattle.disambiguation.specs.LeftToRight.{operatorOf, Stack, bottom, opened, waiting, State, step, run}
+use Rattle.expression.specs.Tree.{Tree, binary}
+use Rattle.disambiguation.specs.LeftToRight.{after, operatorOf, Stack, bottom, opened, waiting, State, close, remains, step, run}
 
 pub run-append : (closes : ℕ → ℕ → Bool) (k : ℕ → Class) (xs ys : List ℕ) (m : State) → run closes k (xs ++ ys) m ≡ run closes k ys (run closes k xs m)
 run-append closes k [] ys m = refl
 run-append closes k (x ∷ xs) ys m = run-append closes k xs ys (step closes k x m)
+
+-- what still waits does not depend on the tree
+pub close-remains : (p : ℕ → Bool) (s : Stack) (t : Tree) → (close p s t) .0 ≡ remains p s
+close-remains p bottom t = refl
+close-remains p (opened s) t = refl
+close-remains p (waiting (after l o) s) t = go (p o) (close-remains p s (binary o l t))
+  where
+    go : (b : Bool) → (close p s (binary o l t)) .0 ≡ remains p s
+        → (cond b (close p s (binary o l t)) (waiting (after l o) s, t)) .0 ≡ cond b (remains p s) (waiting (after l o) s)
+    go true e = e
+    go false e = refl
 
 -- the operator that waits on top does not close before o
 abbrev pub Holds : (ℕ → ℕ → Bool) → Stack → ℕ → Type 0

@@ -8,7 +8,7 @@ use Rattle.expression.specs.Token.{Class, Infix, opening}
 use Rattle.expression.specs.Tree.{Tree, reading, bracket, binary, yield, Over}
 use Rattle.expression.proofs.Cond.{by-cond}
 use Rattle.disambiguation.specs.Edges.{seenFromRight, seenFromLeft}
-use Rattle.disambiguation.specs.LeftToRight.{after, Stack, bottom, opened, waiting, close, everything, before}
+use Rattle.disambiguation.specs.LeftToRight.{after, Stack, bottom, opened, waiting, close, remains, everything, before}
 use Rattle.disambiguation.proofs.Free.{None, Free}
 use Rattle.disambiguation.proofs.LeftToRight.{Holds}
 
@@ -34,16 +34,9 @@ pub tokens-waiting : (l : Tree) (o : ℕ) (s : Stack) (rest : List ℕ) → toke
 tokens-waiting l o s rest =
     append-assoc (tokensOf s) (yield l ++ (o ∷ [])) rest ∙ ap (λ x. tokensOf s ++ x) (append-assoc (yield l) (o ∷ []) rest)
 
--- the stack without the operators that wait since the last open bracket: what closing leaves alone, and all that is left once everything is closed
+-- what closing leaves alone: the stack without the operators that wait since the last open bracket
 abbrev pub base : Stack → Stack
-base bottom = bottom
-base (opened s) = opened s
-base (waiting f s) = base s
-
-pub close-everything : (s : Stack) (t : Tree) → (close everything s t) .0 ≡ base s
-close-everything bottom t = refl
-close-everything (opened s) t = refl
-close-everything (waiting (after l o) s) t = close-everything s (binary o l t)
+base = remains everything
 
 pub base-close : (p : ℕ → Bool) (s : Stack) (t : Tree) → base ((close p s t) .0) ≡ base s
 base-close p bottom t = refl

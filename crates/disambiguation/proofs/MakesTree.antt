@@ -11,8 +11,8 @@ use Rattle.disambiguation.specs.Edges.{seenFromRight}
 use Rattle.disambiguation.specs.Conflicts.{conflicts}
 use Rattle.disambiguation.specs.LeftToRight.{after, Stack, bottom, opened, waiting, due, have, close, everything, shut, whole, finish, whereDue, before, whereRead, run, parse}
 use Rattle.disambiguation.proofs.Free.{None, count-of-free}
-use Rattle.disambiguation.proofs.LeftToRight.{run-append, Holds}
-use Rattle.disambiguation.proofs.MachineInvariant.{Bare, bare-right, tokensOf, tokens-waiting, base, base-close, close-everything, yields, Good, Stands, close-stands, close-holds, close-yields}
+use Rattle.disambiguation.proofs.LeftToRight.{run-append, close-remains, Holds}
+use Rattle.disambiguation.proofs.MachineInvariant.{Bare, bare-right, tokensOf, tokens-waiting, base, base-close, yields, Good, Stands, close-stands, close-holds, close-yields}
 
 -- a bracket node after a stack, by what stands inside it
 tokens-bracket : (s : Stack) (t : Tree) → tokensOf s ++ yield (bracket t) ≡ (tokensOf (opened s) ++ yield t) ++ (closing ∷ [])
@@ -42,7 +42,7 @@ module _ (closes : ℕ → ℕ → Bool) (k : ℕ → Class) where
     enclosed t₀ s₀ q =
         go ((close everything (q .stack) (q .operand)) .0) ((close everything (q .stack) (q .operand)) .1) refl
         (close-stands closes k everything (q .stack) (q .operand) (tokensOf (opened s₀) ++ yield t₀) (q .stands))
-        (close-everything (q .stack) (q .operand) ∙ q .same-base)
+        (close-remains everything (q .stack) (q .operand) ∙ q .same-base)
       where
         go : (s : Stack) (t : Tree) → close everything (q .stack) (q .operand) ≡ (s, t) → Stands closes k s t (tokensOf (opened s₀) ++ yield t₀) → s ≡ opened s₀
             → Read (bracket t₀) s₀
@@ -125,7 +125,7 @@ module _ (closes : ℕ → ℕ → Bool) (k : ℕ → Class) where
     unfolding parse
     parse-makes t₀ h =
         go ((close everything (q .stack) (q .operand)) .0) ((close everything (q .stack) (q .operand)) .1) refl
-        (close-stands closes k everything (q .stack) (q .operand) (yield t₀) (q .stands)) (close-everything (q .stack) (q .operand) ∙ q .same-base)
+        (close-stands closes k everything (q .stack) (q .operand) (yield t₀) (q .stands)) (close-remains everything (q .stack) (q .operand) ∙ q .same-base)
       where
         q : Read t₀ bottom
         q = read t₀ h bottom tt

@@ -29,31 +29,41 @@ pub data State : Type 0 where
   have : Stack → Tree → State
   stuck : State
 
--- what waits closes as long as p says so: each takes the tree so far as its operand
+-- What waits closes as long as p says so, the nearest first: each takes the tree so far as its right operand.
 abbrev pub close : (ℕ → Bool) → Stack → Tree → Stack × Tree
 close p bottom t = (bottom, t)
 close p (opened s) t = (opened s, t)
 close p (waiting f s) t = cond (p (operatorOf f)) (close p s (fill f t)) (waiting f s, t)
 
+-- what then still waits
+abbrev pub remains : (ℕ → Bool) → Stack → Stack
+remains p bottom = bottom
+remains p (opened s) = opened s
+remains p (waiting f s) = cond (p (operatorOf f)) (remains p s) (waiting f s)
+
+-- all closes, back to the nearest open bracket or to the row's beginning
 abbrev pub everything : ℕ → Bool
 everything a = true
 
--- with all closed: at a closing bracket, and at the row's end
+-- With all closed, a closing bracket shuts the open one; where none is open, no row begins so.
 abbrev pub shut : Stack → Tree → State
 shut bottom t = stuck
 shut (opened s) t = have s (bracket t)
 shut (waiting f s) t = stuck
 
+-- With all closed, the tree is that of all tokens if no bracket is open.
 abbrev pub whole : Stack → Tree → Option Tree
 whole bottom t = some t
 whole (opened s) t = none
 whole (waiting f s) t = none
 
+-- Closing all that waits: the tree, where the tokens so far are a row.
 abbrev pub finish : State → Option Tree
 finish (due s) = none
 finish (have s t) = whole ((close everything s t) .0) ((close everything s t) .1)
 finish stuck = none
 
+-- One token, by its class, where an operand is due,
 abbrev pub whereDue : Class → ℕ → Stack → State
 whereDue Infix c s = stuck
 whereDue Opening c s = due (opened s)
@@ -66,6 +76,7 @@ module _ (closes : ℕ → ℕ → Bool) where
   abbrev pub before : ℕ → ℕ → Bool
   before b a = closes a b
 
+  -- and where one has been read: an operator takes what closes before it as its left operand, and waits.
   abbrev pub whereRead : Class → ℕ → Stack → Tree → State
   whereRead Infix b s t = due (waiting (after ((close (before b) s t) .1) b) ((close (before b) s t) .0))
   whereRead Opening b s t = stuck
@@ -74,6 +85,7 @@ module _ (closes : ℕ → ℕ → Bool) where
   whereRead Meaningless b s t = stuck
 
   module _ (k : ℕ → Class) where
+    -- one token, and tokens one after the other
     abbrev pub step : ℕ → State → State
     step c (due s) = whereDue (k c) c s
     step c (have s t) = whereRead (k c) c s t
@@ -83,9 +95,13 @@ module _ (closes : ℕ → ℕ → Bool) where
     run [] m = m
     run (c ∷ cs) m = run cs (step c m)
 
+    -- the state after the first tokens of a row
+    abbrev pub stateAfter : List ℕ → State
+    stateAfter tokens = run tokens (due bottom)
+
     -- the tree that the machine makes of a row
     unfoldable pub parse : List ℕ → Option Tree
-    parse tokens = finish (run tokens (due bottom))
+    parse tokens = finish (stateAfter tokens)
 
 -- every operator byte taken for an operator: what is made of a row does not ask how many of them the sheet has
 abbrev pub everyOperator : Operators

@@ -54,6 +54,8 @@ misreadings =
     -- a bracket node is not the operator inside it, and stays in repair
     ∷ counted sheetA (1 ∷ 0x20 ∷ 0 ∷ 0x80 ∷ 0x81 ∷ 0x82 ∷ []) 0
     ∷ repaired sheetA (1 ∷ 0x20 ∷ 0 ∷ 0x80 ∷ 0x81 ∷ 0x82 ∷ []) (1 ∷ 0x20 ∷ 0 ∷ 0x80 ∷ 0x81 ∷ 0x82 ∷ [])
+    -- what stands before a bracket waits on while it closes
+    ∷ repaired sheetA (1 ∷ 0 ∷ 0x80 ∷ 0x20 ∷ 0 ∷ 0x81 ∷ 0x82 ∷ 0x83 ∷ []) (0 ∷ 0x80 ∷ 1 ∷ 0x20 ∷ 0 ∷ 0x81 ∷ 0x82 ∷ 0x83 ∷ [])
     -- a conflict below the top counts, and is repaired
     ∷ counted sheetA (0 ∷ 1 ∷ 0 ∷ 0x80 ∷ 0x81 ∷ 0x82 ∷ 0x83 ∷ []) 1
     ∷ repaired sheetA (1 ∷ 1 ∷ 0 ∷ 0x80 ∷ 0x81 ∷ 0x82 ∷ 0x83 ∷ []) (0 ∷ 0x80 ∷ 1 ∷ 1 ∷ 0x81 ∷ 0x82 ∷ 0x83 ∷ [])

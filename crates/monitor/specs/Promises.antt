@@ -16,9 +16,10 @@ use Rattle.expression.specs.Tree as tree
 use Rattle.disambiguation.specs.Rules.{Rule}
 use Rattle.disambiguation.specs.Conflicts.{conflictCount, ConflictFreeTree}
 use Rattle.disambiguation.specs.ExactlyOne.{SomeRowHasNone, SomeRowHasTwo, EveryRowHasExactlyOne}
+use Rattle.disambiguation.specs.LeftToRight.{finish}
 use Rattle.disambiguation.specs.SheetChecks.{rulesOf, InOrder, ListInOrder}
 use Rattle.sheet.specs.InForce.{InForce}
-use Rattle.parser.specs.FromTheLeft.{FromTheLeft}
+use Rattle.parser.specs.FromTheLeft.{state, FromTheLeft}
 use Rattle.brackets.specs.SameMeaning.{ShortestRow}
 use Rattle.monitor.specs.Call.{Call, Reply, lentTo, load, loadList, putRecord, ask, build, repair, judge, yield, shortestRow}
 use Rattle.monitor.specs.Panel.{Panel}
@@ -104,7 +105,15 @@ module _ (cs : List Call) where
         → (row : List ℕ) × ShortestRow ops rules (tree.yield t) row × (length row ≤ length (tree.yield t))
         × ((out : List ℕ) → length row ≤ length out → AnsweredBy cs (ask (shortestRow (recordOf t) out)) out row)
 
-  -- W3, repair from the left. By the relation of the panel's sheet, wherever a beginning of a row is itself a row, closing all that waits there gives that beginning's
-  -- conflict-free tree; and what build and repair write is what is made so.
-  abbrev pub ReadFromTheLeft : Type 0
-  ReadFromTheLeft = FromTheLeft (panelAfter cs .sheet) ops rules
+  -- W3, repair from the left. By the relation of the panel's sheet,
+  pub record ReadFromTheLeft : Type 0 where
+    -- wherever a beginning of a row is itself a row, closing all that waits there gives that beginning's conflict-free tree;
+    pub beginnings : FromTheLeft (panelAfter cs .sheet) ops rules
+    -- and within the lengths, and with room for the answer, build answers what closing all that waits after the row gives,
+    pub builds : (row : List ℕ) → Row ops row → length row ≤ mostTokens
+        → (t : Tree) × (finish (state (panelAfter cs .sheet) ops row) ≡ some t)
+        × ((out : List ℕ) → length (recordOf t) ≤ length out → AnsweredBy cs (ask (build row out)) out (recordOf t))
+    -- and repair what it gives after the tree's row.
+    pub repairs : (t : Tree) → Over (class ops) t → Within t
+        → (u : Tree) × (finish (state (panelAfter cs .sheet) ops (tree.yield t)) ≡ some u)
+        × ((out : List ℕ) → length (recordOf u) ≤ length out → AnsweredBy cs (ask (repair (recordOf t) out)) out (recordOf u))

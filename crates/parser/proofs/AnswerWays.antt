@@ -23,18 +23,7 @@ use Rattle.parser.specs.Build.{built}
 use Rattle.parser.specs.Reading.{share, Buildable}
 use Rattle.parser.specs.Answers.{AnswersBuild}
 use Rattle.parser.proofs.BuildLaws.{built-length-accepted, accepted-buildable}
-use Rattle.parser.proofs.BuildWays.{share-small}
-
--- ---- share_of
-pub share-none : (c : ℕ) → c ≡ closing → 0 ≡ share c
-unfolding share
-share-none c e = rw e
-
-pub share-byte : (c : ℕ) → (c ≡ closing → ⊥) → 1 ≡ share c
-unfolding share
-share-byte c n = rw (ne-eqb c closing n)
-
-pub ruleset share-ways = (share-none, share-byte, needs)
+use Rattle.parser.proofs.Shares.{share-small}
 
 -- ---- record_bytes
 module _ (row : List ℕ) where

@@ -1,7 +1,8 @@
 -- What is built of a row, in terms of rows, trees and sheets. Assumes nothing.
 use Prim.Native.Nat.{ℕ}
-use mathlib.Core.Path.{_≡_, ap, sym, _∙_}
+use mathlib.Core.Path.{_≡_, ap, _∙_}
 use mathlib.Core.Bool.{Bool}
+use mathlib.Core.Option.{some}
 use mathlib.Core.List.{List}
 use lib.ListN.{length}
 use Rattle.expression.specs.Refusal.{accepted}
@@ -14,43 +15,46 @@ use Rattle.expression.proofs.RowsAndTrees.{row-exactly-if-yielded}
 use Rattle.expression.proofs.Lengths.{record-length}
 use Rattle.expression.proofs.Numbers.{row-accepted}
 use Rattle.disambiguation.specs.Conflicts.{conflicts}
-use Rattle.disambiguation.specs.LeftToRight.{made}
+use Rattle.disambiguation.specs.LeftToRight.{parse, made}
 use Rattle.disambiguation.proofs.MachineInvariant.{yields}
 use Rattle.disambiguation.proofs.ClassesAgree.{over-every, made-makes}
 use Rattle.parser.specs.Build.{recordIn, built}
 use Rattle.parser.specs.Reading.{Buildable}
 
 module _ (closes : ℕ → ℕ → Bool) (ops : Operators) where
-  -- What is built of a row over the operators is the record of a tree over them with that row, in which no operator may be kept where it stands.
+  -- What is built of a row over the operators is the record of the tree that the machine makes of it: a tree over them with that row, in which no operator may be kept where it
+  -- stands.
   pub record BuiltTree (row : List ℕ) (t : Tree) : Type 0 where
+    pub makes : made closes row ≡ some t
+    pub parses : parse closes (class ops) row ≡ some t
     pub recorded : built closes row ≡ recordOf t
     pub over : Over (class ops) t
     pub yields-row : yield t ≡ row
     pub free : conflicts (yields closes) closes t ≡ 0
 
-  pub built-tree : (row : List ℕ) → Row ops row → (t : Tree) × BuiltTree row t
+  of-tree : (t₀ : Tree) → Over (class ops) t₀ → (t : Tree) × BuiltTree (yield t₀) t
   unfolding built
-  built-tree row r =
-      let (t₀, h, e) = row-exactly-if-yielded ops row .0 r in
+  of-tree t₀ h =
       let (t, m, p) = made-makes closes ops t₀ h in
-      (t, record { recorded = ap (λ x. recordIn (made closes x)) (sym e) ∙ ap recordIn m; over = p .over; yields-row = p .yields-row ∙ e; free = p .free })
+      (t, record { makes = m; parses = p .parses; recorded = ap recordIn m; over = p .over; yields-row = p .yields-row; free = p .free })
+
+  pub built-tree : (row : List ℕ) → Row ops row → (t : Tree) × BuiltTree row t
+  built-tree row r = let (t₀, h, e) = row-exactly-if-yielded ops row .0 r in rw e at (of-tree t₀ h)
 
   -- The machine makes a tree of every row.
   pub row-buildable : (row : List ℕ) → Row ops row → Buildable closes row
   row-buildable row r =
-      let (t₀, h, e) = row-exactly-if-yielded ops row .0 r in
-      let (t, m, p) = made-makes closes ops t₀ h in
+      let (t, b) = built-tree row r in
       record {
         tree = t;
-        makes = ap (made closes) (sym e) ∙ m;
-        over = over-every ops t (p .over);
-        measured = record-length (class ops) (brackets ops) t (p .over) ∙ ap recordBytes (p .yields-row ∙ e);
+        makes = b .makes;
+        over = over-every ops t (b .over);
+        measured = record-length (class ops) (brackets ops) t (b .over) ∙ ap recordBytes (b .yields-row);
       }
 
   pub built-length : (row : List ℕ) → Row ops row → length (built closes row) ≡ recordBytes row
-  built-length row r =
-      let (t, b) = built-tree row r in
-      ap length (b .recorded) ∙ record-length (class ops) (brackets ops) t (b .over) ∙ ap recordBytes (b .yields-row)
+  unfolding built
+  built-length row r = let b = row-buildable row r in ap (λ x. length (recordIn x)) (b .makes) ∙ b .measured
 
   pub built-length-accepted : (row : List ℕ) → rowNumber ops row ≡ accepted → length (built closes row) ≡ recordBytes row
   built-length-accepted row e = built-length row (row-accepted ops row .0 e .1)

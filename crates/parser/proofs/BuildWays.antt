@@ -1,44 +1,33 @@
 -- What each way through `read_row` and `build_into` gives, from what is known on it. Assumes nothing.
 use mathlib.Core.Path.{_≡_, refl, sym, ap, subst, _∙_}
-use mathlib.Core.Bool.{Bool, true, false, not}
+use mathlib.Core.Bool.{Bool}
 use mathlib.Core.Option.{some}
 use mathlib.Core.List.{List, [], _∷_}
 use Prim.Native.Nat.{ℕ, suc, _+_, _<_, _≤_}
 use native.Mathlib.Omega.{arith}
 use native.Mathlib.Numerals.{add-one}
-use lib.Dec.{eqb}
 use lib.ListN.{length, getD, take, drop}
 use lib.Seq.{take-suc, take-all, split-at}
 use borrow.Author.Needs.{needs}
-use Rattle.expression.specs.Lists.{oneIf}
 use Rattle.expression.specs.Limits.{mostTokens}
-use Rattle.expression.specs.Token.{closing}
 use Rattle.expression.specs.Tree.{Tree, recordOf}
 use Rattle.expression.specs.Checks.{recordBytes}
-use Rattle.disambiguation.specs.LeftToRight.{bottom, State, due, have, stuck, finish, run, parse, made}
+use Rattle.disambiguation.specs.LeftToRight.{bottom, State, due, have, stuck, finish, run, stateAfter, parse, made}
 use Rattle.disambiguation.proofs.LeftToRight.{run-append}
 use Rattle.parser.specs.Build.{recordIn, built}
 use Rattle.parser.specs.Notes.{notesOf, notesAt, laidOut, Inside}
-use Rattle.parser.specs.Reading.{share, classOf, next, Goes, Noted, Takeable, Takes, Buildable, Reads}
+use Rattle.parser.specs.Reading.{classOf, next, Goes, Noted, Takeable, Takes, Buildable, Reads}
 use Rattle.parser.specs.declared.build.Front.{Front}
+use Rattle.parser.proofs.Shares.{share-small}
 use Rattle.parser.proofs.NoteLaws.{length-notesOf}
 use Rattle.parser.proofs.Closing.{finished-notes}
 use Rattle.parser.proofs.Laying.{enough-words, words-inside, words-laid}
 use Rattle.parser.proofs.OperandWays.{count-is}
 
-pub share-small : (c : ℕ) → share c ≤ 1
-unfolding share
-share-small c = go (eqb c closing)
-  where
-    go : (b : Bool) → oneIf (not b) ≤ 1
-    go true = omega arith
-    go false = omega arith
-
 -- ---- the machine on a row that it makes a tree of
 module _ (closes : ℕ → ℕ → Bool) where
-  -- the state after tokens
   abbrev after : List ℕ → State
-  after tokens = run closes classOf tokens (due bottom)
+  after = stateAfter closes classOf
 
   run-stuck : (tokens : List ℕ) → run closes classOf tokens stuck ≡ stuck
   run-stuck [] = refl

@@ -2,7 +2,7 @@
 use Prim.Native.Nat.{ℕ, suc, _+_, _-_, _<_}
 use native.Mathlib.Omega.{arith}
 use mathlib.Core.Path.{_≡_, refl, ap, sym, _∙_}
-use mathlib.Core.Bool.{Bool, true, false, cond}
+use mathlib.Core.Bool.{Bool}
 use mathlib.Core.Option.{some, Option·some-injective}
 use mathlib.Core.List.{List, [], _∷_, _++_, append-assoc}
 use lib.ListN.{length, length-append, getD, take}
@@ -14,20 +14,10 @@ use Rattle.expression.proofs.Classes.{infix-byte}
 use Rattle.expression.proofs.Cond.{by-cond}
 use Rattle.disambiguation.specs.LeftToRight.{after, Stack, bottom, opened, waiting, State, due, have, stuck, close, everything, whole, finish, everyOperator}
 use Rattle.parser.specs.Notes.{note, byteIn, backIn, notesOf, notesBelow, notesAt}
-use Rattle.parser.specs.Reading.{classOf, OverBelow, remains, Waits}
+use Rattle.parser.specs.Reading.{classOf, OverBelow, Waits}
 use Rattle.parser.proofs.NoteLaws.{byte-note, back-note, length-notesOf}
 
--- ---- what is left
-pub close-remains : (p : ℕ → Bool) (s : Stack) (t : Tree) → (close p s t) .0 ≡ remains p s
-close-remains p bottom t = refl
-close-remains p (opened s) t = refl
-close-remains p (waiting (after l o) s) t = go (p o) (close-remains p s (binary o l t))
-  where
-    go : (b : Bool) → (close p s (binary o l t)) .0 ≡ remains p s
-        → (cond b (close p s (binary o l t)) (waiting (after l o) s, t)) .0 ≡ cond b (remains p s) (waiting (after l o) s)
-    go true e = e
-    go false e = refl
-
+-- ---- what is left is over the operators
 pub close-over : (p : ℕ → Bool) (s : Stack) (t : Tree) → OverBelow s → Over classOf t → OverBelow ((close p s t) .0) × Over classOf ((close p s t) .1)
 close-over p bottom t hs ht = (hs, ht)
 close-over p (opened s) t hs ht = (hs, ht)

@@ -19,14 +19,18 @@ use Rattle.sheet.specs.Relation.{closesIn}
 use Rattle.sheet.specs.InForce.{InForce}
 use Rattle.sheet.proofs.Laws.{count-by-relation}
 use Rattle.parser.specs.Build.{built}
-use Rattle.parser.proofs.BuildLaws.{built-tree}
+use Rattle.parser.proofs.BuildLaws.{BuiltTree, built-tree}
 
 module _ (s : List ℕ) (ops : Operators) (rules : List Rule) (in-force : InForce s ops rules) where
-  -- A built row is the record of the row's conflict-free tree.
+  -- The tree that the machine makes of a row is the row's conflict-free tree.
+  pub conflict-free-tree : {row : List ℕ} {t : Tree} → BuiltTree (closesIn s) ops row t → ConflictFreeTree ops rules row t
+  conflict-free-tree {t = t} b = record { over = b .over; yields = b .yields-row; free = count-by-relation s ops rules in-force t (b .over) ∙ b .free }
+
+  -- A built row is its record.
   pub built-conflict-free : (row : List ℕ) → Row ops row → (t : Tree) × ConflictFreeTree ops rules row t × (built (closesIn s) row ≡ recordOf t)
   built-conflict-free row r =
       let (t, b) = built-tree (closesIn s) ops row r in
-      (t, record { over = b .over; yields = b .yields-row; free = count-by-relation s ops rules in-force t (b .over) ∙ b .free }, b .recorded)
+      (t, conflict-free-tree b, b .recorded)
 
   pub one-tree : (row : List ℕ) (t u : Tree) → ConflictFreeTree ops rules row t → ConflictFreeTree ops rules row u → t ≡ u
   one-tree = only-one ops rules (accepted-passes ops rules (in-force .accepts))

@@ -1,3 +1,4 @@
+pub mod Shares
 pub mod NoteLaws
 pub mod Laying
 pub mod LayingWays

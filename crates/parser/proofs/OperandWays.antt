@@ -1,32 +1,22 @@
 -- What `take_operand` gives, and what that is to the machine. Assumes nothing.
 use mathlib.Core.Path.{_≡_, refl, sym, ap, subst, _∙_}
-use mathlib.Core.Bool.{Bool, not}
+use mathlib.Core.Bool.{Bool}
 use mathlib.Core.List.{List, [], _∷_, _++_}
 use Prim.Native.Nat.{ℕ, suc, _+_, _<_, _≤_}
 use native.Mathlib.Omega.{arith}
 use lib.ListN.{length, take}
 use lib.Seq.{length-take-le, take-take, take-at}
-use borrow.Author.Tests.{ne-eqb}
 use borrow.Author.Needs.{needs}
-use Rattle.expression.specs.Lists.{oneIf}
 use Rattle.expression.specs.Limits.{mostOperators}
 use Rattle.expression.specs.Token.{Reading, opening, closing}
 use Rattle.expression.specs.Tree.{Tree, reading}
 use Rattle.expression.proofs.Classes.{by-class, class-reading}
 use Rattle.disambiguation.specs.LeftToRight.{Stack, opened, State, due, have, stuck, whereDue, whereRead, everyOperator}
 use Rattle.parser.specs.Notes.{note, notesOf, notesBelow, notesAt}
-use Rattle.parser.specs.Reading.{share, classOf, next, Goes, Waits, Noted, Takes, Adds, StartsOperand}
+use Rattle.parser.specs.Reading.{classOf, next, Goes, Waits, Noted, Takes, Adds, StartsOperand}
 use Rattle.parser.specs.declared.build.Front.{Front}
+use Rattle.parser.proofs.Shares.{share-byte}
 use Rattle.parser.proofs.Closing.{length-notesAt}
-
--- a token other than a closing bracket has a share
-pub share-one : (c : ℕ) → (c ≡ closing → ⊥) → share c ≡ 1
-unfolding share
-share-one c n = ap (λ x. oneIf (not x)) (ne-eqb c closing n)
-
-pub share-closing : share closing ≡ 0
-unfolding share
-share-closing = refl
 
 module _ {words : List ℕ} {f : Front} where
   pub count-is : {m : State} → Noted words f m → f .count ≡ length (notesAt m)
@@ -99,7 +89,7 @@ module _ (closes : ℕ → ℕ → Bool) (c : ℕ) {words words′ : List ℕ} {
   operand-taken =
       record {
         taken = operand-goes;
-        counted = omega (arith, starts .counted, share-one c no-closing);
+        counted = omega (arith, starts .counted, share-byte c no-closing);
         first-inside = omega (arith, starts .counted, starts .first-is);
         same-length = starts .adds .same-length;
       }

@@ -12,13 +12,15 @@ use Rattle.expression.specs.Limits.{mostOperators, mostTokens}
 use Rattle.expression.specs.Token.{Infix, closing}
 use Rattle.expression.specs.Tree.{Tree, recordOf, Over}
 use Rattle.expression.proofs.Classes.{class-operator, brackets}
-use Rattle.disambiguation.specs.LeftToRight.{after, Stack, bottom, opened, waiting, State, due, have, stuck, close, everything, shut, whereDue, before, everyOperator}
+use Rattle.disambiguation.specs.LeftToRight.{after, Stack, bottom, opened, waiting, State, due, have, stuck, close, remains, everything, shut, whereDue, before, everyOperator}
+use Rattle.disambiguation.proofs.LeftToRight.{close-remains}
 use Rattle.parser.specs.Notes.{note, raised, notesOf, notesBelow, notesAt}
-use Rattle.parser.specs.Reading.{classOf, next, Goes, OverBelow, closer, remains, Waits, SomeWait, Noted, Closes, Takeable, Takes, Adds, Raisable, Frees}
+use Rattle.parser.specs.Reading.{classOf, next, Goes, OverBelow, closedBy, Waits, SomeWait, Noted, Closes, Takeable, Takes, Adds, Raisable, Frees}
 use Rattle.parser.specs.declared.build.Front.{Front}
 use Rattle.parser.proofs.NoteLaws.{length-notesOf, first-note}
-use Rattle.parser.proofs.Closing.{close-remains, close-over, length-opened, length-notesAt, close-notes, shut-notes, waits-length}
-use Rattle.parser.proofs.OperandWays.{share-one, share-closing, count-is, waits-before, operand-taken, operand-same}
+use Rattle.parser.proofs.Shares.{share-none, share-byte}
+use Rattle.parser.proofs.Closing.{close-over, length-opened, length-notesAt, close-notes, shut-notes, waits-length}
+use Rattle.parser.proofs.OperandWays.{count-is, waits-before, operand-taken, operand-same}
 
 pub noted-size : (closes : ℕ → ℕ → Bool) (c : ℕ) (words : List ℕ) (f : Front) → Takeable closes c words f → length words ≤ mostTokens
 noted-size closes c words f k = k .stands .size
@@ -60,10 +62,10 @@ module _ (closes : ℕ → ℕ → Bool) (c : ℕ) (words : List ℕ) (f : Front
     left-operand : (s : Stack) (t : Tree) → Noted words f (have s t) → Left ((close (before closes c) s t) .0) ((close (before closes c) s t) .1)
     left-operand s t n = go ((close (before closes c) s t) .0) ((close (before closes c) s t) .1) same (n .noted ∙ close-notes (before closes c) s t) (close-over (before closes c) s t (n .over .0) (n .over .1))
       where
-        same : remains (closer closes c) s ≡ (close (before closes c) s t) .0
+        same : remains (closedBy closes c) s ≡ (close (before closes c) s t) .0
         same = ap (λ b. remains (cond b everything (before closes c)) s) (ne-eqb c closing (λ e. omega arith)) ∙ sym (close-remains (before closes c) s t)
 
-        go : (u : Stack) (v : Tree) → remains (closer closes c) s ≡ u → take (f .count) words ≡ notesAt (have u v) → OverBelow u × Over classOf v → Left u v
+        go : (u : Stack) (v : Tree) → remains (closedBy closes c) s ≡ u → take (f .count) words ≡ notesAt (have u v) → OverBelow u × Over classOf v → Left u v
         go u v e q over =
             let w = subst (λ x. Waits words first x) e (closed .left s (waits-before n)) in
             let at = waits-length words first w in
@@ -123,7 +125,7 @@ module _ (closes : ℕ → ℕ → Bool) (c : ℕ) (words : List ℕ) (f : Front
       operator-goes stuck n g = absurd g
 
       pub operator-taken : f .first ≤ f .count → Takes closes c words f words′ grown
-      operator-taken h = record { taken = operator-goes; counted = omega (arith, share-one c (λ e. omega arith)); first-inside = omega (arith, closed .lower); same-length = frees .same-length }
+      operator-taken h = record { taken = operator-goes; counted = omega (arith, share-byte c (λ e. omega arith)); first-inside = omega (arith, closed .lower); same-length = frees .same-length }
 
 pub ruleset operator-ways = (operator-waits, operator-raisable, operator-taken, noted-size, needs)
 
@@ -188,7 +190,7 @@ module _ (closes : ℕ → ℕ → Bool) (words : List ℕ) (f : Front) where
     closing-positive k = closing-goes (k .state) (k .stands) (k .goes) .0
 
     pub closing-taken : f .first ≤ f .count → Takes closes closing words f words shorter
-    closing-taken h = record { taken = λ m n g. closing-goes m n g .1; counted = omega (arith, share-closing); first-inside = omega (arith, closed .lower); same-length = refl }
+    closing-taken h = record { taken = λ m n g. closing-goes m n g .1; counted = omega (arith, share-none closing refl); first-inside = omega (arith, closed .lower); same-length = refl }
 
 pub ruleset closing-ways = (closing-waits, closing-positive, closing-taken, needs)
 

@@ -11,7 +11,7 @@ use Rattle.expression.specs.Limits.{mostOperators, mostTokens}
 use Rattle.expression.specs.Token.{Class, Infix, closing, class}
 use Rattle.expression.specs.Tree.{Tree, recordOf, Over}
 use Rattle.expression.specs.Checks.{recordBytes}
-use Rattle.disambiguation.specs.LeftToRight.{after, operatorOf, Stack, bottom, opened, waiting, State, due, have, stuck, everything, before, step, everyOperator, made}
+use Rattle.disambiguation.specs.LeftToRight.{after, Stack, bottom, opened, waiting, State, due, have, stuck, remains, everything, before, step, everyOperator, made}
 use Rattle.parser.specs.Notes.{note, raised, notesOf, notesBelow, notesAt}
 use Rattle.parser.specs.declared.build.Front.{Front}
 
@@ -50,18 +50,12 @@ Begins (have s t) first = first ≡ length (notesBelow s)
 Begins stuck first = Unit {0}
 
 -- What closes where the token c comes: what closes before it, and all back to its bracket if it is a closing one.
-abbrev pub closer : (ℕ → ℕ → Bool) → ℕ → ℕ → Bool
-closer closes c = cond (eqb c closing) everything (before closes c)
+abbrev pub closedBy : (ℕ → ℕ → Bool) → ℕ → ℕ → Bool
+closedBy closes c = cond (eqb c closing) everything (before closes c)
 
 -- The byte of something that waits closes where c comes; an opening bracket does not.
 unfoldable pub ends : (ℕ → ℕ → Bool) → ℕ → ℕ → Bool
-ends closes c a = ltb a mostOperators && closer closes c a
-
--- what is left of a stack
-abbrev pub remains : (ℕ → Bool) → Stack → Stack
-remains p bottom = bottom
-remains p (opened s) = opened s
-remains p (waiting f s) = cond (p (operatorOf f)) (remains p s) (waiting f s)
+ends closes c a = ltb a mostOperators && closedBy closes c a
 
 -- The words before `first` are the notes of what waits.
 pub record Waits (words : List ℕ) (first : ℕ) (s : Stack) : Type 0 where
@@ -85,7 +79,7 @@ pub record Noted (words : List ℕ) (f : Front) (m : State) : Type 0 where
 module _ (closes : ℕ → ℕ → Bool) (c : ℕ) where
   -- Where c came, the words before `first` are those of what still waits.
   pub record Closes (words : List ℕ) (from first : ℕ) : Type 0 where
-    pub left : (s : Stack) → Waits words from s → Waits words first (remains (closer closes c) s)
+    pub left : (s : Stack) → Waits words from s → Waits words first (remains (closedBy closes c) s)
     pub lower : first ≤ from
 
   -- The token c can be taken, and it has been taken.

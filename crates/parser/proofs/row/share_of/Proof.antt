@@ -1,5 +1,5 @@
 -- `parser::row::share_of` meets its contract. Assumes nothing.
-use Rattle.parser.proofs.AnswerWays.{share-ways}
+use Rattle.parser.proofs.Shares.{share-ways}
 use Rattle.parser.proofs.row.share_of.Statement.{statement}
 use Rattle.parser.proofs.row.share_of.Tie as tie
 
