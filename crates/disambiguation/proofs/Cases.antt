@@ -1,10 +1,7 @@
--- Document 01's marked cases, and the cases against misreadings, hold of the definitions, by computation. Assumes nothing.
-use Prim.Native.Nat.{ℕ}
-use native.Mathlib.Omega.{arith}
-use mathlib.Core.Path.{_≡_, refl}
-use mathlib.Core.List.{[], _∷_}
+-- Document 01's cases, and the cases against misreadings, hold of the definitions, by computation. Assumes nothing.
+use mathlib.Core.Path.{refl}
 use Rattle.expression.specs.Lists.{All}
-use Rattle.expression.specs.Token.{operators, class}
+use Rattle.expression.specs.Token.{class}
 use Rattle.expression.specs.Tree.{Tree, reading, bracket, binary}
 use Rattle.expression.specs.RowTest.{isRow}
 use Rattle.expression.specs.Decode.{treeOf}
@@ -12,28 +9,27 @@ use Rattle.expression.specs.Checks.{rowNumber, recordNumber}
 use Rattle.disambiguation.specs.Rules.{L, R}
 use Rattle.disambiguation.specs.Below.{allBelow}
 use Rattle.disambiguation.specs.Verdict.{safe, total, within, level}
-use Rattle.disambiguation.specs.SheetChecks.{rulesOf, sheetNumber}
+use Rattle.disambiguation.specs.SheetChecks.{sheetNumber}
 use Rattle.disambiguation.specs.LeftToRight.{parse, made}
 use Rattle.disambiguation.specs.Repair.{repair}
-use Rattle.disambiguation.specs.ExactlyOne.{HasTwo}
-use Rattle.disambiguation.specs.Cases.{Holds, round, table}
+use Rattle.disambiguation.specs.Cases.{Holds, table}
 use Rattle.disambiguation.specs.Misreadings.{misreadings}
 
-abbrev w : Tree
+abbrev pub w : Tree
 w = reading 0x80
 
-abbrev x : Tree
+abbrev pub x : Tree
 x = reading 0x81
 
-abbrev y : Tree
+abbrev pub y : Tree
 y = reading 0x82
 
-abbrev z : Tree
+abbrev pub z : Tree
 z = reading 0x83
 
 -- a line and the lines after it
 infixr 10 _next_
-abbrev _next_ : {A B : Type 0} → A → B → A × B
+abbrev pub _next_ : {A B : Type 0} → A → B → A × B
 a next b = (a, b)
 
 pub cases-hold : All Holds table
@@ -55,7 +51,7 @@ cases-hold =
     next (binary 1 (binary 0 w x) y, (refl, refl), refl)
     next refl next refl next refl
     next refl next refl next refl
-    next refl next refl next refl next refl
+    next refl next refl next refl next refl next refl
     next tt
 
 pub misreadings-hold : All Holds misreadings
@@ -100,14 +96,3 @@ misreadings-hold =
       refl,
     )
     next tt
-
--- Case 12 settles every pair, yet this row has two trees.
-pub round-has-two : HasTwo (operators (round .n)) (rulesOf (round .bytes)) (0x80 ∷ 0 ∷ 0x81 ∷ 1 ∷ 0x82 ∷ 2 ∷ 0x83 ∷ [])
-unfolding class L R
-round-has-two = (
-  binary 2 (binary 1 (binary 0 w x) y) z,
-  binary 0 w (binary 2 (binary 1 x y) z),
-  record { over = (refl, (refl, (refl, refl, refl), refl), refl); yields = refl; free = refl },
-  record { over = (refl, refl, (refl, (refl, refl, refl), refl)); yields = refl; free = refl },
-  λ e. let clash : _≡_ {A = ℕ} 0 1 = cc in omega arith,
-)

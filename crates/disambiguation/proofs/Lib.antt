@@ -11,6 +11,8 @@ pub mod Repaired
 pub mod FewOperators
 pub mod Converse
 pub mod BelowLaws
+pub mod Chains
+pub mod LeadsDecided
 pub mod TestsDecide
 pub mod VerdictDecides
 pub mod SheetNumbers
@@ -18,4 +20,5 @@ pub mod RuleBytes
 pub mod Agreement
 pub mod Accepted
 pub mod Cases
+pub mod ChainCases
 pub mod MachineExamples

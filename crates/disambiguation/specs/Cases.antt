@@ -1,7 +1,7 @@
--- Document 01's marked cases as one table of what is given and what is answered. Assumes nothing.
+-- Document 01's marked cases and case 13, with document 02's chains of priority, as one table of what is given and what is answered. Assumes nothing.
 use Prim.Native.Nat.{ℕ}
 use mathlib.Core.Path.{_≡_}
-use mathlib.Core.List.{List, [], _∷_}
+use mathlib.Core.List.{List, [], _∷_, _++_}
 use mathlib.Core.Option.{some}
 use Rattle.expression.specs.Refusal.{accepted, dead, double, noRow, noTree}
 use Rattle.expression.specs.Token.{Operators, operators, class}
@@ -65,16 +65,17 @@ excluded = record { n = 1; bytes = left ∷ 0 ∷ 0 ∷ right ∷ 0 ∷ 0 ∷ []
 abbrev pub empty : Sheet
 empty = record { n = 0; bytes = [] }
 
--- n = 3, each left with itself, 00 over 01, 01 over 02, 02 over 00
-abbrev pub round : Sheet
-round = record {
+-- n = 3, each left with itself, 00 over 01, 01 over 02; and with 02 over 00, by which each operator stands over itself
+abbrev pub falling : Sheet
+falling = record {
   n = 3;
-  bytes =
-      left ∷ 0 ∷ 0 ∷ left ∷ 1 ∷ 1 ∷ left ∷ 2 ∷ 2
-      ∷ priority ∷ 0 ∷ 1 ∷ priority ∷ 1 ∷ 2 ∷ priority ∷ 2 ∷ 0 ∷ [];
+  bytes = left ∷ 0 ∷ 0 ∷ left ∷ 1 ∷ 1 ∷ left ∷ 2 ∷ 2 ∷ priority ∷ 0 ∷ 1 ∷ priority ∷ 1 ∷ 2 ∷ [];
 }
 
--- The cases 1 to 12.
+abbrev pub round : Sheet
+round = record { n = 3; bytes = falling .bytes ++ (priority ∷ 2 ∷ 0 ∷ []) }
+
+-- The cases 1 to 13.
 abbrev pub table : List Case
 table =
     built sheetA (0x80 ∷ []) (0x80 ∷ [])
@@ -93,5 +94,6 @@ table =
     ∷ sheet undecided double
     ∷ sheet excluded dead
     ∷ sheet empty accepted
-    ∷ sheet round double
+    ∷ sheet round dead
+    ∷ sheet falling accepted
     ∷ []

@@ -1,4 +1,6 @@
+pub mod Chains
 pub mod Rules
+pub mod Patterns
 pub mod Edges
 pub mod Conflicts
 pub mod ExactlyOne
@@ -8,4 +10,5 @@ pub mod SheetChecks
 pub mod LeftToRight
 pub mod Repair
 pub mod Cases
+pub mod ChainCases
 pub mod Misreadings

@@ -17,6 +17,7 @@ pub mod Demand2
 pub mod Demand3
 pub mod ShortestRows
 pub mod ReadFromTheLeft
+pub mod ChainedPatterns
 pub mod AnswerWays
 pub mod StoreWays
 pub mod LoadWays

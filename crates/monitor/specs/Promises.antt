@@ -14,6 +14,7 @@ use Rattle.expression.specs.Grammar.{Row}
 use Rattle.expression.specs.Tree.{Tree, recordOf, Over}
 use Rattle.expression.specs.Tree as tree
 use Rattle.disambiguation.specs.Rules.{Rule}
+use Rattle.disambiguation.specs.Patterns.{Patterns}
 use Rattle.disambiguation.specs.Conflicts.{conflictCount, ConflictFreeTree}
 use Rattle.disambiguation.specs.ExactlyOne.{SomeRowHasNone, SomeRowHasTwo, EveryRowHasExactlyOne}
 use Rattle.disambiguation.specs.LeftToRight.{finish}
@@ -117,3 +118,8 @@ module _ (cs : List Call) where
     pub repairs : (t : Tree) → Over (class ops) t → Within t
         → (u : Tree) × (finish (state (panelAfter cs .sheet) ops (tree.yield t)) ≡ some u)
         × ((out : List ℕ) → length (recordOf u) ≤ length out → AnsweredBy cs (ask (repair (recordOf t) out)) out (recordOf u))
+
+-- W4, chains of priority. Of any rules, which patterns they exclude: both where one or more priority rules lead from the one operator to the other, and else by left and
+-- right as written. Demands 2 and 3 and the requests above speak of conflicts by these patterns.
+abbrev pub ChainedPatterns : Type 0
+ChainedPatterns = (rules : List Rule) → Patterns rules

@@ -14,7 +14,7 @@ use Rattle.expression.specs.Limits.{mostOperators, mostRuleBytes, bytesOfRule}
 use Rattle.expression.specs.Refusal.{accepted, oversize, torn, stranger}
 use Rattle.expression.specs.Token.{Operators, operators, class}
 use Rattle.expression.specs.Tree.{Tree, Over}
-use Rattle.disambiguation.specs.Rules.{Rule, L, R}
+use Rattle.disambiguation.specs.Rules.{Rule, priority, left, L, R}
 use Rattle.disambiguation.specs.ExactlyOne.{EveryRowHasExactlyOne}
 use Rattle.disambiguation.proofs.VerdictDecides.{accepted-exactly-if}
 use Rattle.disambiguation.proofs.Accepted.{accepted-passes, opposite, count-by-closes}
@@ -24,57 +24,41 @@ use Rattle.disambiguation.specs.Verdict.{safe, total, level, verdict}
 use Rattle.disambiguation.specs.SheetChecks.{rulesOf, strangeRule, sheetNumber}
 use Rattle.sheet.specs.Layout.{countWord, sheetWords, operatorsOf, fresh}
 use Rattle.sheet.specs.Relation.{bitOf, closesIn}
-use Rattle.sheet.specs.Marking.{marksR, marksAll}
+use Rattle.sheet.specs.Marking.{marks, marksAll}
+use Rattle.sheet.specs.Chaining.{chained, added}
 use Rattle.sheet.specs.Loading.{sheetOf}
 use Rattle.sheet.specs.InForce.{InForce}
-use Rattle.sheet.proofs.Marks.{length-marked, closes-blank, closes-is-R}
+use Rattle.sheet.proofs.Marks.{closes-blank, marked-length}
+use Rattle.sheet.proofs.Chaining.{length-added, chained-is-R}
 use Rattle.sheet.proofs.Orderly.{R-below}
-use Rattle.sheet.proofs.WordTests.{closes-bit}
-
-both-true : (p q r : Bool) → (p && (q && r)) ≡ true → (p ≡ true) × (q ≡ true)
-both-true true true r e = (refl, refl)
-both-true true false r e = absurd (false≢true e)
-both-true false q r e = absurd (false≢true e)
-
--- no operator is 32 or more
-pub closes-below : (sheet : List ℕ) (a b : ℕ) → closesIn sheet a b ≡ true → (a < mostOperators) × (b < mostOperators)
-unfolding closesIn
-closes-below sheet a b e =
-    let k = both-true (ltb a mostOperators) (ltb b mostOperators) _ e in
-    (ltb-true a mostOperators (k .0), ltb-true b mostOperators (k .1))
-
-as-false : (p : Bool) → (p ≡ true → ⊥) → p ≡ false
-as-false true h = absurd (h refl)
-as-false false h = refl
-
-closes-beyond : (sheet : List ℕ) (a b : ℕ) → ((a < mostOperators) × (b < mostOperators) → ⊥) → closesIn sheet a b ≡ false
-closes-beyond sheet a b h = as-false (closesIn sheet a b) (λ e. h (closes-below sheet a b e))
+use Rattle.sheet.proofs.WordTests.{closes-bit, closes-beyond, as-false}
+pub use Rattle.sheet.proofs.WordTests.{closes-below}
 
 closes-fresh : (a b : ℕ) → closesIn fresh a b ≡ false
 closes-fresh a b = as-false (closesIn fresh a b) (λ e. let k = closes-below fresh a b e in false≢true (sym (closes-blank a b (k .0) (k .1)) ∙ e))
 
 -- ---- the sheet that is made of n and rules
-length-marksAll : (rules : List Rule) (t : List ℕ) → length (marksAll marksR rules t) ≡ length t
-unfolding marksAll marksR
-length-marksAll [] t = refl
-length-marksAll (r ∷ rs) t = length-marksAll rs (marksR r t) ∙ length-marked t _ _ _
+module _ (n : ℕ) (few : n ≤ mostOperators) (rules : List Rule) where
+  -- the words of its relation
+  abbrev relationOf : List ℕ
+  relationOf = added n (chained n n (marksAll (marks priority) rules fresh)) (marksAll (marks left) rules fresh)
 
-module _ (n : ℕ) (rules : List Rule) where
+  long : length relationOf ≡ sheetWords
+  long = length-added n few _ _ ∙ marked-length left rules
+
   -- its operators are n, where that fits a byte
-  pub operators-made : n ≤ mostOperators → operatorsOf (sheetOf n rules) ≡ operators n
+  pub operators-made : operatorsOf (sheetOf n rules) ≡ operators n
   unfolding operatorsOf sheetOf
-  operators-made h =
-      ap (λ (m : ℕ). operators (m % 256)) (getD-set-same (marksAll marksR rules fresh) countWord n 0 (omega (arith, length-marksAll rules fresh)))
-      ∙ ap operators (omega arith)
+  operators-made = ap (λ (m : ℕ). operators (m % 256)) (getD-set-same relationOf countWord n 0 (omega (arith, long))) ∙ ap operators (omega arith)
 
-  -- its relation is the patterns R
-  pub closes-made : (a b : ℕ) → a < mostOperators → b < mostOperators → closesIn (sheetOf n rules) a b ≡ R rules a b
+  -- its relation is the patterns R, where no rule is strange
+  pub closes-made : anyHolds (strangeRule n) rules ≡ false → (a b : ℕ) → a < mostOperators → b < mostOperators → closesIn (sheetOf n rules) a b ≡ R rules a b
   unfolding sheetOf
-  closes-made a b ha hb =
-      closes-bit (set (marksAll marksR rules fresh) countWord n) a b ha hb
-      ∙ ap (λ (w : ℕ). bitOf w b) (getD-set-other (marksAll marksR rules fresh) countWord a n 0 (λ e. omega arith))
-      ∙ sym (closes-bit (marksAll marksR rules fresh) a b ha hb)
-      ∙ closes-is-R rules a b ha hb
+  closes-made plain a b ha hb =
+      closes-bit (set relationOf countWord n) a b ha hb
+      ∙ ap (λ (w : ℕ). bitOf w b) (getD-set-other relationOf countWord a n 0 (λ e. omega arith))
+      ∙ sym (closes-bit relationOf a b ha hb)
+      ∙ chained-is-R n few rules plain a b ha hb
 
 -- what number 0 says of n and the bytes
 pub record Accepted (n : ℕ) (bytes : List ℕ) : Type 0 where
@@ -98,7 +82,7 @@ accepted-by n bytes e = go (ltb mostOperators n) (ltb mostRuleBytes (length byte
 -- made of accepted bytes
 pub made-in-force : (n : ℕ) (bytes : List ℕ) → sheetNumber n bytes ≡ accepted → InForce (sheetOf n (rulesOf bytes)) (operators n) (rulesOf bytes)
 made-in-force n bytes z =
-    record { few = k .few; operators = operators-made n rules (k .few); accepts = k .accepts; right = λ a b. at a b (decLt a mostOperators) (decLt b mostOperators); left = opposed }
+    record { few = k .few; operators = operators-made n (k .few) rules; accepts = k .accepts; right = λ a b. at a b (decLt a mostOperators) (decLt b mostOperators); left = opposed }
   where
     k : Accepted n bytes
     k = accepted-by n bytes z
@@ -113,14 +97,14 @@ made-in-force n bytes z =
         ∙ sym (as-false (R rules a b) (λ e. let m = R-below n rules a b (k .plain) e in h (omega arith, omega arith)))
 
     at : (a b : ℕ) → Dec (a < mostOperators) → Dec (b < mostOperators) → closesIn (sheetOf n rules) a b ≡ R rules a b
-    at a b (yes p) (yes q) = closes-made n rules a b p q
+    at a b (yes p) (yes q) = closes-made n (k .few) rules (k .plain) a b p q
     at a b (yes p) (no q) = beyond a b (λ h. q (h .1))
     at a b (no p) q = beyond a b (λ h. p (h .0))
 
     opposed : (a b : ℕ) → a < n → b < n → L rules b a ≡ not (closesIn (sheetOf n rules) a b)
     opposed a b ha hb =
         opposite (operators n) rules (accepted-passes (operators n) rules (k .accepts)) a b ha hb
-        ∙ ap not (sym (closes-made n rules a b (omega (arith, k .few)) (omega (arith, k .few))))
+        ∙ ap not (sym (closes-made n (k .few) rules (k .plain) a b (omega (arith, k .few)) (omega (arith, k .few))))
 
 -- before any load
 pub fresh-in-force : InForce fresh (operators 0) []

@@ -3,6 +3,9 @@ pub mod Bits
 pub mod WordTests
 pub mod Marks
 pub mod Orderly
+pub mod Through
+pub mod Chaining
+pub mod ChainWays
 pub mod Reading
 pub mod Testing
 pub mod Verdicts

@@ -1,5 +1,5 @@
 -- What each way through loading a sheet gives, from what is known on it. Assumes nothing.
-use mathlib.Core.Path.{_≡_, refl, sym, ap, _∙_}
+use mathlib.Core.Path.{_≡_, refl, sym, ap, ap₂, _∙_}
 use mathlib.Core.Bool.{Bool, true, false, not, _||_, cond}
 use mathlib.Core.List.{List}
 use Prim.Native.Nat.{ℕ, _%_, _<_, _≤_}
@@ -15,13 +15,14 @@ use Rattle.expression.specs.Lists.{anyHolds}
 use Rattle.expression.specs.Limits.{mostOperators, mostRuleBytes, bytesOfRule}
 use Rattle.expression.specs.Refusal.{accepted, oversize, torn, stranger}
 use Rattle.expression.specs.Token.{operators}
-use Rattle.disambiguation.specs.Rules.{L, R}
+use Rattle.disambiguation.specs.Rules.{priority, left, right, L, R}
 use Rattle.disambiguation.specs.SheetChecks.{rulesOf, strangeRule, sheetNumber}
 use Rattle.sheet.specs.Layout.{countWord, fresh}
 use Rattle.sheet.specs.Relation.{closesIn, turned}
-use Rattle.sheet.specs.Marking.{Reads}
+use Rattle.sheet.specs.Marking.{marks, marksTurned, marksAll, Tables, tables, takenAll, Reads}
+use Rattle.sheet.specs.Chaining.{chained, added}
 use Rattle.sheet.specs.Loading.{sizeNumber, rulesNumber, sheetOf, Loads}
-use Rattle.sheet.proofs.Marks.{closes-is-R, closes-is-L}
+use Rattle.sheet.proofs.Chaining.{chained-is-R, chained-is-L}
 use Rattle.sheet.proofs.Verdicts.{number-same}
 
 -- ---- size_number
@@ -86,26 +87,46 @@ module _ (n : ℕ) (bytes : List ℕ) where
   pub load-size : {size : ℕ} (before : List ℕ) → size ≡ sizeNumber n (length bytes) → (size ≡ 0 → ⊥) → Loads before n bytes size before
   load-size before e h = refused before (e ∙ by-size (λ z. h (e ∙ z))) h
 
--- The rules read, from tables with no mark.
-module _ (n : ℕ) (bytes t u : List ℕ) {strange : Bool} (few : n ≤ mostOperators) (read : Reads n bytes fresh fresh t u strange) where
-  relation-is : strange ≡ false → (a b : ℕ) → a < mostOperators → b < mostOperators → closesIn t a b ≡ R (rulesOf bytes) a b
-  relation-is z a b ha hb = ap (λ (w : List ℕ). closesIn w a b) (read .excludes-right z) ∙ closes-is-R (rulesOf bytes) a b ha hb
+-- The rules read, from tables with no mark; then the chains put in.
+abbrev pub blank : Tables
+blank = tables fresh fresh fresh fresh
 
-  turned-is : strange ≡ false → (a b : ℕ) → a < mostOperators → b < mostOperators → turned (closesIn u) a b ≡ L (rulesOf bytes) a b
-  turned-is z a b ha hb = ap (λ (w : List ℕ). closesIn w b a) (read .excludes-left z) ∙ closes-is-L (rulesOf bytes) b a hb ha
+module _ (n : ℕ) (bytes : List ℕ) (read : Tables) {strange : Bool} (few : n ≤ mostOperators) (reads : Reads n bytes blank read strange) where
+  abbrev relation : List ℕ
+  relation = added n (chained n n (read .over)) (read .closes)
 
-  number-is : rulesNumber strange (operators n) (turned (closesIn u)) (closesIn t) ≡ rulesNumber (anyHolds (strangeRule n) (rulesOf bytes)) (operators n) (L (rulesOf bytes)) (R (rulesOf bytes))
+  abbrev turnedRound : List ℕ
+  turnedRound = added n (chained n n (read .under)) (read .yields)
+
+  module _ (z : strange ≡ false) where
+    plain : anyHolds (strangeRule n) (rulesOf bytes) ≡ false
+    plain = sym (reads .strange) ∙ z
+
+    relation-made : relation ≡ added n (chained n n (marksAll (marks priority) (rulesOf bytes) fresh)) (marksAll (marks left) (rulesOf bytes) fresh)
+    unfolding takenAll
+    relation-made = ap (λ t. added n (chained n n (t .over)) (t .closes)) (reads .marked-in z)
+
+    turned-made : turnedRound ≡ added n (chained n n (marksAll (marksTurned priority) (rulesOf bytes) fresh)) (marksAll (marksTurned right) (rulesOf bytes) fresh)
+    unfolding takenAll
+    turned-made = ap (λ t. added n (chained n n (t .under)) (t .yields)) (reads .marked-in z)
+
+    relation-is : (a b : ℕ) → a < n → b < n → closesIn relation a b ≡ R (rulesOf bytes) a b
+    relation-is a b ha hb = ap (λ (w : List ℕ). closesIn w a b) relation-made ∙ chained-is-R n few (rulesOf bytes) plain a b (lt-of-lt-of-le ha few) (lt-of-lt-of-le hb few)
+
+    turned-is : (a b : ℕ) → a < n → b < n → turned (closesIn turnedRound) a b ≡ L (rulesOf bytes) a b
+    turned-is a b ha hb = ap (λ (w : List ℕ). closesIn w b a) turned-made ∙ chained-is-L n few (rulesOf bytes) plain b a hb ha
+
+  number-is : rulesNumber strange (operators n) (turned (closesIn turnedRound)) (closesIn relation)
+      ≡ rulesNumber (anyHolds (strangeRule n) (rulesOf bytes)) (operators n) (L (rulesOf bytes)) (R (rulesOf bytes))
   unfolding rulesNumber
-  number-is = go strange refl ∙ ap (λ (s : Bool). rulesNumber s (operators n) (L (rulesOf bytes)) (R (rulesOf bytes))) (read .strange)
+  number-is = go strange refl ∙ ap (λ (s : Bool). rulesNumber s (operators n) (L (rulesOf bytes)) (R (rulesOf bytes))) (reads .strange)
     where
-      go : (s : Bool) → strange ≡ s → rulesNumber strange (operators n) (turned (closesIn u)) (closesIn t) ≡ rulesNumber strange (operators n) (L (rulesOf bytes)) (R (rulesOf bytes))
+      go : (s : Bool) → strange ≡ s
+          → rulesNumber strange (operators n) (turned (closesIn turnedRound)) (closesIn relation) ≡ rulesNumber strange (operators n) (L (rulesOf bytes)) (R (rulesOf bytes))
       go true z = rw z
-      go false z =
-          number-same n (turned (closesIn u)) (L (rulesOf bytes)) (closesIn t) (R (rulesOf bytes))
-          (λ a b ha hb. turned-is z a b (lt-of-lt-of-le ha few) (lt-of-lt-of-le hb few))
-          (λ a b ha hb. relation-is z a b (lt-of-lt-of-le ha few) (lt-of-lt-of-le hb few)) strange
+      go false z = number-same n (turned (closesIn turnedRound)) (L (rulesOf bytes)) (closesIn relation) (R (rulesOf bytes)) (turned-is z) (relation-is z) strange
 
-  none-strange : rulesNumber strange (operators n) (turned (closesIn u)) (closesIn t) ≡ accepted → strange ≡ false
+  none-strange : rulesNumber strange (operators n) (turned (closesIn turnedRound)) (closesIn relation) ≡ accepted → strange ≡ false
   unfolding rulesNumber
   none-strange e = go strange _ refl e
     where
@@ -113,21 +134,30 @@ module _ (n : ℕ) (bytes t u : List ℕ) {strange : Bool} (few : n ≤ mostOper
       go true rest z k = absurd (omega arith)
       go false rest z k = z
 
-module _ {size number : ℕ} {strange : Bool} (before : List ℕ) (n : ℕ) (bytes t u : List ℕ) (size-is : size ≡ sizeNumber n (length bytes)) (small : size ≡ 0)
-    (read : Reads n bytes fresh fresh t u strange) (number-of : number ≡ rulesNumber strange (operators n) (turned (closesIn u)) (closesIn t)) where
+module _ {size number : ℕ} {strange : Bool} (before : List ℕ) (n : ℕ) (bytes t u o d t′ u′ : List ℕ) (size-is : size ≡ sizeNumber n (length bytes)) (small : size ≡ 0)
+    (reads : Reads n bytes blank (tables t u o d) strange) (made : t′ ≡ added n (chained n n o) t) (yields : u′ ≡ added n (chained n n d) u)
+    (number-of : number ≡ rulesNumber strange (operators n) (turned (closesIn u′)) (closesIn t′)) where
+  few-here : n ≤ mostOperators
+  few-here = few-operators n (length bytes) size-is small
+
+  by-tables : number ≡ rulesNumber strange (operators n) (turned (closesIn (added n (chained n n d) u))) (closesIn (added n (chained n n o) t))
+  by-tables = number-of ∙ ap₂ (λ v w. rulesNumber strange (operators n) (turned (closesIn v)) (closesIn w)) yields made
+
   sheet-number : number ≡ sheetNumber n bytes
-  sheet-number = number-of ∙ number-is n bytes t u (few-operators n (length bytes) size-is small) read ∙ by-rules n bytes (sym size-is ∙ small)
+  sheet-number = by-tables ∙ number-is n bytes (tables t u o d) few-here reads ∙ by-rules n bytes (sym size-is ∙ small)
 
   pub load-rules : (number ≡ 0 → ⊥) → Loads before n bytes number before
   load-rules h = refused n bytes before sheet-number h
 
-  pub load-accepted : number ≡ 0 → Loads before n bytes 0 (set t countWord n)
+  pub load-accepted : number ≡ 0 → Loads before n bytes 0 (set t′ countWord n)
   unfolding sheetOf
   load-accepted z =
-      let plain : strange ≡ false = none-strange n bytes t u (few-operators n (length bytes) size-is small) read (sym number-of ∙ z) in
+      let plain : strange ≡ false = none-strange n bytes (tables t u o d) few-here reads (sym by-tables ∙ z) in
       record {
         number = sym z ∙ sheet-number;
-        stands = rw (eq-eqb (sheetNumber n bytes) accepted (sym sheet-number ∙ z)) (ap (λ (w : List ℕ). set w countWord n) (read .excludes-right plain));
+        stands =
+            rw (eq-eqb (sheetNumber n bytes) accepted (sym sheet-number ∙ z))
+            (ap (λ (w : List ℕ). set w countWord n) (made ∙ relation-made n bytes (tables t u o d) few-here reads plain));
       }
 
 pub ruleset load-ways = (few-operators, few-byte, load-size, load-rules, load-accepted, needs)

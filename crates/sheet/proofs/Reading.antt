@@ -16,7 +16,7 @@ use Rattle.expression.specs.Lists.{anyHolds, oneIf}
 use Rattle.expression.specs.Limits.{mostOperators}
 use Rattle.disambiguation.specs.Rules.{Rule, rule, priority, left, right}
 use Rattle.disambiguation.specs.SheetChecks.{rulesOf, strangeRule}
-use Rattle.sheet.specs.Marking.{marked, marksR, marksL, marksAll, Takes, Reads}
+use Rattle.sheet.specs.Marking.{marked, marks, marksTurned, marksAll, Tables, tables, taken, takenAll, Takes, Reads}
 use Rattle.sheet.proofs.Bits.{one-shifted}
 use Rattle.sheet.proofs.Orderly.{first-operator, second-operator}
 
@@ -38,15 +38,6 @@ module _ (n k a b : ℕ) where
   in-order l h p q = simp (le-ltb k 1 l, le-ltb 3 k h, lt-ltb a n p, lt-ltb b n q)
 
 pub ruleset strange-ways = (kind-low, kind-high, first-strange, second-strange, in-order, needs)
-
--- ---- excludes
-pub by-priority : (k side : ℕ) → k ≡ 1 → true ≡ (eqb k priority || eqb k side)
-by-priority k side e = simp (eq-eqb k 1 e)
-
-pub by-side : (k side : ℕ) → (k ≡ 1 → ⊥) → eqb k side ≡ (eqb k priority || eqb k side)
-by-side k side e = simp (ne-eqb k 1 e)
-
-pub ruleset excludes-ways = (by-priority, by-side, needs)
 
 -- ---- mark
 pub bit-on : (on : Bool) → on ≡ true → 1 ≡ oneIf on
@@ -76,31 +67,22 @@ module _ {r : Bool} (n k a b : ℕ) (few : n ≤ mostOperators) (s : r ≡ stran
   pub second-below : b < mostOperators
   second-below = lt-of-lt-of-le (second-operator n (rule k a b) (sym s ∙ not-strange)) few
 
-pub take-strange : {r : Bool} (n k a b : ℕ) (t u : List ℕ) → r ≡ strangeRule n (rule k a b) → r ≡ true → Takes n (rule k a b) t u t u true
-take-strange n k a b t u s e = record {
-  strange = sym e ∙ s;
-  excludes-right = λ f. absurd (false≢true (sym f));
-  excludes-left = λ f. absurd (false≢true (sym f));
-}
+pub take-strange : {r : Bool} (n k a b : ℕ) (t : Tables) → r ≡ strangeRule n (rule k a b) → r ≡ true → Takes n (rule k a b) t t true
+take-strange n k a b t s e = record { strange = sym e ∙ s; marked-in = λ f. absurd (false≢true (sym f)) }
 
-pub take-marked : {r p q : Bool} (n k a b : ℕ) (t u t′ u′ : List ℕ) → r ≡ strangeRule n (rule k a b) → r ≡ false
-    → p ≡ (eqb k priority || eqb k left) → t′ ≡ marked t a b p → q ≡ (eqb k priority || eqb k right) → u′ ≡ marked u b a q
-    → Takes n (rule k a b) t u t′ u′ false
-unfolding marksR marksL
-take-marked n k a b t u t′ u′ s e p m q w = record {
-  strange = sym e ∙ s;
-  excludes-right = λ f. m ∙ ap (marked t a b) p;
-  excludes-left = λ f. w ∙ ap (marked u b a) q;
-}
+pub take-marked : {r : Bool} (n k a b : ℕ) (t u o d t′ u′ o′ d′ : List ℕ) → r ≡ strangeRule n (rule k a b) → r ≡ false
+    → t′ ≡ marked t a b (eqb k left) → u′ ≡ marked u b a (eqb k right) → o′ ≡ marked o a b (eqb k priority) → d′ ≡ marked d b a (eqb k priority)
+    → Takes n (rule k a b) (tables t u o d) (tables t′ u′ o′ d′) false
+unfolding taken marks marksTurned
+take-marked n k a b t u o d t′ u′ o′ d′ s e p q v w = record { strange = sym e ∙ s; marked-in = λ f. rw (p, q, v, w) refl }
 
 pub ruleset take-ways = (first-below, second-below, take-strange, take-marked, needs)
 
 -- ---- read
 -- At a place in the bytes, the rules that remain from there on decide the rest.
-pub record Remaining (n : ℕ) (bytes t u : List ℕ) (i : ℕ) (t′ u′ : List ℕ) : Type 0 where
+pub record Remaining (n : ℕ) (bytes : List ℕ) (before : Tables) (i : ℕ) (now : Tables) : Type 0 where
   pub strange : anyHolds (strangeRule n) (rulesOf bytes) ≡ anyHolds (strangeRule n) (rulesOf (drop i bytes))
-  pub excludes-right : marksAll marksR (rulesOf bytes) t ≡ marksAll marksR (rulesOf (drop i bytes)) t′
-  pub excludes-left : marksAll marksL (rulesOf bytes) u ≡ marksAll marksL (rulesOf (drop i bytes)) u′
+  pub marked-in : takenAll (rulesOf bytes) before ≡ takenAll (rulesOf (drop i bytes)) now
 
 abbrev ruleAt : List ℕ → ℕ → Rule
 ruleAt bytes i = rule (getD bytes i 0) (getD bytes (i + 1) 0) (getD bytes (i + 2) 0)
@@ -121,37 +103,41 @@ rules-none bytes i h = short (drop i bytes) (rw length-drop (omega arith))
     short (x ∷ y ∷ []) l = refl
     short (x ∷ y ∷ z ∷ s) l = absurd (omega arith)
 
-pub remaining-all : (n : ℕ) (bytes t u : List ℕ) → Remaining n bytes t u 0 t u
-remaining-all n bytes t u = record { strange = refl; excludes-right = refl; excludes-left = refl }
+pub remaining-all : (n : ℕ) (bytes : List ℕ) (t : Tables) → Remaining n bytes t 0 t
+remaining-all n bytes t = record { strange = refl; marked-in = refl }
 
-pub remaining-more : {r : Bool} (n : ℕ) (bytes t u t₁ u₁ t₂ u₂ : List ℕ) (i : ℕ) → i + 3 ≤ length bytes → Remaining n bytes t u i t₁ u₁
-    → Takes n (ruleAt bytes i) t₁ u₁ t₂ u₂ r → r ≡ false → Remaining n bytes t u (i + 3) t₂ u₂
-unfolding marksAll
-remaining-more n bytes t u t₁ u₁ t₂ u₂ i h l k e = record {
-  strange = l .strange ∙ ap (anyHolds (strangeRule n)) (rules-more bytes i h) ∙ ap (λ (p : Bool). p || anyHolds (strangeRule n) (rulesOf (drop (i + 3) bytes))) (sym (k .strange) ∙ e);
-  excludes-right =
-      l .excludes-right ∙ ap (λ (rs : List Rule). marksAll marksR rs t₁) (rules-more bytes i h)
-      ∙ ap (marksAll marksR (rulesOf (drop (i + 3) bytes))) (sym (k .excludes-right e));
-  excludes-left =
-      l .excludes-left ∙ ap (λ (rs : List Rule). marksAll marksL rs u₁) (rules-more bytes i h)
-      ∙ ap (marksAll marksL (rulesOf (drop (i + 3) bytes))) (sym (k .excludes-left e));
-}
+-- one rule more
+taken-first : (r : Rule) (rs : List Rule) (t : Tables) → takenAll (r ∷ rs) t ≡ takenAll rs (taken r t)
+unfolding takenAll taken marksAll
+taken-first r rs t = refl
 
-pub remaining-strange : {r : Bool} (n : ℕ) (bytes t u t₁ u₁ t₂ u₂ : List ℕ) (i : ℕ) → i + 3 ≤ length bytes → Remaining n bytes t u i t₁ u₁
-    → Takes n (ruleAt bytes i) t₁ u₁ t₂ u₂ r → r ≡ true → Reads n bytes t u t₂ u₂ true
-remaining-strange n bytes t u t₁ u₁ t₂ u₂ i h l k e = record {
-  strange =
-      sym (l .strange ∙ ap (anyHolds (strangeRule n)) (rules-more bytes i h) ∙ ap (λ (p : Bool). p || anyHolds (strangeRule n) (rulesOf (drop (i + 3) bytes))) (sym (k .strange) ∙ e));
-  excludes-right = λ f. absurd (false≢true (sym f));
-  excludes-left = λ f. absurd (false≢true (sym f));
-}
+taken-none : (t : Tables) → takenAll [] t ≡ t
+unfolding takenAll marksAll
+taken-none t = refl
 
-pub remaining-none : (n : ℕ) (bytes t u t₁ u₁ : List ℕ) (i : ℕ) → length bytes < i + 3 → Remaining n bytes t u i t₁ u₁ → Reads n bytes t u t₁ u₁ false
-unfolding marksAll
-remaining-none n bytes t u t₁ u₁ i h l = record {
+module _ {r : Bool} (n : ℕ) (bytes : List ℕ) (before t₁ t₂ : Tables) (i : ℕ) (h : i + 3 ≤ length bytes) (l : Remaining n bytes before i t₁) (k : Takes n (ruleAt bytes i) t₁ t₂ r) where
+  strange-here : anyHolds (strangeRule n) (rulesOf bytes) ≡ (r || anyHolds (strangeRule n) (rulesOf (drop (i + 3) bytes)))
+  strange-here =
+      l .strange ∙ ap (anyHolds (strangeRule n)) (rules-more bytes i h) ∙ ap (λ (p : Bool). p || anyHolds (strangeRule n) (rulesOf (drop (i + 3) bytes))) (sym (k .strange))
+
+  pub remaining-more : r ≡ false → Remaining n bytes before (i + 3) t₂
+  remaining-more e = record {
+    strange = strange-here ∙ ap (λ (p : Bool). p || anyHolds (strangeRule n) (rulesOf (drop (i + 3) bytes))) e;
+    marked-in =
+        l .marked-in ∙ ap (λ (rs : List Rule). takenAll rs t₁) (rules-more bytes i h) ∙ taken-first (ruleAt bytes i) (rulesOf (drop (i + 3) bytes)) t₁
+        ∙ ap (takenAll (rulesOf (drop (i + 3) bytes))) (sym (k .marked-in e));
+  }
+
+  pub remaining-strange : r ≡ true → Reads n bytes before t₂ true
+  remaining-strange e = record {
+    strange = sym (strange-here ∙ ap (λ (p : Bool). p || anyHolds (strangeRule n) (rulesOf (drop (i + 3) bytes))) e);
+    marked-in = λ f. absurd (false≢true (sym f));
+  }
+
+pub remaining-none : (n : ℕ) (bytes : List ℕ) (before t₁ : Tables) (i : ℕ) → length bytes < i + 3 → Remaining n bytes before i t₁ → Reads n bytes before t₁ false
+remaining-none n bytes before t₁ i h l = record {
   strange = sym (l .strange ∙ ap (anyHolds (strangeRule n)) (rules-none bytes i h));
-  excludes-right = λ f. sym (l .excludes-right ∙ ap (λ (rs : List Rule). marksAll marksR rs t₁) (rules-none bytes i h));
-  excludes-left = λ f. sym (l .excludes-left ∙ ap (λ (rs : List Rule). marksAll marksL rs u₁) (rules-none bytes i h));
+  marked-in = λ f. sym (l .marked-in ∙ ap (λ (rs : List Rule). takenAll rs t₁) (rules-none bytes i h) ∙ taken-none t₁);
 }
 
 pub ruleset read-ways = (remaining-all, remaining-more, remaining-strange, remaining-none, needs)

@@ -4,12 +4,13 @@ use mathlib.Core.Bool.{Bool, true, false, not, _&&_, _||_}
 use mathlib.Core.List.{List}
 use Prim.Native.Nat.{ℕ, _-_, _^_, _<_, _≤_}
 use native.Mathlib.Nat.{lt-of-lt-of-le}
-use borrow.Author.Tests.{lt-ltb}
+use borrow.Author.Tests.{lt-ltb, ltb-true}
 use lib.Bits.{bitAnd, bitOr, or-lt}
-use lib.Dec.{eqb}
+use lib.Dec.{eqb, ltb}
 use lib.ListN.{getD}
 use Rattle.expression.specs.Limits.{mostOperators}
 use Rattle.disambiguation.specs.Verdict.{within}
+use Rattle.disambiguation.proofs.BelowLaws.{and-true}
 use Rattle.sheet.specs.Relation.{bitOf, closesIn, turned}
 use Rattle.sheet.specs.Tests.{noneInBoth, eachInOne, safeFor, totalFor}
 use Rattle.sheet.proofs.Below.{all-same}
@@ -50,6 +51,20 @@ module _ (w n x y : ℕ) (fits : n ≤ w) where
 pub closes-bit : (t : List ℕ) (a b : ℕ) → a < mostOperators → b < mostOperators → closesIn t a b ≡ bitOf (getD t a 0) b
 unfolding closesIn
 closes-bit t a b h k = rw (lt-ltb a mostOperators h, lt-ltb b mostOperators k)
+
+-- no operator is 32 or more
+pub closes-below : (sheet : List ℕ) (a b : ℕ) → closesIn sheet a b ≡ true → (a < mostOperators) × (b < mostOperators)
+unfolding closesIn
+closes-below sheet a b e =
+    let (x, rest) = and-true (ltb a mostOperators) (ltb b mostOperators && bitOf (getD sheet a 0) b) e in
+    (ltb-true a mostOperators x, ltb-true b mostOperators (and-true (ltb b mostOperators) _ rest .0))
+
+pub as-false : (p : Bool) → (p ≡ true → ⊥) → p ≡ false
+as-false true h = absurd (h refl)
+as-false false h = refl
+
+pub closes-beyond : (sheet : List ℕ) (a b : ℕ) → ((a < mostOperators) × (b < mostOperators) → ⊥) → closesIn sheet a b ≡ false
+closes-beyond sheet a b h = as-false (closesIn sheet a b) (λ e. h (closes-below sheet a b e))
 
 -- The tests of a relation, of the words of one operator or two.
 module _ (n : ℕ) (t u : List ℕ) (few : n ≤ mostOperators) (a : ℕ) (h : a < n) where

@@ -8,6 +8,7 @@ use expression::limits;
 use expression::refusal;
 use layout::SHEET_WORDS;
 
+mod chains;
 pub mod layout;
 mod rules;
 mod verdict;
@@ -59,7 +60,12 @@ pub fn load(sheet: &mut [u32; SHEET_WORDS], n: u32, rules: &[u8]) -> u8
     }
     let mut made = [0u32; SHEET_WORDS];
     let mut yields = [0u32; SHEET_WORDS];
-    let strange = rules::read(n as u8, rules, &mut made, &mut yields);
+    let mut over = [0u32; SHEET_WORDS];
+    let mut under = [0u32; SHEET_WORDS];
+    let strange =
+        rules::read(n as u8, rules, &mut made, &mut yields, &mut over, &mut under);
+    chains::add(n as usize, &mut over, &mut made);
+    chains::add(n as usize, &mut under, &mut yields);
     let number = verdict::rules_number(strange, n as usize, &made, &yields);
     if number != refusal::ACCEPTED {
         return number;

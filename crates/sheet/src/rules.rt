@@ -1,13 +1,12 @@
-// Rules in bytes, marked in two tables: bit b of word a of `closes` for R(a,b), of `yields` for L(b,a). Both are as long as a sheet.
+// Rules in bytes, marked as written in four tables, each as long as a sheet: bit b of word a of `closes` for a left b, of `yields` for b right a, of `over` for a over b,
+// of `under` for b over a.
 ghost use mathlib.Core.Path.{_≡_};
-ghost use mathlib.Core.Bool.{_||_};
 ghost use Prim.Native.Nat.{_≤_, _<_};
-ghost use lib.Dec.{eqb};
 ghost use Rattle.expression.specs.Lists.{oneIf};
 ghost use Rattle.expression.specs.Limits.{mostOperators};
-ghost use Rattle.disambiguation.specs.Rules.{rule, priority};
+ghost use Rattle.disambiguation.specs.Rules.{rule};
 ghost use Rattle.disambiguation.specs.SheetChecks.{strangeRule};
-ghost use Rattle.sheet.specs.Marking.{marked, Takes, Reads};
+ghost use Rattle.sheet.specs.Marking.{marked, tables, Takes, Reads};
 use crate::layout::SHEET_WORDS;
 use expression::limits;
 
@@ -37,16 +36,6 @@ fn is_strange(n: u8, kind: u8, first: u8, second: u8) -> bool
     false
 }
 
-// A rule of the kind excludes the pattern of the side: priority excludes both.
-fn excludes(kind: u8, side: u8) -> bool
-    ensures { λ r. ⌜ r ≡ (eqb kind priority || eqb kind side) ⌝ }
-{
-    if kind == PRIORITY {
-        return true;
-    }
-    kind == side
-}
-
 // 1 where on, else 0.
 fn bit(on: bool) -> u32
     ensures { λ r. ⌜ r ≡ oneIf on ⌝ }
@@ -74,15 +63,20 @@ fn take_rule(
     second: u8,
     closes: &mut [u32; SHEET_WORDS],
     yields: &mut [u32; SHEET_WORDS],
+    over: &mut [u32; SHEET_WORDS],
+    under: &mut [u32; SHEET_WORDS],
 ) -> bool
     requires { ⌜ n ≤ mostOperators ⌝ }
-    ensures { λ r. ⌜ Takes n (rule kind first second) (now (closes .entry)) (now (yields .entry)) (now (closes .exit)) (now (yields .exit)) r ⌝ }
+    ensures { λ r. ⌜ Takes n (rule kind first second) (tables (now (closes .entry)) (now (yields .entry)) (now (over .entry)) (now (under .entry)))
+        (tables (now (closes .exit)) (now (yields .exit)) (now (over .exit)) (now (under .exit))) r ⌝ }
 {
     if is_strange(n, kind, first, second) {
         return true;
     }
-    mark(closes, first, second, excludes(kind, LEFT));
-    mark(yields, second, first, excludes(kind, RIGHT));
+    mark(closes, first, second, kind == LEFT);
+    mark(yields, second, first, kind == RIGHT);
+    mark(over, first, second, kind == PRIORITY);
+    mark(under, second, first, kind == PRIORITY);
     false
 }
 
@@ -92,13 +86,16 @@ pub fn read(
     rules: &[u8],
     closes: &mut [u32; SHEET_WORDS],
     yields: &mut [u32; SHEET_WORDS],
+    over: &mut [u32; SHEET_WORDS],
+    under: &mut [u32; SHEET_WORDS],
 ) -> bool
     requires { ⌜ n ≤ mostOperators ⌝ }
-    ensures { λ r. ⌜ Reads n (now (rules .entry)) (now (closes .entry)) (now (yields .entry)) (now (closes .exit)) (now (yields .exit)) r ⌝ }
+    ensures { λ r. ⌜ Reads n (now (rules .entry)) (tables (now (closes .entry)) (now (yields .entry)) (now (over .entry)) (now (under .entry)))
+        (tables (now (closes .exit)) (now (yields .exit)) (now (over .exit)) (now (under .exit))) r ⌝ }
 {
     let mut i = 0;
     while i + limits::BYTES_OF_RULE <= rules.len() {
-        if take_rule(n, rules[i], rules[i + 1], rules[i + 2], closes, yields) {
+        if take_rule(n, rules[i], rules[i + 1], rules[i + 2], closes, yields, over, under) {
             return true;
         }
         i += limits::BYTES_OF_RULE;

@@ -5,6 +5,7 @@ ghost use Rattle.expression.specs.Limits.{mostOperators};
 ghost use Rattle.disambiguation.specs.Verdict.{within};
 ghost use Rattle.sheet.specs.Relation.{bitOf};
 ghost use Rattle.sheet.specs.Tests.{noneInBoth, eachInOne};
+ghost use Rattle.sheet.specs.Chaining.{joined};
 
 // The set of all below n.
 fn mask(n: usize) -> u32
@@ -44,4 +45,15 @@ pub fn inside(n: usize, x: u32, y: u32) -> bool
     ensures { λ r. ⌜ r ≡ within n (bitOf x) (bitOf y) ⌝ }
 {
     x & !y & mask(n) == 0
+}
+
+// The first set, with the second put in if c is in the first.
+pub fn joined(x: u32, c: usize, y: u32) -> u32
+    requires { ⌜ c < mostOperators ⌝ }
+    ensures { λ r. ⌜ r ≡ joined x c y ⌝ }
+{
+    if has(x, c) {
+        return x | y;
+    }
+    x
 }

@@ -12,6 +12,8 @@ load-spec =
     (λ c. search load-ways)
     (λ c κs. search load-ways)
     (λ c κs. search load-ways)
+    (λ c κs. search load-ways)
+    (λ c κs. search load-ways)
     (λ c. search load-ways)
     (λ c. search load-ways)
     (λ c. search load-ways))

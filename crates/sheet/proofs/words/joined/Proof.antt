@@ -1,0 +1,12 @@
+-- `sheet::words::joined` meets its contract. Assumes nothing.
+use Rattle.sheet.proofs.ChainWays.{joined-ways}
+use Rattle.sheet.proofs.words.joined.Statement.{statement}
+use Rattle.sheet.proofs.words.joined.Tie as tie
+
+pub joined-spec : {M : Type 1} → statement M
+joined-spec =
+    tie.close
+    (tie.spec
+    (λ c κs. search joined-ways)
+    (λ c. search joined-ways)
+    (λ c. search joined-ways))
