@@ -1,4 +1,4 @@
-//! Loading a sheet: two tables of bit rows, and the tests of them a word at a time.
+//! Loading a sheet: tables of bit rows, priority chained, and the tests of them a word at a time.
 
 pub const OPENING: u8 = 0x20;
 pub const CLOSING: u8 = 0x21;
@@ -49,16 +49,24 @@ pub fn load(n: u8, rules: &[u8]) -> Result<Sheet, u8> {
     if rules.len() % 3 != 0 {
         return Err(2);
     }
-    let mut sheet = Sheet { n, ..Sheet::fresh() };
+    // By kind: bit b of row a for a rule of a and b, and bit a of row b.
+    let (mut ahead, mut back) = ([[0u32; 32]; 4], [[0u32; 32]; 4]);
     let mut strange = false;
     for rule in rules.chunks_exact(3) {
         let (kind, a, b) = (rule[0], rule[1], rule[2]);
         strange |= kind.wrapping_sub(1) > 2 || a >= n || b >= n;
-        sheet.closes[usize::from(a & 31)] |= u32::from(kind != 3) << (b & 31);
-        sheet.open[usize::from(b & 31)] |= u32::from(kind != 2) << (a & 31);
+        ahead[usize::from(kind & 3)][usize::from(a & 31)] |= 1 << (b & 31);
+        back[usize::from(kind & 3)][usize::from(b & 31)] |= 1 << (a & 31);
     }
     if strange {
         return Err(3);
+    }
+    chain(&mut ahead[1][..usize::from(n)]);
+    chain(&mut back[1][..usize::from(n)]);
+    let mut sheet = Sheet { n, ..Sheet::fresh() };
+    for a in 0..32 {
+        sheet.closes[a] = ahead[1][a] | ahead[2][a];
+        sheet.open[a] = back[1][a] | back[3][a];
     }
     let all = ((1u64 << n) - 1) as u32;
     let (closes, open) = (&sheet.closes[..usize::from(n)], &sheet.open[..usize::from(n)]);
@@ -76,6 +84,16 @@ pub fn load(n: u8, rules: &[u8]) -> Result<Sheet, u8> {
     }
     sheet.class[..usize::from(n)].fill(ASKS);
     Ok(sheet)
+}
+
+/// Where a row has k, it gets all that k's row has.
+fn chain(rows: &mut [u32]) {
+    for k in 0..rows.len() {
+        let of_k = rows[k];
+        for row in rows.iter_mut() {
+            *row |= of_k & (*row >> k & 1).wrapping_neg();
+        }
+    }
 }
 
 /// If a closes before b, b's row lies within a's, else a's within b's.

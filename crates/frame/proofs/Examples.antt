@@ -16,7 +16,7 @@ use Rattle.disambiguation.specs.Verdict.{safe, total, within, level}
 use Rattle.sheet.specs.Layout.{operatorsOf}
 use Rattle.sheet.specs.Relation.{bitOf, closesIn}
 use Rattle.sheet.specs.Marking.{marked, marks, marksAll}
-use Rattle.sheet.specs.Chaining.{joined, changed, passed, chained, added}
+use Rattle.sheet.specs.Chaining.{changed, added, joined, passed, chained, related}
 use Rattle.sheet.specs.Loading.{sheetOf}
 use Rattle.parser.specs.Build.{built}
 use Rattle.places.specs.Store.{held, imageOf, stored}
@@ -62,7 +62,7 @@ pub replies-of-listing :
     × (lineReply (panelAfterLines (third ∷ second ∷ first ∷ [])) fourth ≡ textOf (empty ∷ []))
     × (lineReply (panelAfterLines (fourth ∷ third ∷ second ∷ first ∷ [])) fifth ≡ textOf (accepted ∷ []))
     × (lineReply (panelAfterLines (fifth ∷ fourth ∷ third ∷ second ∷ first ∷ [])) third ≡ textOf (accepted ∷ 0x01 ∷ 0x00 ∷ 0x80 ∷ 0x81 ∷ 0x82 ∷ []))
-unfolding panelAfterLines lineAfter lineReply lineBytes lineCall callOf room bytesOf allDigits pairBytes isDigit digitOf byteOf textOf characterOf loadNumber putRowNumber dropNumber fetchRecordNumber sheetAfter placesAfterLoad placesAfterRow placesAfterDrop usesBeyond rebuiltTo store.fresh held imageOf stored built made parse sheetOf marksAll marks marked joined changed passed chained added operatorsOf closesIn bitOf safe total within level allBelow L R recordNumber treeOf isRow class
+unfolding panelAfterLines lineAfter lineReply lineBytes lineCall callOf room bytesOf allDigits pairBytes isDigit digitOf byteOf textOf characterOf loadNumber putRowNumber dropNumber fetchRecordNumber sheetAfter placesAfterLoad placesAfterRow placesAfterDrop usesBeyond rebuiltTo store.fresh held imageOf stored built made parse sheetOf marksAll marks marked changed added joined passed chained related operatorsOf closesIn bitOf safe total within level allBelow L R recordNumber treeOf isRow class
 replies-of-listing = (refl, refl, refl, refl, refl, refl)
 
 -- ---- edges

@@ -1,15 +1,19 @@
--- What each way through the chaining of a table gives, from what is known on it. Assumes nothing.
+-- What each way through the making of a relation gives, from what is known on it. Assumes nothing.
 use mathlib.Core.Path.{_≡_, refl, sym, ap, ap₂, _∙_}
 use mathlib.Core.Bool.{Bool, true, false}
 use mathlib.Core.List.{List}
-use Prim.Native.Nat.{ℕ, suc, _+_, _<_, _≤_}
+use Prim.Native.Nat.{ℕ, suc, _+_, _*_, _<_, _≤_}
 use native.Mathlib.Nat.{le-antisymm}
 use native.Mathlib.Numerals.{add-one}
+use native.Mathlib.Omega.{arith}
 use borrow.Author.Needs.{needs}
 use lib.Bits.{bitOr}
 use lib.ListN.{getD, set}
+use Rattle.expression.specs.Limits.{mostOperators}
+use Rattle.disambiguation.specs.Rules.{priority, right}
 use Rattle.sheet.specs.Relation.{bitOf}
-use Rattle.sheet.specs.Chaining.{joined, changed, passed, chained, added}
+use Rattle.sheet.specs.Marking.{wordOf}
+use Rattle.sheet.specs.Chaining.{changed, added, joined, passed, chained, related}
 
 -- ---- joined
 module _ {b : Bool} (x c y : ℕ) (is : b ≡ bitOf x c) where
@@ -59,23 +63,27 @@ module _ (n : ℕ) (t : List ℕ) where
 
 pub ruleset chain-ways = (chaining-starts, chaining-more, chaining-ends, needs)
 
--- ---- put_in
-module _ (from t : List ℕ) where
-  pub adding-starts : t ≡ added 0 from t
+-- ---- add
+module _ (kind : ℕ) (marks t : List ℕ) where
+  pub adding-starts : t ≡ added 0 kind marks t
   unfolding added changed
   adding-starts = refl
 
-  pub adding-more : (a : ℕ) (u : List ℕ) → u ≡ added a from t → set u a (bitOr (getD u a 0) (getD from a 0)) ≡ added (a + 1) from t
+  pub adding-more : {at : ℕ} (a : ℕ) (u : List ℕ) → u ≡ added a kind marks t → at ≡ wordOf kind a → set u a (bitOr (getD u a 0) (getD marks at 0)) ≡ added (a + 1) kind marks t
   unfolding added changed
-  adding-more a u p = rw (add-one, p) refl
+  adding-more a u p e = rw (add-one, e, p) refl
 
-  pub adding-ends : (n a : ℕ) (u : List ℕ) → u ≡ added a from t → a ≤ n → n ≤ a → u ≡ added n from t
-  adding-ends n a u p l h = p ∙ ap (λ x. added x from t) (le-antisymm l h)
+  pub adding-ends : (n a : ℕ) (u : List ℕ) → u ≡ added a kind marks t → a ≤ n → n ≤ a → u ≡ added n kind marks t
+  adding-ends n a u p l h = p ∙ ap (λ x. added x kind marks t) (le-antisymm l h)
 
-pub ruleset put-in-ways = (adding-starts, adding-more, adding-ends, needs)
+pub marked-inside : {at : ℕ} (n kind a : ℕ) → n ≤ mostOperators → kind ≤ right → a < n → at ≡ wordOf kind a → at < suc right * mostOperators
+marked-inside n kind a few known h e = omega arith
 
--- ---- add
-pub both-parts : (n : ℕ) (t u into v : List ℕ) → u ≡ chained n n t → v ≡ added n u into → v ≡ added n (chained n n t) into
-both-parts n t u into v p q = q ∙ ap (λ x. added n x into) p
+pub ruleset add-ways = (adding-starts, adding-more, adding-ends, marked-inside, needs)
 
-pub ruleset add-ways = (both-parts, needs)
+-- ---- relate
+pub all-parts : (n side : ℕ) (marks t u v w : List ℕ) → u ≡ added n priority marks t → v ≡ chained n n u → w ≡ added n side marks v → w ≡ related n side marks t
+unfolding related
+all-parts n side marks t u v w p q r = r ∙ ap (added n side marks) (q ∙ ap (chained n n) p)
+
+pub ruleset relate-ways = (all-parts, needs)

@@ -14,7 +14,7 @@ use Rattle.expression.specs.Limits.{mostOperators, mostRuleBytes, bytesOfRule}
 use Rattle.expression.specs.Refusal.{accepted, oversize, torn, stranger}
 use Rattle.expression.specs.Token.{Operators, operators, class}
 use Rattle.expression.specs.Tree.{Tree, Over}
-use Rattle.disambiguation.specs.Rules.{Rule, priority, left, L, R}
+use Rattle.disambiguation.specs.Rules.{Rule, left, L, R}
 use Rattle.disambiguation.specs.ExactlyOne.{EveryRowHasExactlyOne}
 use Rattle.disambiguation.proofs.VerdictDecides.{accepted-exactly-if}
 use Rattle.disambiguation.proofs.Accepted.{accepted-passes, opposite, count-by-closes}
@@ -24,14 +24,13 @@ use Rattle.disambiguation.specs.Verdict.{safe, total, level, verdict}
 use Rattle.disambiguation.specs.SheetChecks.{rulesOf, strangeRule, sheetNumber}
 use Rattle.sheet.specs.Layout.{countWord, sheetWords, operatorsOf, fresh}
 use Rattle.sheet.specs.Relation.{bitOf, closesIn}
-use Rattle.sheet.specs.Marking.{marks, marksAll}
-use Rattle.sheet.specs.Chaining.{chained, added}
+use Rattle.sheet.specs.Marking.{unmarked, marks, marksAll}
+use Rattle.sheet.specs.Chaining.{related}
 use Rattle.sheet.specs.Loading.{sheetOf}
 use Rattle.sheet.specs.InForce.{InForce}
-use Rattle.sheet.proofs.Marks.{closes-blank, marked-length}
-use Rattle.sheet.proofs.Chaining.{length-added, chained-is-R}
+use Rattle.sheet.proofs.Chaining.{length-related, related-is-R}
 use Rattle.sheet.proofs.Orderly.{R-below}
-use Rattle.sheet.proofs.WordTests.{closes-bit, closes-beyond, as-false}
+use Rattle.sheet.proofs.WordTests.{closes-bit, closes-beyond, closes-blank, as-false}
 pub use Rattle.sheet.proofs.WordTests.{closes-below}
 
 closes-fresh : (a b : ℕ) → closesIn fresh a b ≡ false
@@ -41,10 +40,10 @@ closes-fresh a b = as-false (closesIn fresh a b) (λ e. let k = closes-below fre
 module _ (n : ℕ) (few : n ≤ mostOperators) (rules : List Rule) where
   -- the words of its relation
   abbrev relationOf : List ℕ
-  relationOf = added n (chained n n (marksAll (marks priority) rules fresh)) (marksAll (marks left) rules fresh)
+  relationOf = related n left (marksAll marks rules unmarked) fresh
 
   long : length relationOf ≡ sheetWords
-  long = length-added n few _ _ ∙ marked-length left rules
+  long = length-related n few left (marksAll marks rules unmarked) fresh
 
   -- its operators are n, where that fits a byte
   pub operators-made : operatorsOf (sheetOf n rules) ≡ operators n
@@ -58,7 +57,7 @@ module _ (n : ℕ) (few : n ≤ mostOperators) (rules : List Rule) where
       closes-bit (set relationOf countWord n) a b ha hb
       ∙ ap (λ (w : ℕ). bitOf w b) (getD-set-other relationOf countWord a n 0 (λ e. omega arith))
       ∙ sym (closes-bit relationOf a b ha hb)
-      ∙ chained-is-R n few rules plain a b ha hb
+      ∙ related-is-R n few rules plain a b ha hb
 
 -- what number 0 says of n and the bytes
 pub record Accepted (n : ℕ) (bytes : List ℕ) : Type 0 where

@@ -1,8 +1,8 @@
 pub mod Below
 pub mod Bits
 pub mod WordTests
-pub mod Marks
 pub mod Orderly
+pub mod Marks
 pub mod Through
 pub mod Chaining
 pub mod ChainWays

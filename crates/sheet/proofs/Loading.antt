@@ -15,14 +15,14 @@ use Rattle.expression.specs.Lists.{anyHolds}
 use Rattle.expression.specs.Limits.{mostOperators, mostRuleBytes, bytesOfRule}
 use Rattle.expression.specs.Refusal.{accepted, oversize, torn, stranger}
 use Rattle.expression.specs.Token.{operators}
-use Rattle.disambiguation.specs.Rules.{priority, left, right, L, R}
+use Rattle.disambiguation.specs.Rules.{left, right, L, R}
 use Rattle.disambiguation.specs.SheetChecks.{rulesOf, strangeRule, sheetNumber}
 use Rattle.sheet.specs.Layout.{countWord, fresh}
 use Rattle.sheet.specs.Relation.{closesIn, turned}
-use Rattle.sheet.specs.Marking.{marks, marksTurned, marksAll, Tables, tables, takenAll, Reads}
-use Rattle.sheet.specs.Chaining.{chained, added}
+use Rattle.sheet.specs.Marking.{unmarked, Reads}
+use Rattle.sheet.specs.Chaining.{related}
 use Rattle.sheet.specs.Loading.{sizeNumber, rulesNumber, sheetOf, Loads}
-use Rattle.sheet.proofs.Chaining.{chained-is-R, chained-is-L}
+use Rattle.sheet.proofs.Chaining.{related-is-R, related-is-L}
 use Rattle.sheet.proofs.Verdicts.{number-same}
 
 -- ---- size_number
@@ -87,34 +87,25 @@ module _ (n : ℕ) (bytes : List ℕ) where
   pub load-size : {size : ℕ} (before : List ℕ) → size ≡ sizeNumber n (length bytes) → (size ≡ 0 → ⊥) → Loads before n bytes size before
   load-size before e h = refused before (e ∙ by-size (λ z. h (e ∙ z))) h
 
--- The rules read, from tables with no mark; then the chains put in.
-abbrev pub blank : Tables
-blank = tables fresh fresh fresh fresh
-
-module _ (n : ℕ) (bytes : List ℕ) (read : Tables) {strange : Bool} (few : n ≤ mostOperators) (reads : Reads n bytes blank read strange) where
+-- The rules read, from tables with no mark, and the relations made of them.
+module _ (n : ℕ) (bytes ahead back : List ℕ) {strange : Bool} (few : n ≤ mostOperators) (reads : Reads n bytes unmarked unmarked ahead back strange) where
   abbrev relation : List ℕ
-  relation = added n (chained n n (read .over)) (read .closes)
+  relation = related n left ahead fresh
 
   abbrev turnedRound : List ℕ
-  turnedRound = added n (chained n n (read .under)) (read .yields)
+  turnedRound = related n right back fresh
 
   module _ (z : strange ≡ false) where
     plain : anyHolds (strangeRule n) (rulesOf bytes) ≡ false
     plain = sym (reads .strange) ∙ z
 
-    relation-made : relation ≡ added n (chained n n (marksAll (marks priority) (rulesOf bytes) fresh)) (marksAll (marks left) (rulesOf bytes) fresh)
-    unfolding takenAll
-    relation-made = ap (λ t. added n (chained n n (t .over)) (t .closes)) (reads .marked-in z)
-
-    turned-made : turnedRound ≡ added n (chained n n (marksAll (marksTurned priority) (rulesOf bytes) fresh)) (marksAll (marksTurned right) (rulesOf bytes) fresh)
-    unfolding takenAll
-    turned-made = ap (λ t. added n (chained n n (t .under)) (t .yields)) (reads .marked-in z)
-
     relation-is : (a b : ℕ) → a < n → b < n → closesIn relation a b ≡ R (rulesOf bytes) a b
-    relation-is a b ha hb = ap (λ (w : List ℕ). closesIn w a b) relation-made ∙ chained-is-R n few (rulesOf bytes) plain a b (lt-of-lt-of-le ha few) (lt-of-lt-of-le hb few)
+    relation-is a b ha hb =
+        ap (λ (w : List ℕ). closesIn (related n left w fresh) a b) (reads .marks-ahead z) ∙ related-is-R n few (rulesOf bytes) plain a b (lt-of-lt-of-le ha few) (lt-of-lt-of-le hb few)
 
     turned-is : (a b : ℕ) → a < n → b < n → turned (closesIn turnedRound) a b ≡ L (rulesOf bytes) a b
-    turned-is a b ha hb = ap (λ (w : List ℕ). closesIn w b a) turned-made ∙ chained-is-L n few (rulesOf bytes) plain b a hb ha
+    turned-is a b ha hb =
+        ap (λ (w : List ℕ). closesIn (related n right w fresh) b a) (reads .marks-back z) ∙ related-is-L n few (rulesOf bytes) plain b a (lt-of-lt-of-le hb few) (lt-of-lt-of-le ha few)
 
   number-is : rulesNumber strange (operators n) (turned (closesIn turnedRound)) (closesIn relation)
       ≡ rulesNumber (anyHolds (strangeRule n) (rulesOf bytes)) (operators n) (L (rulesOf bytes)) (R (rulesOf bytes))
@@ -134,30 +125,30 @@ module _ (n : ℕ) (bytes : List ℕ) (read : Tables) {strange : Bool} (few : n 
       go true rest z k = absurd (omega arith)
       go false rest z k = z
 
-module _ {size number : ℕ} {strange : Bool} (before : List ℕ) (n : ℕ) (bytes t u o d t′ u′ : List ℕ) (size-is : size ≡ sizeNumber n (length bytes)) (small : size ≡ 0)
-    (reads : Reads n bytes blank (tables t u o d) strange) (made : t′ ≡ added n (chained n n o) t) (yields : u′ ≡ added n (chained n n d) u)
-    (number-of : number ≡ rulesNumber strange (operators n) (turned (closesIn u′)) (closesIn t′)) where
+module _ {size number : ℕ} {strange : Bool} (before : List ℕ) (n : ℕ) (bytes ahead back t u : List ℕ) (size-is : size ≡ sizeNumber n (length bytes)) (small : size ≡ 0)
+    (reads : Reads n bytes unmarked unmarked ahead back strange) (made : t ≡ related n left ahead fresh) (yields : u ≡ related n right back fresh)
+    (number-of : number ≡ rulesNumber strange (operators n) (turned (closesIn u)) (closesIn t)) where
   few-here : n ≤ mostOperators
   few-here = few-operators n (length bytes) size-is small
 
-  by-tables : number ≡ rulesNumber strange (operators n) (turned (closesIn (added n (chained n n d) u))) (closesIn (added n (chained n n o) t))
+  by-tables : number ≡ rulesNumber strange (operators n) (turned (closesIn (related n right back fresh))) (closesIn (related n left ahead fresh))
   by-tables = number-of ∙ ap₂ (λ v w. rulesNumber strange (operators n) (turned (closesIn v)) (closesIn w)) yields made
 
   sheet-number : number ≡ sheetNumber n bytes
-  sheet-number = by-tables ∙ number-is n bytes (tables t u o d) few-here reads ∙ by-rules n bytes (sym size-is ∙ small)
+  sheet-number = by-tables ∙ number-is n bytes ahead back few-here reads ∙ by-rules n bytes (sym size-is ∙ small)
 
   pub load-rules : (number ≡ 0 → ⊥) → Loads before n bytes number before
   load-rules h = refused n bytes before sheet-number h
 
-  pub load-accepted : number ≡ 0 → Loads before n bytes 0 (set t′ countWord n)
+  pub load-accepted : number ≡ 0 → Loads before n bytes 0 (set t countWord n)
   unfolding sheetOf
   load-accepted z =
-      let plain : strange ≡ false = none-strange n bytes (tables t u o d) few-here reads (sym by-tables ∙ z) in
+      let plain : strange ≡ false = none-strange n bytes ahead back few-here reads (sym by-tables ∙ z) in
       record {
         number = sym z ∙ sheet-number;
         stands =
             rw (eq-eqb (sheetNumber n bytes) accepted (sym sheet-number ∙ z))
-            (ap (λ (w : List ℕ). set w countWord n) (made ∙ relation-made n bytes (tables t u o d) few-here reads plain));
+            (ap (λ (w : List ℕ). set w countWord n) (made ∙ ap (λ (w : List ℕ). related n left w fresh) (reads .marks-ahead plain)));
       }
 
 pub ruleset load-ways = (few-operators, few-byte, load-size, load-rules, load-accepted, needs)

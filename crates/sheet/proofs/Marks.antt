@@ -1,28 +1,29 @@
--- What marking rules in a table makes of its relation: the pairs that the rules of a kind name. Assumes nothing.
+-- What marking rules in order in a table makes of it: the pairs that the rules of each kind name. Assumes nothing.
 use mathlib.Core.Path.{_≡_, refl, sym, ap, _∙_}
-use mathlib.Core.Bool.{Bool, true, false, _&&_, _||_, or-false, or-assoc, and-comm}
+use mathlib.Core.Bool.{Bool, true, false, _&&_, _||_, or-false, or-assoc, and-assoc, and-comm}
 use mathlib.Core.List.{List, [], _∷_}
-use Prim.Native.Nat.{ℕ, _^_, _<_}
+use Prim.Native.Nat.{ℕ, suc, _*_, _^_, _<_, _≤_}
 use native.Mathlib.Decide.{ℕ-discrete}
+use native.Mathlib.Nat.{lt-of-lt-of-le}
 use native.Mathlib.Omega.{arith}
 use borrow.Author.Tests.{eq-eqb, ne-eqb}
 use lib.Bits.{bitOr}
 use lib.Dec.{eqb}
-use lib.ListN.{getD, set, length, length-set, getD-replicate}
+use lib.ListN.{getD, set, length, length-set, length-replicate, getD-replicate}
 use lib.Seq.{getD-set-same, getD-set-other}
 use Rattle.expression.specs.Lists.{anyHolds}
 use Rattle.expression.specs.Limits.{mostOperators}
-use Rattle.disambiguation.specs.Rules.{Rule, says, written}
-use Rattle.sheet.specs.Layout.{sheetWords, fresh}
-use Rattle.sheet.specs.Relation.{bitOf, closesIn}
-use Rattle.sheet.specs.Marking.{marked, marks, marksTurned, marksAll}
+use Rattle.expression.proofs.Tests.{both-false}
+use Rattle.disambiguation.specs.Rules.{Rule, right, says, written}
+use Rattle.disambiguation.specs.SheetChecks.{strangeRule}
+use Rattle.sheet.specs.Relation.{bitOf}
+use Rattle.sheet.specs.Marking.{wordOf, unmarked, marked, marks, marksTurned, marksAll}
 use Rattle.sheet.proofs.Bits.{bit-or, bit-pow, bit-zero}
-use Rattle.sheet.proofs.WordTests.{closes-bit}
+use Rattle.sheet.proofs.Orderly.{first-operator, second-operator}
 
-length-marked : (t : List ℕ) (a b : ℕ) (on : Bool) → length (marked t a b on) ≡ length t
-unfolding marked
-length-marked t a b true = length-set t a (bitOr (getD t a 0) (2 ^ b))
-length-marked t a b false = refl
+-- as long as a table of marks
+abbrev Long : List ℕ → Type 0
+Long t = length t ≡ suc right * mostOperators
 
 -- the bits of a word after a mark
 bit-marked : (t : List ℕ) (a b x y : ℕ) → x < length t → bitOf (getD (set t a (bitOr (getD t a 0) (2 ^ b))) x 0) y ≡ (bitOf (getD t x 0) y || (eqb a x && eqb b y))
@@ -39,68 +40,58 @@ bit-marked t a b x y h =
           ∙ sym (or-false (bitOf (getD t x 0) y)) ∙ ap (λ (p : Bool). bitOf (getD t x 0) y || (p && eqb b y)) (sym (ne-eqb a x ne))
     ]
 
--- One mark in a table as long as a sheet.
-closes-marked : (t : List ℕ) (a b : ℕ) (on : Bool) (x y : ℕ) → length t ≡ sheetWords → x < mostOperators → y < mostOperators
-    → closesIn (marked t a b on) x y ≡ (closesIn t x y || (on && (eqb a x && eqb b y)))
-unfolding marked
-closes-marked t a b true x y long hx hy =
-    closes-bit (set t a (bitOr (getD t a 0) (2 ^ b))) x y hx hy ∙ bit-marked t a b x y (omega arith)
-    ∙ ap (λ (p : Bool). p || (eqb a x && eqb b y)) (sym (closes-bit t x y hx hy))
-closes-marked t a b false x y long hx hy = sym (or-false (closesIn t x y))
+-- words of two kinds or of two operators stand apart
+same-word : (k a l x : ℕ) → a < mostOperators → x < mostOperators → eqb (wordOf k a) (wordOf l x) ≡ (eqb k l && eqb a x)
+same-word k a l x ha hx = go (ℕ-discrete k l) (ℕ-discrete a x)
+  where
+    go : Dec (k ≡ l) → Dec (a ≡ x) → eqb (wordOf k a) (wordOf l x) ≡ (eqb k l && eqb a x)
+    go (yes e) (yes f) = eq-eqb (wordOf k a) (wordOf l x) (omega arith) ∙ sym (simp (eq-eqb k l e, eq-eqb a x f))
+    go (yes e) (no f) = ne-eqb (wordOf k a) (wordOf l x) (λ z. f (omega arith)) ∙ sym (simp (eq-eqb k l e, ne-eqb a x f))
+    go (no e) f = ne-eqb (wordOf k a) (wordOf l x) (λ z. e (omega arith)) ∙ sym (simp (ne-eqb k l e))
 
-closes-marks : (kind : ℕ) (r : Rule) (t : List ℕ) (x y : ℕ) → length t ≡ sheetWords → x < mostOperators → y < mostOperators → closesIn (marks kind r t) x y ≡ (closesIn t x y || says kind x y r)
-unfolding marks
-closes-marks kind r t x y long hx hy = closes-marked t (r .first) (r .second) _ x y long hx hy
+-- One mark.
+module _ (t : List ℕ) (k a b : ℕ) where
+  length-marked : length (marked t k a b) ≡ length t
+  unfolding marked
+  length-marked = length-set t (wordOf k a) (bitOr (getD t (wordOf k a) 0) (2 ^ b))
 
-closes-marksTurned : (kind : ℕ) (r : Rule) (t : List ℕ) (x y : ℕ) → length t ≡ sheetWords → x < mostOperators → y < mostOperators
-    → closesIn (marksTurned kind r t) x y ≡ (closesIn t x y || says kind y x r)
-unfolding marksTurned
-closes-marksTurned kind r t x y long hx hy =
-    closes-marked t (r .second) (r .first) _ x y long hx hy
-    ∙ ap (λ (p : Bool). closesIn t x y || (eqb (r .kind) kind && p)) (and-comm (eqb (r .second) x) (eqb (r .first) y))
+  marked-pair : Long t → a < mostOperators → (l x y : ℕ) → l ≤ right → x < mostOperators
+      → bitOf (getD (marked t k a b) (wordOf l x) 0) y ≡ (bitOf (getD t (wordOf l x) 0) y || (eqb k l && (eqb a x && eqb b y)))
+  unfolding marked
+  marked-pair long ha l x y hl hx =
+      bit-marked t (wordOf k a) b (wordOf l x) y (omega arith)
+      ∙ ap (λ (p : Bool). bitOf (getD t (wordOf l x) 0) y || p) (ap (λ (p : Bool). p && eqb b y) (same-word k a l x ha hx) ∙ and-assoc (eqb k l) (eqb a x) (eqb b y))
 
--- All rules, where a mark of one adds the pairs that the rule gives.
-module _ (marks : Rule → List ℕ → List ℕ) (gives : ℕ → ℕ → Rule → Bool) (kept : (r : Rule) (t : List ℕ) → length (marks r t) ≡ length t)
-    (adds : (r : Rule) (t : List ℕ) (x y : ℕ) → length t ≡ sheetWords → x < mostOperators → y < mostOperators → closesIn (marks r t) x y ≡ (closesIn t x y || gives x y r)) where
-  closes-marksAll : (rs : List Rule) (t : List ℕ) (x y : ℕ) → length t ≡ sheetWords → x < mostOperators → y < mostOperators
-      → closesIn (marksAll marks rs t) x y ≡ (closesIn t x y || anyHolds (gives x y) rs)
+-- All rules, none of them strange, where a mark of one adds the pairs that the rule names.
+module _ (n : ℕ) (few : n ≤ mostOperators) (mark : Rule → List ℕ → List ℕ) (names : ℕ → ℕ → ℕ → Rule → Bool) (kept : (r : Rule) (t : List ℕ) → length (mark r t) ≡ length t)
+    (adds : (r : Rule) (t : List ℕ) (l x y : ℕ) → Long t → strangeRule n r ≡ false → l ≤ right → x < mostOperators
+    → bitOf (getD (mark r t) (wordOf l x) 0) y ≡ (bitOf (getD t (wordOf l x) 0) y || names l x y r)) where
+  pairs-all : (rs : List Rule) (t : List ℕ) (l x y : ℕ) → Long t → anyHolds (strangeRule n) rs ≡ false → l ≤ right → x < mostOperators
+      → bitOf (getD (marksAll mark rs t) (wordOf l x) 0) y ≡ (bitOf (getD t (wordOf l x) 0) y || anyHolds (names l x y) rs)
   unfolding marksAll
-  closes-marksAll [] t x y long hx hy = sym (or-false (closesIn t x y))
-  closes-marksAll (r ∷ rs) t x y long hx hy =
-      closes-marksAll rs (marks r t) x y (kept r t ∙ long) hx hy ∙ ap (λ (p : Bool). p || anyHolds (gives x y) rs) (adds r t x y long hx hy)
-      ∙ or-assoc (closesIn t x y) (gives x y r) (anyHolds (gives x y) rs)
+  pairs-all [] t l x y long plain hl hx = sym (or-false (bitOf (getD t (wordOf l x) 0) y))
+  pairs-all (r ∷ rs) t l x y long plain hl hx =
+      let (here, later) = both-false (strangeRule n r) (anyHolds (strangeRule n) rs) plain in
+      pairs-all rs (mark r t) l x y (kept r t ∙ long) later hl hx ∙ ap (λ (p : Bool). p || anyHolds (names l x y) rs) (adds r t l x y long here hl hx)
+      ∙ or-assoc (bitOf (getD t (wordOf l x) 0) y) (names l x y r) (anyHolds (names l x y) rs)
 
-  pub length-marksAll : (rs : List Rule) (t : List ℕ) → length (marksAll marks rs t) ≡ length t
-  unfolding marksAll
-  length-marksAll [] t = refl
-  length-marksAll (r ∷ rs) t = length-marksAll rs (marks r t) ∙ kept r t
+  -- from a table with no mark
+  pairs-named : (rs : List Rule) (l x y : ℕ) → anyHolds (strangeRule n) rs ≡ false → l ≤ right → x < mostOperators
+      → bitOf (getD (marksAll mark rs unmarked) (wordOf l x) 0) y ≡ anyHolds (names l x y) rs
+  pairs-named rs l x y plain hl hx =
+      pairs-all rs unmarked l x y (length-replicate {A = ℕ} (suc right * mostOperators) 0) plain hl hx
+      ∙ ap (λ (p : Bool). p || anyHolds (names l x y) rs) (ap (λ (w : ℕ). bitOf w y) (getD-replicate {A = ℕ} (suc right * mostOperators) (wordOf l x) 0 0 (omega arith)) ∙ bit-zero y)
 
-pub closes-blank : (x y : ℕ) → x < mostOperators → y < mostOperators → closesIn fresh x y ≡ false
-closes-blank x y hx hy =
-    closes-bit fresh x y hx hy ∙ ap (λ (w : ℕ). bitOf w y) (getD-replicate {A = ℕ} sheetWords x 0 0 (omega arith)) ∙ bit-zero y
+module _ (n : ℕ) (few : n ≤ mostOperators) (rules : List Rule) (plain : anyHolds (strangeRule n) rules ≡ false) (kind x y : ℕ) (known : kind ≤ right) (hx : x < mostOperators) where
+  pub pairs-written : bitOf (getD (marksAll marks rules unmarked) (wordOf kind x) 0) y ≡ written kind rules x y
+  unfolding marks
+  pairs-written =
+      pairs-named n few marks says (λ r t. length-marked t (r .kind) (r .first) (r .second))
+      (λ r t l a b long s hl ha. marked-pair t (r .kind) (r .first) (r .second) long (lt-of-lt-of-le (first-operator n r s) few) l a b hl ha) rules kind x y plain known hx
 
-length-marks : (kind : ℕ) (r : Rule) (t : List ℕ) → length (marks kind r t) ≡ length t
-unfolding marks
-length-marks kind r t = length-marked t _ _ _
-
-length-turned : (kind : ℕ) (r : Rule) (t : List ℕ) → length (marksTurned kind r t) ≡ length t
-unfolding marksTurned
-length-turned kind r t = length-marked t _ _ _
-
--- From a table with no mark: the pairs that the rules of the kind name, and turned round.
-module _ (kind : ℕ) (rs : List Rule) where
-  pub marked-length : length (marksAll (marks kind) rs fresh) ≡ sheetWords
-  marked-length = length-marksAll (marks kind) (says kind) (length-marks kind) (closes-marks kind) rs fresh
-
-  pub turned-length : length (marksAll (marksTurned kind) rs fresh) ≡ sheetWords
-  turned-length = length-marksAll (marksTurned kind) (λ a b. says kind b a) (length-turned kind) (closes-marksTurned kind) rs fresh
-
-  pub closes-written : (x y : ℕ) → x < mostOperators → y < mostOperators → closesIn (marksAll (marks kind) rs fresh) x y ≡ written kind rs x y
-  closes-written x y hx hy =
-      closes-marksAll (marks kind) (says kind) (length-marks kind) (closes-marks kind) rs fresh x y refl hx hy
-      ∙ ap (λ (p : Bool). p || written kind rs x y) (closes-blank x y hx hy)
-
-  pub turned-written : (x y : ℕ) → x < mostOperators → y < mostOperators → closesIn (marksAll (marksTurned kind) rs fresh) x y ≡ written kind rs y x
-  turned-written x y hx hy =
-      closes-marksAll (marksTurned kind) (λ a b. says kind b a) (length-turned kind) (closes-marksTurned kind) rs fresh x y refl hx hy
-      ∙ ap (λ (p : Bool). p || written kind rs y x) (closes-blank x y hx hy)
+  pub pairs-turned : bitOf (getD (marksAll marksTurned rules unmarked) (wordOf kind x) 0) y ≡ written kind rules y x
+  unfolding marksTurned
+  pairs-turned =
+      pairs-named n few marksTurned (λ l a b. says l b a) (λ r t. length-marked t (r .kind) (r .second) (r .first))
+      (λ r t l a b long s hl ha. marked-pair t (r .kind) (r .second) (r .first) long (lt-of-lt-of-le (second-operator n r s) few) l a b hl ha
+      ∙ ap (λ (p : Bool). bitOf (getD t (wordOf l a) 0) b || (eqb (r .kind) l && p)) (and-comm (eqb (r .second) a) (eqb (r .first) b))) rules kind x y plain known hx

@@ -3,8 +3,8 @@ use mathlib.Core.Path.{_≡_, refl, sym}
 use mathlib.Core.Bool.{Bool, true, false, not, _||_, false≢true}
 use mathlib.Core.Logic.{_⊎_, inl, inr}
 use mathlib.Core.List.{List, [], _∷_}
-use Prim.Native.Nat.{ℕ, _<_}
-use borrow.Author.Tests.{eqb-true, ltb-true}
+use Prim.Native.Nat.{ℕ, _<_, _≤_}
+use borrow.Author.Tests.{eqb-true, ltb-true, ltb-false}
 use lib.Dec.{eqb, ltb}
 use Rattle.expression.specs.Lists.{anyHolds}
 use Rattle.disambiguation.specs.Rules.{Rule, priority, left, right, says, written, Leads, R}
@@ -25,7 +25,12 @@ not-false : (p : Bool) → not p ≡ false → p ≡ true
 not-false true e = refl
 not-false false e = absurd (false≢true (sym e))
 
--- the operators of a rule that is not strange
+-- the kind and the operators of a rule that is not strange
+pub known-kind : (n : ℕ) (r : Rule) → strangeRule n r ≡ false → r .kind ≤ right
+known-kind n r e =
+    ltb-false right (r .kind) (or-false-right (ltb (r .kind) priority) (ltb right (r .kind))
+    (or-false-left _ (not (ltb (r .first) n)) (or-false-left _ (not (ltb (r .second) n)) e)))
+
 pub first-operator : (n : ℕ) (r : Rule) → strangeRule n r ≡ false → r .first < n
 first-operator n r e =
     ltb-true (r .first) n (not-false (ltb (r .first) n) (or-false-right (ltb (r .kind) priority || ltb right (r .kind)) (not (ltb (r .first) n)) (or-false-left _ (not (ltb (r .second) n)) e)))
@@ -49,7 +54,7 @@ written-below kind n (r ∷ rs) a b s e = go (or-either (says kind a b r) (writt
     go (inr q) later = later q
 
 -- where priority leads
-leads-below : (n : ℕ) (rules : List Rule) {a b : ℕ} → anyHolds (strangeRule n) rules ≡ false → Leads rules a b → (a < n) × (b < n)
+pub leads-below : (n : ℕ) (rules : List Rule) {a b : ℕ} → anyHolds (strangeRule n) rules ≡ false → Leads rules a b → (a < n) × (b < n)
 leads-below n rules s (one a b e) = written-below priority n rules a b s e
 leads-below n rules s (more a x b e k) = (written-below priority n rules a x s e .0, leads-below n rules s k .1)
 

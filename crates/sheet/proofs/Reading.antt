@@ -3,22 +3,21 @@ use mathlib.Core.Path.{_≡_, refl, sym, ap, _∙_}
 use mathlib.Core.Bool.{Bool, true, false, _||_, false≢true}
 use mathlib.Core.List.{List, [], _∷_}
 use Prim.Native.Nat.{ℕ, suc, _+_, _*_, _%_, _^_, _<_, _≤_}
-use native.Mathlib.Nat.{lt-of-lt-of-le, zero-mul}
+use native.Mathlib.Nat.{lt-of-lt-of-le}
 use native.Mathlib.Numerals.{add-one, add-two, add-three}
 use native.Mathlib.Omega.{arith}
-use borrow.Author.Tests.{lt-ltb, le-ltb, eq-eqb, ne-eqb}
+use borrow.Author.Tests.{lt-ltb, le-ltb}
 use borrow.Author.Needs.{needs}
-use lib.Bits.{bitOr, or-zero-r}
-use lib.Dec.{eqb}
+use lib.Bits.{bitOr}
 use lib.ListN.{length, getD, drop, set, length-drop}
-use lib.Seq.{drop-cons, set-getD}
-use Rattle.expression.specs.Lists.{anyHolds, oneIf}
+use lib.Seq.{drop-cons}
+use Rattle.expression.specs.Lists.{anyHolds}
 use Rattle.expression.specs.Limits.{mostOperators}
-use Rattle.disambiguation.specs.Rules.{Rule, rule, priority, left, right}
+use Rattle.disambiguation.specs.Rules.{Rule, rule, right}
 use Rattle.disambiguation.specs.SheetChecks.{rulesOf, strangeRule}
-use Rattle.sheet.specs.Marking.{marked, marks, marksTurned, marksAll, Tables, tables, taken, takenAll, Takes, Reads}
+use Rattle.sheet.specs.Marking.{wordOf, marked, marks, marksTurned, marksAll, Takes, Reads}
 use Rattle.sheet.proofs.Bits.{one-shifted}
-use Rattle.sheet.proofs.Orderly.{first-operator, second-operator}
+use Rattle.sheet.proofs.Orderly.{known-kind, first-operator, second-operator}
 
 -- ---- is_strange
 module _ (n k a b : ℕ) where
@@ -39,25 +38,16 @@ module _ (n k a b : ℕ) where
 
 pub ruleset strange-ways = (kind-low, kind-high, first-strange, second-strange, in-order, needs)
 
--- ---- mark
-pub bit-on : (on : Bool) → on ≡ true → 1 ≡ oneIf on
-bit-on on e = rw e
+-- ---- word_of, mark
+module _ (k a : ℕ) (known : k ≤ right) (h : a < mostOperators) where
+  pub word-inside : wordOf k a < suc right * mostOperators
+  word-inside = omega arith
 
-pub bit-off : (on : Bool) → on ≡ false → 0 ≡ oneIf on
-bit-off on e = rw e
-
-pub ruleset bit-ways = (bit-on, bit-off, needs)
-
--- a bit that is off changes nothing
-pub mark-either : {r : ℕ} (t : List ℕ) (a b : ℕ) (on : Bool) → r ≡ oneIf on → b < mostOperators → set t a (bitOr (getD t a 0) ((r * 2 ^ b) % 2 ^ 32)) ≡ marked t a b on
+pub mark-is : {at : ℕ} (t : List ℕ) (k a b : ℕ) → at ≡ wordOf k a → b < mostOperators → set t at (bitOr (getD t at 0) ((1 * 2 ^ b) % 2 ^ 32)) ≡ marked t k a b
 unfolding marked
-mark-either {r} t a b on q h = ap (λ k. set t a (bitOr (getD t a 0) ((k * 2 ^ b) % 2 ^ 32))) q ∙ go on
-  where
-    go : (on : Bool) → set t a (bitOr (getD t a 0) ((oneIf on * 2 ^ b) % 2 ^ 32)) ≡ marked t a b on
-    go true = simp (one-shifted b 32 h)
-    go false = ap (λ k. set t a (bitOr (getD t a 0) (k % 2 ^ 32))) (zero-mul (2 ^ b)) ∙ ap (set t a) (or-zero-r (getD t a 0)) ∙ set-getD t a 0
+mark-is t k a b e h = rw e (ap (λ x. set t (wordOf k a) (bitOr (getD t (wordOf k a) 0) x)) (one-shifted b 32 h))
 
-pub ruleset mark-ways = (mark-either, needs)
+pub ruleset mark-ways = (word-inside, mark-is, needs)
 
 -- ---- take_rule
 module _ {r : Bool} (n k a b : ℕ) (few : n ≤ mostOperators) (s : r ≡ strangeRule n (rule k a b)) (not-strange : r ≡ false) where
@@ -67,22 +57,29 @@ module _ {r : Bool} (n k a b : ℕ) (few : n ≤ mostOperators) (s : r ≡ stran
   pub second-below : b < mostOperators
   second-below = lt-of-lt-of-le (second-operator n (rule k a b) (sym s ∙ not-strange)) few
 
-pub take-strange : {r : Bool} (n k a b : ℕ) (t : Tables) → r ≡ strangeRule n (rule k a b) → r ≡ true → Takes n (rule k a b) t t true
-take-strange n k a b t s e = record { strange = sym e ∙ s; marked-in = λ f. absurd (false≢true (sym f)) }
+  pub kind-known : k ≤ right
+  kind-known = known-kind n (rule k a b) (sym s ∙ not-strange)
 
-pub take-marked : {r : Bool} (n k a b : ℕ) (t u o d t′ u′ o′ d′ : List ℕ) → r ≡ strangeRule n (rule k a b) → r ≡ false
-    → t′ ≡ marked t a b (eqb k left) → u′ ≡ marked u b a (eqb k right) → o′ ≡ marked o a b (eqb k priority) → d′ ≡ marked d b a (eqb k priority)
-    → Takes n (rule k a b) (tables t u o d) (tables t′ u′ o′ d′) false
-unfolding taken marks marksTurned
-take-marked n k a b t u o d t′ u′ o′ d′ s e p q v w = record { strange = sym e ∙ s; marked-in = λ f. rw (p, q, v, w) refl }
+pub take-strange : {r : Bool} (n k a b : ℕ) (t u : List ℕ) → r ≡ strangeRule n (rule k a b) → r ≡ true → Takes n (rule k a b) t u t u true
+take-strange n k a b t u s e = record {
+  strange = sym e ∙ s;
+  marks-ahead = λ f. absurd (false≢true (sym f));
+  marks-back = λ f. absurd (false≢true (sym f));
+}
 
-pub ruleset take-ways = (first-below, second-below, take-strange, take-marked, needs)
+pub take-marked : {r : Bool} (n k a b : ℕ) (t u t′ u′ : List ℕ) → r ≡ strangeRule n (rule k a b) → r ≡ false
+    → t′ ≡ marked t k a b → u′ ≡ marked u k b a → Takes n (rule k a b) t u t′ u′ false
+unfolding marks marksTurned
+take-marked n k a b t u t′ u′ s e m w = record { strange = sym e ∙ s; marks-ahead = λ f. m; marks-back = λ f. w }
+
+pub ruleset take-ways = (first-below, second-below, kind-known, take-strange, take-marked, needs)
 
 -- ---- read
 -- At a place in the bytes, the rules that remain from there on decide the rest.
-pub record Remaining (n : ℕ) (bytes : List ℕ) (before : Tables) (i : ℕ) (now : Tables) : Type 0 where
+pub record Remaining (n : ℕ) (bytes t u : List ℕ) (i : ℕ) (t′ u′ : List ℕ) : Type 0 where
   pub strange : anyHolds (strangeRule n) (rulesOf bytes) ≡ anyHolds (strangeRule n) (rulesOf (drop i bytes))
-  pub marked-in : takenAll (rulesOf bytes) before ≡ takenAll (rulesOf (drop i bytes)) now
+  pub marks-ahead : marksAll marks (rulesOf bytes) t ≡ marksAll marks (rulesOf (drop i bytes)) t′
+  pub marks-back : marksAll marksTurned (rulesOf bytes) u ≡ marksAll marksTurned (rulesOf (drop i bytes)) u′
 
 abbrev ruleAt : List ℕ → ℕ → Rule
 ruleAt bytes i = rule (getD bytes i 0) (getD bytes (i + 1) 0) (getD bytes (i + 2) 0)
@@ -103,41 +100,37 @@ rules-none bytes i h = short (drop i bytes) (rw length-drop (omega arith))
     short (x ∷ y ∷ []) l = refl
     short (x ∷ y ∷ z ∷ s) l = absurd (omega arith)
 
-pub remaining-all : (n : ℕ) (bytes : List ℕ) (t : Tables) → Remaining n bytes t 0 t
-remaining-all n bytes t = record { strange = refl; marked-in = refl }
+pub remaining-all : (n : ℕ) (bytes t u : List ℕ) → Remaining n bytes t u 0 t u
+remaining-all n bytes t u = record { strange = refl; marks-ahead = refl; marks-back = refl }
 
--- one rule more
-taken-first : (r : Rule) (rs : List Rule) (t : Tables) → takenAll (r ∷ rs) t ≡ takenAll rs (taken r t)
-unfolding takenAll taken marksAll
-taken-first r rs t = refl
+pub remaining-more : {r : Bool} (n : ℕ) (bytes t u t₁ u₁ t₂ u₂ : List ℕ) (i : ℕ) → i + 3 ≤ length bytes → Remaining n bytes t u i t₁ u₁
+    → Takes n (ruleAt bytes i) t₁ u₁ t₂ u₂ r → r ≡ false → Remaining n bytes t u (i + 3) t₂ u₂
+unfolding marksAll
+remaining-more n bytes t u t₁ u₁ t₂ u₂ i h l k e = record {
+  strange = l .strange ∙ ap (anyHolds (strangeRule n)) (rules-more bytes i h) ∙ ap (λ (p : Bool). p || anyHolds (strangeRule n) (rulesOf (drop (i + 3) bytes))) (sym (k .strange) ∙ e);
+  marks-ahead =
+      l .marks-ahead ∙ ap (λ (rs : List Rule). marksAll marks rs t₁) (rules-more bytes i h)
+      ∙ ap (marksAll marks (rulesOf (drop (i + 3) bytes))) (sym (k .marks-ahead e));
+  marks-back =
+      l .marks-back ∙ ap (λ (rs : List Rule). marksAll marksTurned rs u₁) (rules-more bytes i h)
+      ∙ ap (marksAll marksTurned (rulesOf (drop (i + 3) bytes))) (sym (k .marks-back e));
+}
 
-taken-none : (t : Tables) → takenAll [] t ≡ t
-unfolding takenAll marksAll
-taken-none t = refl
+pub remaining-strange : {r : Bool} (n : ℕ) (bytes t u t₁ u₁ t₂ u₂ : List ℕ) (i : ℕ) → i + 3 ≤ length bytes → Remaining n bytes t u i t₁ u₁
+    → Takes n (ruleAt bytes i) t₁ u₁ t₂ u₂ r → r ≡ true → Reads n bytes t u t₂ u₂ true
+remaining-strange n bytes t u t₁ u₁ t₂ u₂ i h l k e = record {
+  strange =
+      sym (l .strange ∙ ap (anyHolds (strangeRule n)) (rules-more bytes i h) ∙ ap (λ (p : Bool). p || anyHolds (strangeRule n) (rulesOf (drop (i + 3) bytes))) (sym (k .strange) ∙ e));
+  marks-ahead = λ f. absurd (false≢true (sym f));
+  marks-back = λ f. absurd (false≢true (sym f));
+}
 
-module _ {r : Bool} (n : ℕ) (bytes : List ℕ) (before t₁ t₂ : Tables) (i : ℕ) (h : i + 3 ≤ length bytes) (l : Remaining n bytes before i t₁) (k : Takes n (ruleAt bytes i) t₁ t₂ r) where
-  strange-here : anyHolds (strangeRule n) (rulesOf bytes) ≡ (r || anyHolds (strangeRule n) (rulesOf (drop (i + 3) bytes)))
-  strange-here =
-      l .strange ∙ ap (anyHolds (strangeRule n)) (rules-more bytes i h) ∙ ap (λ (p : Bool). p || anyHolds (strangeRule n) (rulesOf (drop (i + 3) bytes))) (sym (k .strange))
-
-  pub remaining-more : r ≡ false → Remaining n bytes before (i + 3) t₂
-  remaining-more e = record {
-    strange = strange-here ∙ ap (λ (p : Bool). p || anyHolds (strangeRule n) (rulesOf (drop (i + 3) bytes))) e;
-    marked-in =
-        l .marked-in ∙ ap (λ (rs : List Rule). takenAll rs t₁) (rules-more bytes i h) ∙ taken-first (ruleAt bytes i) (rulesOf (drop (i + 3) bytes)) t₁
-        ∙ ap (takenAll (rulesOf (drop (i + 3) bytes))) (sym (k .marked-in e));
-  }
-
-  pub remaining-strange : r ≡ true → Reads n bytes before t₂ true
-  remaining-strange e = record {
-    strange = sym (strange-here ∙ ap (λ (p : Bool). p || anyHolds (strangeRule n) (rulesOf (drop (i + 3) bytes))) e);
-    marked-in = λ f. absurd (false≢true (sym f));
-  }
-
-pub remaining-none : (n : ℕ) (bytes : List ℕ) (before t₁ : Tables) (i : ℕ) → length bytes < i + 3 → Remaining n bytes before i t₁ → Reads n bytes before t₁ false
-remaining-none n bytes before t₁ i h l = record {
+pub remaining-none : (n : ℕ) (bytes t u t₁ u₁ : List ℕ) (i : ℕ) → length bytes < i + 3 → Remaining n bytes t u i t₁ u₁ → Reads n bytes t u t₁ u₁ false
+unfolding marksAll
+remaining-none n bytes t u t₁ u₁ i h l = record {
   strange = sym (l .strange ∙ ap (anyHolds (strangeRule n)) (rules-none bytes i h));
-  marked-in = λ f. sym (l .marked-in ∙ ap (λ (rs : List Rule). takenAll rs t₁) (rules-none bytes i h) ∙ taken-none t₁);
+  marks-ahead = λ f. sym (l .marks-ahead ∙ ap (λ (rs : List Rule). marksAll marks rs t₁) (rules-none bytes i h));
+  marks-back = λ f. sym (l .marks-back ∙ ap (λ (rs : List Rule). marksAll marksTurned rs u₁) (rules-none bytes i h));
 }
 
 pub ruleset read-ways = (remaining-all, remaining-more, remaining-strange, remaining-none, needs)

@@ -4,17 +4,19 @@ use mathlib.Core.Bool.{Bool, true, false, not, _&&_, _||_}
 use mathlib.Core.List.{List}
 use Prim.Native.Nat.{ℕ, _-_, _^_, _<_, _≤_}
 use native.Mathlib.Nat.{lt-of-lt-of-le}
+use native.Mathlib.Omega.{arith}
 use borrow.Author.Tests.{lt-ltb, ltb-true}
 use lib.Bits.{bitAnd, bitOr, or-lt}
 use lib.Dec.{eqb, ltb}
-use lib.ListN.{getD}
+use lib.ListN.{getD, getD-replicate}
 use Rattle.expression.specs.Limits.{mostOperators}
 use Rattle.disambiguation.specs.Verdict.{within}
 use Rattle.disambiguation.proofs.BelowLaws.{and-true}
+use Rattle.sheet.specs.Layout.{sheetWords, fresh}
 use Rattle.sheet.specs.Relation.{bitOf, closesIn, turned}
 use Rattle.sheet.specs.Tests.{noneInBoth, eachInOne, safeFor, totalFor}
 use Rattle.sheet.proofs.Below.{all-same}
-use Rattle.sheet.proofs.Bits.{bit-and, bit-or, bit-not, masked-clear}
+use Rattle.sheet.proofs.Bits.{bit-and, bit-or, bit-not, bit-zero, masked-clear}
 
 not-not : (p : Bool) → not (not p) ≡ p
 not-not true = refl
@@ -65,6 +67,10 @@ as-false false h = refl
 
 pub closes-beyond : (sheet : List ℕ) (a b : ℕ) → ((a < mostOperators) × (b < mostOperators) → ⊥) → closesIn sheet a b ≡ false
 closes-beyond sheet a b h = as-false (closesIn sheet a b) (λ e. h (closes-below sheet a b e))
+
+pub closes-blank : (x y : ℕ) → x < mostOperators → y < mostOperators → closesIn fresh x y ≡ false
+closes-blank x y hx hy =
+    closes-bit fresh x y hx hy ∙ ap (λ (w : ℕ). bitOf w y) (getD-replicate {A = ℕ} sheetWords x 0 0 (omega arith)) ∙ bit-zero y
 
 -- The tests of a relation, of the words of one operator or two.
 module _ (n : ℕ) (t u : List ℕ) (few : n ≤ mostOperators) (a : ℕ) (h : a < n) where

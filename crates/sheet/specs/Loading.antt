@@ -8,12 +8,12 @@ use lib.ListN.{set}
 use Rattle.expression.specs.Limits.{mostOperators, mostRuleBytes, bytesOfRule}
 use Rattle.expression.specs.Refusal.{first, accepted, oversize, torn, stranger}
 use Rattle.expression.specs.Token.{Operators}
-use Rattle.disambiguation.specs.Rules.{Rule, priority, left}
+use Rattle.disambiguation.specs.Rules.{Rule, left}
 use Rattle.disambiguation.specs.Verdict.{ruleChecks}
 use Rattle.disambiguation.specs.SheetChecks.{rulesOf, sheetNumber}
 use Rattle.sheet.specs.Layout.{countWord, fresh}
-use Rattle.sheet.specs.Marking.{marks, marksAll}
-use Rattle.sheet.specs.Chaining.{chained, added}
+use Rattle.sheet.specs.Marking.{unmarked, marks, marksAll}
+use Rattle.sheet.specs.Chaining.{related}
 
 -- 1 and 2: the checks of n and of the number of rule bytes
 unfoldable pub sizeNumber : ℕ → ℕ → ℕ
@@ -24,9 +24,9 @@ sizeNumber n size =
 unfoldable pub rulesNumber : Bool → Operators → (ℕ → ℕ → Bool) → (ℕ → ℕ → Bool) → ℕ
 rulesNumber strange ops L R = first ((strange, stranger) ∷ ruleChecks ops L R)
 
--- The sheet that is made of n and rules: left rules as written, priority chained.
+-- The sheet that is made of n and rules: priority chained, left as written.
 unfoldable pub sheetOf : ℕ → List Rule → List ℕ
-sheetOf n rules = set (added n (chained n n (marksAll (marks priority) rules fresh)) (marksAll (marks left) rules fresh)) countWord n
+sheetOf n rules = set (related n left (marksAll marks rules unmarked) fresh) countWord n
 
 -- A load of n operators with the rules of the bytes answered r, and the lent sheet became `after`: it is written only where the load is accepted.
 pub record Loads (before : List ℕ) (n : ℕ) (bytes : List ℕ) (r : ℕ) (after : List ℕ) : Type 0 where

@@ -1,56 +1,48 @@
--- Rules marked in a table of words, one after the other. Assumes nothing.
-use Prim.Native.Nat.{ℕ, _^_}
+-- Rules marked as written in a table of words, one after the other. Assumes nothing.
+--     word kind * 32 + a, for a kind of rules and an operator a: bit b is set where a rule of the kind names a and b
+use Prim.Native.Nat.{ℕ, suc, _+_, _*_, _^_}
 use mathlib.Core.Path.{_≡_}
-use mathlib.Core.Bool.{Bool, false, cond}
+use mathlib.Core.Bool.{Bool, false}
 use mathlib.Core.List.{List, [], _∷_}
 use lib.Bits.{bitOr}
-use lib.Dec.{eqb}
-use lib.ListN.{getD, set}
+use lib.ListN.{getD, set, replicate}
 use Rattle.expression.specs.Lists.{anyHolds}
-use Rattle.disambiguation.specs.Rules.{Rule, priority, left, right}
+use Rattle.expression.specs.Limits.{mostOperators}
+use Rattle.disambiguation.specs.Rules.{Rule, right}
 use Rattle.disambiguation.specs.SheetChecks.{rulesOf, strangeRule}
 
--- the table with bit b of word a set, if on
-unfoldable pub marked : List ℕ → ℕ → ℕ → Bool → List ℕ
-marked t a b on = cond on (set t a (bitOr (getD t a 0) (2 ^ b))) t
+-- the place of an operator's word for a kind
+abbrev pub wordOf : ℕ → ℕ → ℕ
+wordOf kind a = kind * mostOperators + a
 
--- What a rule marks in a table for its kind: bit b of word a for a rule of a and b; and turned round, bit a of word b.
-unfoldable pub marks : ℕ → Rule → List ℕ → List ℕ
-marks kind r t = marked t (r .first) (r .second) (eqb (r .kind) kind)
+-- the table with no mark
+abbrev pub unmarked : List ℕ
+unmarked = replicate (suc right * mostOperators) 0
 
-unfoldable pub marksTurned : ℕ → Rule → List ℕ → List ℕ
-marksTurned kind r t = marked t (r .second) (r .first) (eqb (r .kind) kind)
+-- the table with bit b of a's word for the kind set
+unfoldable pub marked : List ℕ → ℕ → ℕ → ℕ → List ℕ
+marked t kind a b = set t (wordOf kind a) (bitOr (getD t (wordOf kind a) 0) (2 ^ b))
+
+-- what a rule of a and b marks: bit b for a; and turned round, bit a for b
+unfoldable pub marks : Rule → List ℕ → List ℕ
+marks r t = marked t (r .kind) (r .first) (r .second)
+
+unfoldable pub marksTurned : Rule → List ℕ → List ℕ
+marksTurned r t = marked t (r .kind) (r .second) (r .first)
 
 -- all rules, the first one first
 unfoldable pub marksAll : (Rule → List ℕ → List ℕ) → List Rule → List ℕ → List ℕ
 marksAll marks [] t = t
 marksAll marks (r ∷ rs) t = marksAll marks rs (marks r t)
 
--- The four tables: a left b, b right a, a over b, b over a.
-pub record Tables : Type 0 where
-  pub closes : List ℕ
-  pub yields : List ℕ
-  pub over : List ℕ
-  pub under : List ℕ
-
-abbrev pub tables : List ℕ → List ℕ → List ℕ → List ℕ → Tables
-tables closes yields over under = record { closes = closes; yields = yields; over = over; under = under }
-
--- what a rule marks in them, and what all rules do
-unfoldable pub taken : Rule → Tables → Tables
-taken r t = tables (marks left r (t .closes)) (marksTurned right r (t .yields)) (marks priority r (t .over)) (marksTurned priority r (t .under))
-
-unfoldable pub takenAll : List Rule → Tables → Tables
-takenAll rules t =
-    tables (marksAll (marks left) rules (t .closes)) (marksAll (marksTurned right) rules (t .yields)) (marksAll (marks priority) rules (t .over))
-    (marksAll (marksTurned priority) rules (t .under))
-
--- One rule taken: whether it is strange, and if not, the tables after it.
-pub record Takes (n : ℕ) (r : Rule) (before after : Tables) (answer : Bool) : Type 0 where
+-- One rule taken: whether it is strange, and if not, both tables after it.
+pub record Takes (n : ℕ) (r : Rule) (ahead back ahead′ back′ : List ℕ) (answer : Bool) : Type 0 where
   pub strange : answer ≡ strangeRule n r
-  pub marked-in : answer ≡ false → after ≡ taken r before
+  pub marks-ahead : answer ≡ false → ahead′ ≡ marks r ahead
+  pub marks-back : answer ≡ false → back′ ≡ marksTurned r back
 
--- All rules of the bytes read: whether one is strange, and if none is, the tables after them.
-pub record Reads (n : ℕ) (bytes : List ℕ) (before after : Tables) (answer : Bool) : Type 0 where
+-- All rules of the bytes read: whether one is strange, and if none is, both tables after them.
+pub record Reads (n : ℕ) (bytes ahead back ahead′ back′ : List ℕ) (answer : Bool) : Type 0 where
   pub strange : answer ≡ anyHolds (strangeRule n) (rulesOf bytes)
-  pub marked-in : answer ≡ false → after ≡ takenAll (rulesOf bytes) before
+  pub marks-ahead : answer ≡ false → ahead′ ≡ marksAll marks (rulesOf bytes) ahead
+  pub marks-back : answer ≡ false → back′ ≡ marksAll marksTurned (rulesOf bytes) back

@@ -1,10 +1,25 @@
-// Chains of priority: where a leads to k and k leads to c, a leads to c. Each operator k is gone through once, n steps of n operations on words.
+// The relation that marked rules give: chains of priority, and one side as written. Where a leads to k and k leads to c, a leads to c: each operator k is gone through
+// once, n steps of n operations on words.
 ghost use mathlib.Core.Path.{_≡_};
 ghost use Prim.Native.Nat.{_≤_, _<_};
 ghost use Rattle.expression.specs.Limits.{mostOperators};
-ghost use Rattle.sheet.specs.Chaining.{passed, chained, added};
+ghost use Rattle.disambiguation.specs.Rules.{right};
+ghost use Rattle.sheet.specs.Chaining.{added, passed, chained, related};
 use crate::layout::SHEET_WORDS;
+use crate::rules;
 use crate::words;
+
+// Puts the pairs in that are marked for the kind.
+fn add(n: usize, kind: u8, marks: &[u32; rules::MARK_WORDS], table: &mut [u32; SHEET_WORDS])
+    requires { ⌜ (n ≤ mostOperators) × (kind ≤ right) ⌝ }
+    ensures { λ _. ⌜ now (table .exit) ≡ added n kind (now (marks .entry)) (now (table .entry)) ⌝ }
+{
+    let mut a = 0;
+    while a < n {
+        table[a] = table[a] | marks[rules::word_of(kind, a)];
+        a += 1;
+    }
+}
 
 // What leads to k leads to all that k leads to.
 fn pass(n: usize, k: usize, table: &mut [u32; SHEET_WORDS])
@@ -31,23 +46,12 @@ fn chain(n: usize, table: &mut [u32; SHEET_WORDS])
     }
 }
 
-// Puts the pairs of the one table into the other.
-fn put_in(n: usize, from: &[u32; SHEET_WORDS], into: &mut [u32; SHEET_WORDS])
-    requires { ⌜ n ≤ mostOperators ⌝ }
-    ensures { λ _. ⌜ now (into .exit) ≡ added n (now (from .entry)) (now (into .entry)) ⌝ }
+// In an empty table, the chains of priority and the pairs of the side's rules.
+pub fn relate(n: usize, side: u8, marks: &[u32; rules::MARK_WORDS], table: &mut [u32; SHEET_WORDS])
+    requires { ⌜ (n ≤ mostOperators) × (side ≤ right) ⌝ }
+    ensures { λ _. ⌜ now (table .exit) ≡ related n side (now (marks .entry)) (now (table .entry)) ⌝ }
 {
-    let mut a = 0;
-    while a < n {
-        into[a] = into[a] | from[a];
-        a += 1;
-    }
-}
-
-// Puts in all pairs to which the chains of a table lead.
-pub fn add(n: usize, table: &mut [u32; SHEET_WORDS], into: &mut [u32; SHEET_WORDS])
-    requires { ⌜ n ≤ mostOperators ⌝ }
-    ensures { λ _. ⌜ now (into .exit) ≡ added n (chained n n (now (table .entry))) (now (into .entry)) ⌝ }
-{
+    add(n, rules::PRIORITY, marks, table);
     chain(n, table);
-    put_in(n, table, into);
+    add(n, side, marks, table);
 }

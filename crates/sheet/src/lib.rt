@@ -58,14 +58,13 @@ pub fn load(sheet: &mut [u32; SHEET_WORDS], n: u32, rules: &[u8]) -> u8
     if size != refusal::ACCEPTED {
         return size;
     }
+    let mut ahead = [0u32; rules::MARK_WORDS];
+    let mut back = [0u32; rules::MARK_WORDS];
+    let strange = rules::read(n as u8, rules, &mut ahead, &mut back);
     let mut made = [0u32; SHEET_WORDS];
     let mut yields = [0u32; SHEET_WORDS];
-    let mut over = [0u32; SHEET_WORDS];
-    let mut under = [0u32; SHEET_WORDS];
-    let strange =
-        rules::read(n as u8, rules, &mut made, &mut yields, &mut over, &mut under);
-    chains::add(n as usize, &mut over, &mut made);
-    chains::add(n as usize, &mut under, &mut yields);
+    chains::relate(n as usize, rules::LEFT, &ahead, &mut made);
+    chains::relate(n as usize, rules::RIGHT, &back, &mut yields);
     let number = verdict::rules_number(strange, n as usize, &made, &yields);
     if number != refusal::ACCEPTED {
         return number;

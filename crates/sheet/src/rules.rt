@@ -1,21 +1,30 @@
-// Rules in bytes, marked as written in four tables, each as long as a sheet: bit b of word a of `closes` for a left b, of `yields` for b right a, of `over` for a over b,
-// of `under` for b over a.
+// Rules in bytes, marked as written in two tables, with a word for each kind of rule and each operator: in `ahead` bit b of a's word for a rule of a and b, in `back`
+// bit a of b's word.
 ghost use mathlib.Core.Path.{_≡_};
 ghost use Prim.Native.Nat.{_≤_, _<_};
-ghost use Rattle.expression.specs.Lists.{oneIf};
 ghost use Rattle.expression.specs.Limits.{mostOperators};
-ghost use Rattle.disambiguation.specs.Rules.{rule};
+ghost use Rattle.disambiguation.specs.Rules.{rule, right};
 ghost use Rattle.disambiguation.specs.SheetChecks.{strangeRule};
-ghost use Rattle.sheet.specs.Marking.{marked, tables, Takes, Reads};
-use crate::layout::SHEET_WORDS;
+ghost use Rattle.sheet.specs.Marking.{wordOf, marked, Takes, Reads};
 use expression::limits;
 
 // The kinds of rules: a over b, a left b, a right b.
-const PRIORITY: u8 = 1;
+pub const PRIORITY: u8 = 1;
 
-const LEFT: u8 = 2;
+pub const LEFT: u8 = 2;
 
-const RIGHT: u8 = 3;
+pub const RIGHT: u8 = 3;
+
+// The words of a table of marks; the first 32 are of no kind.
+pub const MARK_WORDS: usize = (RIGHT as usize + 1) * limits::MOST_OPERATORS as usize;
+
+// The place of an operator's word for a kind.
+pub fn word_of(kind: u8, a: usize) -> usize
+    requires { ⌜ (kind ≤ right) × (a < mostOperators) ⌝ }
+    ensures { λ r. ⌜ r ≡ wordOf kind a ⌝ }
+{
+    (kind as usize) * (limits::MOST_OPERATORS as usize) + a
+}
 
 // The kind is not one of the three, or an operator is not below n.
 fn is_strange(n: u8, kind: u8, first: u8, second: u8) -> bool
@@ -36,23 +45,13 @@ fn is_strange(n: u8, kind: u8, first: u8, second: u8) -> bool
     false
 }
 
-// 1 where on, else 0.
-fn bit(on: bool) -> u32
-    ensures { λ r. ⌜ r ≡ oneIf on ⌝ }
+// Puts the pair in for the kind.
+fn mark(table: &mut [u32; MARK_WORDS], kind: u8, a: u8, b: u8)
+    requires { ⌜ (kind ≤ right) × (a < mostOperators) × (b < mostOperators) ⌝ }
+    ensures { λ _. ⌜ now (table .exit) ≡ marked (now (table .entry)) kind a b ⌝ }
 {
-    if on {
-        return 1;
-    }
-    0
-}
-
-// Puts the pair in, if on. No branch tells: rules come in any order of kinds.
-fn mark(table: &mut [u32; SHEET_WORDS], a: u8, b: u8, on: bool)
-    requires { ⌜ (a < mostOperators) × (b < mostOperators) ⌝ }
-    ensures { λ _. ⌜ now (table .exit) ≡ marked (now (table .entry)) a b on ⌝ }
-{
-    let at = a as usize;
-    table[at] = table[at] | (bit(on) << b);
+    let at = word_of(kind, a as usize);
+    table[at] = table[at] | (1 << b);
 }
 
 // Marks one rule, or says that it is strange and marks nothing.
@@ -61,22 +60,17 @@ fn take_rule(
     kind: u8,
     first: u8,
     second: u8,
-    closes: &mut [u32; SHEET_WORDS],
-    yields: &mut [u32; SHEET_WORDS],
-    over: &mut [u32; SHEET_WORDS],
-    under: &mut [u32; SHEET_WORDS],
+    ahead: &mut [u32; MARK_WORDS],
+    back: &mut [u32; MARK_WORDS],
 ) -> bool
     requires { ⌜ n ≤ mostOperators ⌝ }
-    ensures { λ r. ⌜ Takes n (rule kind first second) (tables (now (closes .entry)) (now (yields .entry)) (now (over .entry)) (now (under .entry)))
-        (tables (now (closes .exit)) (now (yields .exit)) (now (over .exit)) (now (under .exit))) r ⌝ }
+    ensures { λ r. ⌜ Takes n (rule kind first second) (now (ahead .entry)) (now (back .entry)) (now (ahead .exit)) (now (back .exit)) r ⌝ }
 {
     if is_strange(n, kind, first, second) {
         return true;
     }
-    mark(closes, first, second, kind == LEFT);
-    mark(yields, second, first, kind == RIGHT);
-    mark(over, first, second, kind == PRIORITY);
-    mark(under, second, first, kind == PRIORITY);
+    mark(ahead, kind, first, second);
+    mark(back, kind, second, first);
     false
 }
 
@@ -84,18 +78,15 @@ fn take_rule(
 pub fn read(
     n: u8,
     rules: &[u8],
-    closes: &mut [u32; SHEET_WORDS],
-    yields: &mut [u32; SHEET_WORDS],
-    over: &mut [u32; SHEET_WORDS],
-    under: &mut [u32; SHEET_WORDS],
+    ahead: &mut [u32; MARK_WORDS],
+    back: &mut [u32; MARK_WORDS],
 ) -> bool
     requires { ⌜ n ≤ mostOperators ⌝ }
-    ensures { λ r. ⌜ Reads n (now (rules .entry)) (tables (now (closes .entry)) (now (yields .entry)) (now (over .entry)) (now (under .entry)))
-        (tables (now (closes .exit)) (now (yields .exit)) (now (over .exit)) (now (under .exit))) r ⌝ }
+    ensures { λ r. ⌜ Reads n (now (rules .entry)) (now (ahead .entry)) (now (back .entry)) (now (ahead .exit)) (now (back .exit)) r ⌝ }
 {
     let mut i = 0;
     while i + limits::BYTES_OF_RULE <= rules.len() {
-        if take_rule(n, rules[i], rules[i + 1], rules[i + 2], closes, yields, over, under) {
+        if take_rule(n, rules[i], rules[i + 1], rules[i + 2], ahead, back) {
             return true;
         }
         i += limits::BYTES_OF_RULE;

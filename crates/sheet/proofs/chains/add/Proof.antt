@@ -1,12 +1,33 @@
--- `sheet::chains::add` meets its contract. Assumes nothing.
+-- `sheet::chains::add` meets its contract; in its loop, the words before a are put in. Assumes nothing.
+use mathlib.Core.Path.{_≡_}
+use Prim.Native.Nat.{_-_, _≤_}
+use native.Mathlib.Omega.{arith}
+use Rattle.sheet.specs.Chaining.{added}
 use Rattle.sheet.proofs.ChainWays.{add-ways}
 use Rattle.sheet.proofs.chains.add.Statement.{statement}
 use Rattle.sheet.proofs.chains.add.Tie as tie
+
+abbrev Inv-loop : tie.InvT-loop
+Inv-loop n kind marks table₀ a₀ table a = (a ≤ n) × (table ≡ added a kind marks table₀)
+
+abbrev μ-loop : tie.MeasureT-loop
+μ-loop n kind marks table₀ a₀ table a = n - a
 
 pub add-spec : {M : Type 1} → statement M
 add-spec =
     tie.close
     (tie.spec
-    (λ c κs. search add-ways)
-    (λ c κs. search add-ways)
+    Inv-loop
+    μ-loop
+    (λ c. (omega arith, search add-ways))
+    (λ c. omega arith)
+    (λ c. omega arith)
+    (λ c κs. omega arith)
+    (λ c. omega arith)
+    (λ c. omega arith)
+    (λ c. omega arith)
+    (λ c. omega arith)
+    (λ c. omega arith)
+    (λ c. omega arith)
+    (λ c. (omega arith, search add-ways))
     (λ c. search add-ways))

@@ -1,7 +1,6 @@
 -- `sheet::rules::read` meets its contract; in its loop, the rules before the place are marked, and none of them is strange. Assumes nothing.
 use Prim.Native.Nat.{_-_, _≤_}
 use lib.ListN.{length}
-use Rattle.sheet.specs.Marking.{tables}
 use Rattle.sheet.proofs.Reading.{Remaining}
 use native.Mathlib.Omega.{arith}
 use Rattle.sheet.proofs.Reading.{read-ways}
@@ -9,11 +8,10 @@ use Rattle.sheet.proofs.rules.read.Statement.{statement}
 use Rattle.sheet.proofs.rules.read.Tie as tie
 
 abbrev Inv-loop : tie.InvT-loop
-Inv-loop n rules closes₀ yields₀ over₀ under₀ i₀ closes yields over under i =
-    (i ≤ length rules) × Remaining n rules (tables closes₀ yields₀ over₀ under₀) i (tables closes yields over under)
+Inv-loop n rules ahead₀ back₀ i₀ ahead back i = (i ≤ length rules) × Remaining n rules ahead₀ back₀ i ahead back
 
 abbrev μ-loop : tie.MeasureT-loop
-μ-loop n rules closes₀ yields₀ over₀ under₀ i₀ closes yields over under i = length rules - i
+μ-loop n rules ahead₀ back₀ i₀ ahead back i = length rules - i
 
 pub read-spec : {M : Type 1} → statement M
 read-spec =

@@ -11,6 +11,4 @@ take-rule-spec =
     (λ c. search take-ways)
     (λ c κs. search take-ways)
     (λ c κs. search take-ways)
-    (λ c κs. search take-ways)
-    (λ c κs. search take-ways)
     (λ c. search take-ways))
