@@ -1,4 +1,4 @@
-//! Document 01's cases, and the calls that give their answers as vectors.
+//! Document 01's cases, with the chains of priority that document 02 adds, and the calls that give their answers as vectors.
 use tihvomen::{Panel, Refusal, Side, IMAGE_BYTES, PLACES};
 
 /// Two operators: 01 over 00, each left with itself.
@@ -48,8 +48,10 @@ fn sheets_9_to_14() {
     assert_eq!(load(1, &[]), Err(Refusal::Double));
     assert_eq!(load(1, &[2, 0, 0, 3, 0, 0]), Err(Refusal::Dead));
     assert_eq!(load(0, &[]), Ok(()));
-    assert_eq!(load(3, &round), Err(Refusal::Double));
-    assert_eq!(load(3, &round[..15]), Err(Refusal::Double));
+    assert_eq!(load(3, &round), Err(Refusal::Dead));
+    assert_eq!(load(3, &round[..15]), Ok(()));
+    let by_sides = [2, 0, 0, 2, 1, 1, 2, 2, 2, 2, 0, 1, 3, 0, 1, 2, 1, 2, 3, 1, 2, 2, 2, 0, 3, 2, 0];
+    assert_eq!(load(3, &by_sides), Err(Refusal::Double));
     let all_left: Vec<u8> = (0..32).flat_map(|a| (0..32).flat_map(move |b| [2, a, b])).collect();
     assert_eq!(load(32, &all_left), Ok(()));
     assert_eq!(load(33, &all_left), Err(Refusal::Oversize));

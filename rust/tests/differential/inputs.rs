@@ -43,6 +43,23 @@ fn near_rules(random: &mut Random, n: u8) -> Vec<u8> {
     rules
 }
 
+/// Accepted rules of which some priorities are left out: mostly those that others lead to.
+fn chained_rules(random: &mut Random, n: u8) -> Vec<u8> {
+    let mut order: Vec<u8> = (0..n).collect();
+    random.shuffle(&mut order);
+    let mut rules = Vec::new();
+    for (at, &a) in order.iter().enumerate() {
+        rules.push([2 + random.below(2) as u8, a, a]);
+        for (further, &b) in order[at + 1..].iter().enumerate() {
+            if further == 0 && !random.once_in(40) || random.once_in(4) {
+                rules.push([1, a, b]);
+            }
+        }
+    }
+    random.shuffle(&mut rules);
+    rules.concat()
+}
+
 /// Three operators or more, each left with itself, each over the next and the last over the first.
 fn round_rules(random: &mut Random, n: u8) -> Vec<u8> {
     let mut rules: Vec<[u8; 3]> = (0..n).map(|a| [2, a, a]).collect();
@@ -56,8 +73,9 @@ pub fn sheet(random: &mut Random, least: u8) -> (u8, Vec<u8>) {
     let most = [2, 3, 4, 8, 33][random.below(5)];
     let any = random.below(most) as u8;
     let n = if random.once_in(4) { any } else { any.max(least) };
-    let mut rules = match random.below(10) {
+    let mut rules = match random.below(12) {
         0 => near_rules(random, n),
+        3 | 4 => chained_rules(random, n),
         1 => round_rules(random, n),
         2 if n > 0 => {
             let rule = |random: &mut Random| {

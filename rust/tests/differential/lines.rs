@@ -2,7 +2,9 @@
 use crate::book::{Book, Call};
 use crate::calls;
 use crate::random::Random;
+use std::fs;
 use std::io::Write;
+use std::path::Path;
 use tihvomen::Panel;
 
 const RUNS: u64 = 800;
@@ -131,5 +133,28 @@ fn lines_are_replied_as_the_book_replies() {
     writeln!(std::io::stdout(), "\nlines, by number: {}", counts.join(", ")).unwrap();
     for (number, &count) in seen.iter().enumerate() {
         assert_eq!(count > 0, number != 10, "a line never meets 10, and meets every other number: {number}");
+    }
+}
+
+/// The stored runs of the program: the book gives the replies that are stored.
+#[test]
+fn stored_replies_are_the_books() {
+    let runs = Path::new(env!("CARGO_MANIFEST_DIR")).join("../tests/runs");
+    let inputs: Vec<_> = fs::read_dir(runs).unwrap().map(|entry| entry.unwrap().path()).collect();
+    let inputs: Vec<_> = inputs.iter().filter(|path| path.extension().is_some_and(|end| end == "in")).collect();
+    assert!(inputs.len() > 10, "{inputs:?}");
+    for input in inputs {
+        let mut book = Book::new();
+        let (lines, replies) = (fs::read(input).unwrap(), fs::read(input.with_extension("out")).unwrap());
+        let mut stored = replies.split(|&byte| byte == b'\n');
+        for (step, line) in lines.strip_suffix(b"\n").unwrap_or(&lines).split(|&byte| byte == b'\n').enumerate() {
+            let (call, bytes) = expected(&book, line);
+            let reply: String = bytes.iter().map(|byte| format!("{byte:02x}")).collect();
+            assert_eq!(stored.next(), Some(reply.as_bytes()), "{input:?}, line {}", step + 1);
+            if let Some(call) = call {
+                book.note(&call, bytes[0]);
+            }
+        }
+        assert_eq!(stored.next(), Some(&[][..]), "{input:?} has more replies than lines");
     }
 }

@@ -3,6 +3,7 @@
 //! The independent side is written from document 01 in the plainest way. It knows nothing of the library's algorithms.
 mod book;
 mod calls;
+mod chains;
 mod evaluate;
 mod expression;
 mod forms;

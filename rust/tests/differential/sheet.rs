@@ -1,4 +1,4 @@
-//! A sheet's patterns as written, its verdict by looking at rows, and a row's conflict-free tree.
+//! A sheet's patterns, its verdict by looking at rows, and a row's conflict-free tree.
 use crate::expression::{Expression, Operand};
 use crate::tree::{Side, Tree};
 
@@ -20,13 +20,19 @@ pub struct Sheet {
 }
 
 impl Sheet {
-    /// The rules count as written. They must be in order.
+    /// Left and right count as written, priority wherever its rules lead. The rules must be in order.
     pub fn of_rules(n: u8, rules: &[u8]) -> Sheet {
         let mut sheet = Sheet { n, left: [[false; 32]; 32], right: [[false; 32]; 32] };
         for rule in rules.chunks(3) {
             let (kind, a, b) = (rule[0], usize::from(rule[1]), usize::from(rule[2]));
-            sheet.left[a][b] |= kind == 1 || kind == 3;
-            sheet.right[a][b] |= kind == 1 || kind == 2;
+            sheet.left[a][b] |= kind == 3;
+            sheet.right[a][b] |= kind == 2;
+        }
+        for a in 0..n {
+            for c in led_to(rules, a) {
+                sheet.left[usize::from(a)][usize::from(c)] = true;
+                sheet.right[usize::from(a)][usize::from(c)] = true;
+            }
         }
         sheet
     }
@@ -147,6 +153,21 @@ impl Sheet {
         };
         Tree::Node(*operator, Box::new(operand(Side::Left, left)), Box::new(operand(Side::Right, right)))
     }
+}
+
+/// The operators to which one or more priority rules lead from a.
+fn led_to(rules: &[u8], a: u8) -> Vec<u8> {
+    let mut found = Vec::new();
+    let mut todo = vec![a];
+    while let Some(from) = todo.pop() {
+        for rule in rules.chunks(3) {
+            if rule[0] == 1 && rule[1] == from && !found.contains(&rule[2]) {
+                found.push(rule[2]);
+                todo.push(rule[2]);
+            }
+        }
+    }
+    found
 }
 
 /// All trees over `count` operators; the operator at position i is called i.
