@@ -1,12 +1,12 @@
 -- Going through the rules decides whether priority leads from one operator to another; so the patterns are those that chains give. Assumes nothing.
 use Prim.Native.Nat.{ℕ}
 use mathlib.Core.Path.{_≡_, refl, sym, subst}
-use mathlib.Core.Bool.{Bool, true, false, _&&_, _||_, or-true, false≢true}
+use mathlib.Core.Bool.{true, false, _&&_, _||_, or-true, false≢true}
 use mathlib.Core.Logic.{_↔_, _⊎_, inl, inr}
 use mathlib.Core.List.{List, [], _∷_}
 use borrow.Author.Tests.{eqb-true, eq-eqb}
 use lib.Dec.{eqb}
-use Rattle.disambiguation.specs.Chains.{Chain, one, more}
+use Rattle.disambiguation.specs.Chains.{one, more}
 use Rattle.disambiguation.specs.Rules.{Rule, priority, left, right, says, written, Leads, leads, L, R}
 use Rattle.disambiguation.specs.Patterns.{Patterns}
 use Rattle.disambiguation.proofs.BelowLaws.{and-true, or-either}

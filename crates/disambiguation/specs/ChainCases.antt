@@ -1,6 +1,6 @@
 -- Small sheets with chains of priority, and with rules that only look like one: trees and their counts, sheets and their numbers. Assumes nothing.
 use mathlib.Core.List.{List, [], _∷_}
-use Rattle.expression.specs.Refusal.{accepted, dead, double}
+use Rattle.expression.specs.Refusal.{dead, double}
 use Rattle.disambiguation.specs.Rules.{priority, left, right}
 use Rattle.disambiguation.specs.Cases.{Sheet, Case, counted, sheet, falling}
 

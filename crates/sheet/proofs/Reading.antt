@@ -38,16 +38,12 @@ module _ (n k a b : ℕ) where
 
 pub ruleset strange-ways = (kind-low, kind-high, first-strange, second-strange, in-order, needs)
 
--- ---- word_of, mark
-module _ (k a : ℕ) (known : k ≤ right) (h : a < mostOperators) where
-  pub word-inside : wordOf k a < suc right * mostOperators
-  word-inside = omega arith
-
+-- ---- mark
 pub mark-is : {at : ℕ} (t : List ℕ) (k a b : ℕ) → at ≡ wordOf k a → b < mostOperators → set t at (bitOr (getD t at 0) ((1 * 2 ^ b) % 2 ^ 32)) ≡ marked t k a b
 unfolding marked
 mark-is t k a b e h = rw e (ap (λ x. set t (wordOf k a) (bitOr (getD t (wordOf k a) 0) x)) (one-shifted b 32 h))
 
-pub ruleset mark-ways = (word-inside, mark-is, needs)
+pub ruleset mark-ways = (mark-is, needs)
 
 -- ---- take_rule
 module _ {r : Bool} (n k a b : ℕ) (few : n ≤ mostOperators) (s : r ≡ strangeRule n (rule k a b)) (not-strange : r ≡ false) where
