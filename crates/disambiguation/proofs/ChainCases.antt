@@ -30,6 +30,8 @@ chains-hold =
     next (under 0 2, (refl, refl), refl)
     next (under 1 3, (refl, refl), refl)
     next (under 3 0, (refl, refl), refl)
+    next (under 0 4, (refl, refl), refl)
+    next (under 4 0, (refl, refl), refl)
     next (under 0 3, (refl, refl), refl)
     next (under 0 2, (refl, refl), refl)
     next (under 1 3, (refl, refl), refl)

@@ -11,6 +11,10 @@ apart = record { n = 4; bytes = priority ∷ 2 ∷ 3 ∷ priority ∷ 0 ∷ 1 �
 abbrev pub joined : Sheet
 joined = record { n = 4; bytes = priority ∷ 2 ∷ 3 ∷ priority ∷ 0 ∷ 1 ∷ priority ∷ 1 ∷ 2 ∷ [] }
 
+-- from 00 to 04 in four rules, in no order
+abbrev pub steps : Sheet
+steps = record { n = 5; bytes = priority ∷ 3 ∷ 4 ∷ priority ∷ 1 ∷ 2 ∷ priority ∷ 0 ∷ 1 ∷ priority ∷ 2 ∷ 3 ∷ [] }
+
 -- 00 over 01 and 01 over 00
 abbrev pub circle : Sheet
 circle = record { n = 2; bytes = priority ∷ 0 ∷ 1 ∷ priority ∷ 1 ∷ 0 ∷ [] }
@@ -36,13 +40,15 @@ roundBySides = record {
 
 abbrev pub chainCases : List Case
 chainCases =
-    -- through two operators and through three, on both sides; not the other way
+    -- through one operator, through two and through three, on both sides; not the other way
     counted falling (0 ∷ 2 ∷ 0x80 ∷ 0x81 ∷ 2 ∷ 0x82 ∷ 0x83 ∷ []) 2
     ∷ counted falling (2 ∷ 0 ∷ 0x80 ∷ 0x81 ∷ 0 ∷ 0x82 ∷ 0x83 ∷ []) 0
     ∷ counted joined (0 ∷ 3 ∷ 0x80 ∷ 0x81 ∷ 3 ∷ 0x82 ∷ 0x83 ∷ []) 2
     ∷ counted joined (0 ∷ 2 ∷ 0x80 ∷ 0x81 ∷ 2 ∷ 0x82 ∷ 0x83 ∷ []) 2
     ∷ counted joined (1 ∷ 3 ∷ 0x80 ∷ 0x81 ∷ 3 ∷ 0x82 ∷ 0x83 ∷ []) 2
     ∷ counted joined (3 ∷ 0 ∷ 0x80 ∷ 0x81 ∷ 0 ∷ 0x82 ∷ 0x83 ∷ []) 0
+    ∷ counted steps (0 ∷ 4 ∷ 0x80 ∷ 0x81 ∷ 4 ∷ 0x82 ∷ 0x83 ∷ []) 2
+    ∷ counted steps (4 ∷ 0 ∷ 0x80 ∷ 0x81 ∷ 0 ∷ 0x82 ∷ 0x83 ∷ []) 0
     -- without the rule that joins them, none
     ∷ counted apart (0 ∷ 3 ∷ 0x80 ∷ 0x81 ∷ 3 ∷ 0x82 ∷ 0x83 ∷ []) 0
     ∷ counted apart (0 ∷ 2 ∷ 0x80 ∷ 0x81 ∷ 2 ∷ 0x82 ∷ 0x83 ∷ []) 0
