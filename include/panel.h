@@ -36,7 +36,7 @@ enum {
 
 /* The kind of a rule, its first byte; the operators a and b are its second and third. */
 enum panel_rule_kind {
-    PANEL_PRIORITY = 1, /* a over b: b is not the top of a's left operand, nor of its right one */
+    PANEL_PRIORITY = 1, /* a over b, and over all that b is over: none of them is the top of an operand of a */
     PANEL_LEFT = 2,     /* a left b: b is not the top of a's right operand */
     PANEL_RIGHT = 3     /* a right b: b is not the top of a's left operand */
 };

@@ -13,7 +13,7 @@ pub struct Rule {
 }
 
 impl Rule {
-    /// a over b: b is not the top of a's left operand, nor of its right one.
+    /// a over b, and over all that b is over: none of them is the top of an operand of a.
     pub const fn priority(a: u8, b: u8) -> Rule {
         Rule { kind: 1, first: a, second: b }
     }
