@@ -1,17 +1,46 @@
-// Links the proved libraries, target/staticlib/libcapi.a, librule_list.a and libevaluator.a of the repository.
-use std::path::Path;
+//! Links the proved library, libtihvomen.a, which bin/library of the repository makes.
+use std::env;
+use std::path::{absolute, Path, PathBuf};
+use std::process::exit;
+
+const ARCHIVE: &str = "libtihvomen.a";
+const VARIABLE: &str = "TIHVOMEN_LIB_DIR";
+
+/// The folders to look in: the one that the variable names; else where an installed crate and where the repository has it.
+fn folders() -> Vec<PathBuf> {
+    if let Some(named) = env::var_os(VARIABLE).filter(|name| !name.is_empty()) {
+        // A relative path starts at the crate's folder, where cargo runs this; the linker runs elsewhere.
+        return vec![absolute(&named).unwrap_or(named.into())];
+    }
+    // Without symbolic links, so that the folders above are those of the crate itself.
+    let here = PathBuf::from(env::var_os("CARGO_MANIFEST_DIR").expect("cargo names the crate's folder"));
+    let here = here.canonicalize().unwrap_or(here);
+    let mut folders = Vec::new();
+    // bin/library installs the crate there. Anywhere else, the folder three steps up has nothing to do with it.
+    if here.ends_with("share/tihvomen/rust") {
+        folders.push(above(&here, 3).join("lib"));
+    }
+    folders.push(above(&here, 1).join("target/lib"));
+    folders
+}
+
+/// The folder so many steps up.
+fn above(folder: &Path, steps: usize) -> &Path {
+    folder.ancestors().nth(steps).unwrap_or(folder)
+}
 
 fn main() {
-    let root = Path::new(env!("CARGO_MANIFEST_DIR")).join("..");
-    let folder = root.join("target/staticlib");
-    println!("cargo:rustc-link-search=native={}", folder.display());
-    for name in ["capi", "rule_list", "evaluator"] {
-        let library = folder.join(format!("lib{name}.a"));
-        println!("cargo:rerun-if-changed={}", library.display());
-        if !library.exists() {
-            eprintln!("target/staticlib/lib{name}.a is missing: run rt staticlib {name} first");
-            std::process::exit(1);
+    println!("cargo:rerun-if-env-changed={VARIABLE}");
+    let folders = folders();
+    let Some(folder) = folders.iter().find(|folder| folder.join(ARCHIVE).is_file()) else {
+        eprintln!("{ARCHIVE} is not there. Looked in:");
+        for folder in &folders {
+            eprintln!("    {}", folder.display());
         }
-        println!("cargo:rustc-link-lib=static={name}");
-    }
+        eprintln!("Run bin/library in the repository, or set {VARIABLE} to the folder that has it.");
+        exit(1);
+    };
+    println!("cargo:rerun-if-changed={}", folder.join(ARCHIVE).display());
+    println!("cargo:rustc-link-search=native={}", folder.display());
+    println!("cargo:rustc-link-lib=static=tihvomen");
 }

@@ -1,8 +1,8 @@
 //! The condition panel: one operator sheet and sixteen places, each empty or holding one tree.
 //!
-//! The calls are those of the proved libraries `libcapi.a`, `librule_list.a` and `libevaluator.a`, which `rt staticlib`
-//! makes; this crate gives them Rust's habits and adds nothing. Every call takes any bytes and ends. After a refusal
-//! the panel and a lent output are as they were; after success the output past the answer's length is as it was.
+//! The calls are those of the proved library `libtihvomen.a`, which `bin/library` makes; this crate gives them Rust's
+//! habits and adds nothing. Every call takes any bytes and ends. After a refusal the panel and a lent output are as they
+//! were; after success the output past the answer's length is as it was.
 //!
 //! ```
 //! use tihvomen::{Panel, Refusal};
@@ -11,19 +11,37 @@
 //! // Two operators: 01 over 00, each left with itself.
 //! panel.load(2, &[1, 1, 0, 2, 1, 1, 2, 0, 0])?;
 //! panel.put_row(3, &[0x80, 0x00, 0x81, 0x01, 0x82])?;
+//! # #[cfg(feature = "alloc")]
 //! assert_eq!(panel.fetch_record(3)?, [0x00, 0x80, 0x01, 0x81, 0x82]);
 //! assert_eq!(panel.load(1, &[]), Err(Refusal::Double));
 //! # Ok::<(), Refusal>(())
 //! ```
+//!
+//! The crate needs `core` alone. The feature `alloc`, on by default, adds the calls that give a `Vec` or a `String`;
+//! each has a form that writes into a lent output and is there without it.
+#![no_std]
 #![deny(unsafe_code, missing_docs)]
+#![warn(clippy::pedantic)]
 
+#[cfg(feature = "alloc")]
+extern crate alloc;
+
+mod evaluate;
+mod line;
 mod linked;
+#[cfg(feature = "alloc")]
+mod owned;
 mod panel;
+mod record;
 mod refusal;
 mod rule;
 mod sizes;
 
-pub use panel::{Panel, Side};
-pub use refusal::Refusal;
+pub use panel::Panel;
+pub use record::Side;
+pub use refusal::{Refusal, UnknownNumber};
 pub use rule::Rule;
-pub use sizes::{IMAGE_BYTES, MOST_REPLY, MOST_TOKENS, PLACES};
+pub use sizes::{
+    CLOSING, FIRST_READING, IMAGE_BYTES, MOST_LINE, MOST_OPERATORS, MOST_REPLY, MOST_RULES, MOST_TOKENS, OPENING,
+    PLACES,
+};

@@ -1,7 +1,7 @@
 //! The linked functions. Unsafe code stands here and nowhere else.
 //!
-//! A slice goes over as address and length; a Rust slice's address is never null. Sheet, places and the output of a reply have fixed
-//! lengths and go over by address alone. The structs are laid out as in C.
+//! A slice goes over as address and length; a Rust slice's address is never null. Sheet, places and the output of a reply
+//! have fixed lengths and go over by address alone. The structs are laid out as in C.
 #![allow(unsafe_code)]
 use crate::rule::Rule;
 use crate::sizes::{MOST_REPLY, SHEET_WORDS, STORE_BYTES};

@@ -1,8 +1,8 @@
 //! The numbers of a turned-down call, as an enum.
-use std::error::Error;
-use std::fmt;
+use core::error::Error;
+use core::fmt;
 
-/// Why a call was turned down. The value of a case is its number in document 01.
+/// Why a call was turned down. The value of a case is its number; docs/REFERENCE.md, section 4, has them all.
 #[derive(Clone, Copy, Debug, PartialEq, Eq, Hash, PartialOrd, Ord)]
 #[repr(u8)]
 pub enum Refusal {
@@ -57,12 +57,14 @@ impl Refusal {
         Refusal::NoReading,
     ];
 
-    /// The number in document 01.
-    pub fn number(self) -> u8 {
+    /// The number of the refusal, from 1 to 14.
+    #[must_use]
+    pub const fn number(self) -> u8 {
         self as u8
     }
 
-    /// The refusal of a number; none for 0 and for numbers that document 01 does not have.
+    /// The refusal of a number; none for 0, which is success, and for numbers over 14.
+    #[must_use]
     pub fn of_number(number: u8) -> Option<Refusal> {
         Refusal::ALL.into_iter().find(|refusal| refusal.number() == number)
     }
@@ -102,9 +104,34 @@ impl fmt::Display for Refusal {
 
 impl Error for Refusal {}
 
+/// The number of no refusal: 0, which is success, or one over 14.
+#[derive(Clone, Copy, Debug, PartialEq, Eq, Hash)]
+pub struct UnknownNumber(pub u8);
+
+impl fmt::Display for UnknownNumber {
+    fn fmt(&self, to: &mut fmt::Formatter<'_>) -> fmt::Result {
+        write!(to, "{} is the number of no refusal", self.0)
+    }
+}
+
+impl Error for UnknownNumber {}
+
+impl TryFrom<u8> for Refusal {
+    type Error = UnknownNumber;
+
+    /// The refusal of a number.
+    ///
+    /// # Errors
+    ///
+    /// [`UnknownNumber`] for 0, which is success, and for numbers over 14.
+    fn try_from(number: u8) -> Result<Refusal, UnknownNumber> {
+        Refusal::of_number(number).ok_or(UnknownNumber(number))
+    }
+}
+
 #[cfg(test)]
 mod tests {
-    use super::Refusal;
+    use super::{Refusal, UnknownNumber};
 
     #[test]
     fn numbers_go_there_and_back() {
@@ -112,6 +139,7 @@ mod tests {
             let refusal = Refusal::of_number(number);
             assert_eq!(refusal.is_some(), (1..=14).contains(&number));
             assert_eq!(refusal.map_or(number, Refusal::number), number);
+            assert_eq!(Refusal::try_from(number), refusal.ok_or(UnknownNumber(number)));
         }
     }
 }

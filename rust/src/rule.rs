@@ -14,16 +14,19 @@ pub struct Rule {
 
 impl Rule {
     /// a over b, and over all that b is over: none of them is the top of an operand of a.
+    #[must_use]
     pub const fn priority(a: u8, b: u8) -> Rule {
         Rule { kind: 1, first: a, second: b }
     }
 
     /// a left b: b is not the top of a's right operand.
+    #[must_use]
     pub const fn left(a: u8, b: u8) -> Rule {
         Rule { kind: 2, first: a, second: b }
     }
 
     /// a right b: b is not the top of a's left operand.
+    #[must_use]
     pub const fn right(a: u8, b: u8) -> Rule {
         Rule { kind: 3, first: a, second: b }
     }

@@ -1,4 +1,5 @@
 //! Runs of calls from a fresh panel, each with the answer that the papers give: `CALL => NUMBER ANSWER`, in `tests/calls`.
+#![cfg(feature = "alloc")]
 use tihvomen::{Panel, Refusal};
 
 /// Bytes in hexadecimal; `-` is none.

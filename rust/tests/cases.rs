@@ -1,4 +1,5 @@
 //! Document 01's cases, with the chains of priority that document 02 adds, and the calls that give their answers as vectors.
+#![cfg(feature = "alloc")]
 use tihvomen::{Panel, Refusal, Side, IMAGE_BYTES, PLACES};
 
 /// Two operators: 01 over 00, each left with itself.

@@ -1,4 +1,5 @@
 //! Conditions that are run: what each meaning makes of two values, the ends of the range, brackets, depth, refusals.
+#![cfg(feature = "alloc")]
 use tihvomen::{Panel, Refusal, MOST_TOKENS, PLACES};
 
 const LOWEST: i32 = i32::MIN;

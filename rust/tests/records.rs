@@ -2,6 +2,7 @@
 //!
 //! The answers are document 01's: "The yield of a tree is its row", "The conflict count is the number of pairs of a node and a
 //! side", "An operand of a node is handed back as that part of the caller's record", "a node's only tree counts as its left".
+#![cfg(feature = "alloc")]
 use tihvomen::{Panel, Refusal, Side};
 
 /// Sheet A, which excludes L(1,0), R(1,0), R(0,0) and R(1,1).

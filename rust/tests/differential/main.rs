@@ -1,6 +1,8 @@
 //! The library against an independent implementation: the same calls to both, every number and every byte compared.
 //!
 //! The independent side is written from document 01 in the plainest way. It knows nothing of the library's algorithms.
+#![cfg(feature = "alloc")]
+
 mod book;
 mod calls;
 mod chains;
