@@ -4,6 +4,8 @@
 #include "check.h"
 #include "panel_evaluate.h"
 
+#include <string.h>
+
 static uint8_t next_byte(uint32_t *state) {
     *state = *state * 1664525u + 1013904223u;
     return (uint8_t)(*state >> 24);

@@ -1,9 +1,11 @@
 /*
- * Every call of panel.h and panel_evaluate.h once or more, against document 01's cases; lengths of 0 with NULL; numbers
- * that no byte holds. Silent if all is well.
+ * Every call of panel.h and panel_evaluate.h once or more, against the cases of docs/REFERENCE.md, section 11; lengths of
+ * 0 with NULL. Silent if all is well.
  */
 #include "check.h"
 #include "panel_evaluate.h"
+
+#include <string.h>
 
 static const uint8_t sheet_a[] = {1, 1, 0, 2, 1, 1, 2, 0, 0};
 static const uint8_t row[] = {0x20, 0x80, 0x00, 0x81, 0x21, 0x01, 0x82};
@@ -144,33 +146,6 @@ static void check_values(struct panel *p) {
     CHECK(panel_drop(p, 3) == PANEL_ACCEPTED);
 }
 
-/* Places and counts of operators that no byte holds: cut to a byte they would be 0, 1, 2 or 3. */
-static void check_large_numbers(uint8_t *out) {
-    static const unsigned places[] = {16, 255, 256, 256 + 3, 65536, 65536 + 3, 0u - 1};
-    static const unsigned counts[] = {33, 255, 256, 258, 65536, 65536 + 2, 0u - 1};
-    static const struct panel_rule rules[] = {{PANEL_PRIORITY, 1, 0}, {PANEL_LEFT, 1, 1}, {PANEL_LEFT, 0, 0}};
-    struct panel p = PANEL_FRESH;
-    CHECK(panel_load(&p, 2, sheet_a, sizeof sheet_a) == PANEL_ACCEPTED);
-    CHECK(panel_put_row(&p, 0, row, sizeof row) == PANEL_ACCEPTED);
-    CHECK(panel_put_row(&p, 3, row + 1, 3) == PANEL_ACCEPTED);
-    const struct panel before = p;
-    for (size_t i = 0; i < sizeof places / sizeof places[0]; i++) {
-        CHECK(panel_put_row(&p, places[i], row, sizeof row) == PANEL_PLACE);
-        CHECK(panel_put_record(&p, places[i], record, sizeof record) == PANEL_PLACE);
-        CHECK(panel_drop(&p, places[i]) == PANEL_PLACE);
-        CHECK(untouched(panel_fetch_record(&p, places[i], out, 300), PANEL_PLACE, out, 300));
-        CHECK(untouched(panel_fetch_row(&p, places[i], out, 300), PANEL_PLACE, out, 300));
-        CHECK(untouched(panel_image(&p, places[i], out, 300), PANEL_PLACE, out, 300));
-        CHECK(gave(panel_evaluate(&p, places[i], NULL, 0, NULL, 0), PANEL_PLACE, 0));
-    }
-    for (size_t i = 0; i < sizeof counts / sizeof counts[0]; i++) {
-        CHECK(panel_load(&p, counts[i], sheet_a, sizeof sheet_a) == PANEL_OVERSIZE);
-        CHECK(panel_load(&p, counts[i], NULL, 0) == PANEL_OVERSIZE);
-        CHECK(panel_load_rules(&p, counts[i], rules, 3) == PANEL_OVERSIZE);
-    }
-    CHECK(memcmp(&p, &before, sizeof p) == 0);
-}
-
 int main(void) {
     struct panel p;
     uint8_t out[300];
@@ -186,7 +161,6 @@ int main(void) {
     check_operands(&p);
     check_places(&p, out);
     check_values(&p);
-    check_large_numbers(out);
     CHECK(panel_load(&p, 0, NULL, 0) == PANEL_ACCEPTED);
     for (int number = PANEL_ACCEPTED; number <= PANEL_NO_READING; number++)
         CHECK(strncmp(panel_word((enum panel_number)number), "unknown", 7) != 0);

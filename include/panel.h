@@ -1,16 +1,19 @@
 /*
  * The condition panel for C99 and C++: an operator sheet and sixteen places, each empty or holding one tree.
  *
- * Link with target/staticlib/libcapi.a and librule_list.a, which `rt staticlib capi` and `rt staticlib rule_list` make;
- * they need memcpy and memset and nothing else.
+ * To link: `bin/library PREFIX` installs headers and archive, then `cc page.c $(pkg-config --cflags --libs tihvomen)`.
+ * Without PREFIX it makes target/lib/libtihvomen.a alone. The archive is for x86-64 (SSE2 and nothing later), ELF and the
+ * System V calling convention. Its code is position independent. From outside it wants memcpy and memset, nothing else.
+ * The headers are fit for freestanding programs. panel_stack.h has the stack that each call takes.
  *
  * What holds of every call:
- *  - It takes any bytes and ends. It has no state but the panel, and allocates nothing.
+ *  - It takes any bytes and ends. It allocates nothing, and has no state of its own: what it keeps is in the panel.
  *  - It answers a number: 0, or the first refusal that applies, in the order named with the call.
  *  - A place that is no place is refused with 8 and a count of operators over 32 with 1, however large it is.
  *  - After a refusal the panel and the lent output are as they were.
  *  - After success the output past the answer's length is as it was.
- *  - A pointer of length 0 may be NULL. The parts lent to one call must not overlap each other or the panel.
+ *  - A list of length 0 may be lent as NULL. No other pointer may be NULL: no panel, no other list, no output of a reply.
+ *  - What a call only reads may overlap. What it writes must not overlap anything else that is lent to it.
  *
  * A token is one byte: 00 to 1F an operator, 20 and 21 the brackets, 80 to FF a reading. A row is a list of tokens that
  * is one expression. A record lists a tree top first: a reading; or 20 and one tree; or an operator, its left tree, its
@@ -21,18 +24,7 @@
 
 #include "panel_exports.h"
 #include "panel_numbers.h"
-
-#include <string.h>
-
-enum {
-    PANEL_PLACES = 16,                                     /* places 0 to 15 */
-    PANEL_MOST_RULES = 2048,                               /* rules of a sheet */
-    PANEL_MOST_TOKENS = 255,                               /* room for every row and every record */
-    PANEL_IMAGE_BYTES = 1 + PANEL_MOST_TOKENS,             /* the length of an image: a record's length and the record */
-    PANEL_MOST_REPLY = 2 * (1 + PANEL_IMAGE_BYTES),        /* room for every reply to a line: number and answer in digits */
-    PANEL_STORE_BYTES = PANEL_PLACES * PANEL_IMAGE_BYTES,  /* what the places take */
-    PANEL_SHEET_WORDS = 36                                 /* what a sheet takes, in words of 32 bits */
-};
+#include "panel_sizes.h"
 
 /* The kind of a rule, its first byte; the operators a and b are its second and third. */
 enum panel_rule_kind {
@@ -102,11 +94,14 @@ static inline struct panel_answer panel_answered(struct panel_raw_answer raw) {
 
 /* The panel is fresh: no operators, no rules, sixteen empty places. */
 static inline void panel_fresh(struct panel *p) {
-    memset(p, 0, sizeof *p);
+    for (size_t i = 0; i < PANEL_SHEET_WORDS; i++)
+        p->sheet.words[i] = 0;
+    for (size_t i = 0; i < PANEL_STORE_BYTES; i++)
+        p->places[i] = 0;
 }
 
 /* How many operators the sheet in force has. */
-static inline unsigned panel_operators(const struct panel *p) {
+PANEL_NODISCARD static inline unsigned panel_operators(const struct panel *p) {
     return tihvomen_operators(p->sheet.words);
 }
 
@@ -115,7 +110,8 @@ static inline unsigned panel_operators(const struct panel *p) {
  * conflict-free tree of its row under the new one. Then every row of any length over the n operators has exactly one
  * conflict-free tree. Numbers: 1, 2, 3, 4, 5, 11.
  */
-static inline enum panel_number panel_load(struct panel *p, unsigned n, const uint8_t *rules, size_t length) {
+PANEL_NODISCARD static inline enum panel_number panel_load(
+    struct panel *p, unsigned n, const uint8_t *rules, size_t length) {
     return (enum panel_number)tihvomen_load(p->sheet.words, p->places, n, panel_from(rules, length), length);
 }
 
@@ -123,7 +119,7 @@ static inline enum panel_number panel_load(struct panel *p, unsigned n, const ui
  * The same with the rules as a list of records: the same number and the same panel as with their bytes. Numbers: 1, 3, 4,
  * 5, 11.
  */
-static inline enum panel_number panel_load_rules(
+PANEL_NODISCARD static inline enum panel_number panel_load_rules(
     struct panel *p, unsigned n, const struct panel_rule *rules, size_t count) {
     struct panel_rule none = {0, 0, 0};
     const struct panel_rule *from = count == 0 ? &none : rules;
@@ -131,40 +127,45 @@ static inline enum panel_number panel_load_rules(
 }
 
 /* The place holds the conflict-free tree of the row. Numbers: 8, 1, 3, 6. */
-static inline enum panel_number panel_put_row(struct panel *p, unsigned place, const uint8_t *row, size_t length) {
+PANEL_NODISCARD static inline enum panel_number panel_put_row(
+    struct panel *p, unsigned place, const uint8_t *row, size_t length) {
     return (enum panel_number)tihvomen_put_row(p->sheet.words, p->places, place, panel_from(row, length), length);
 }
 
 /* The place holds the conflict-free tree of the record's row. Numbers: 8, 1, 3, 7, 1. */
-static inline enum panel_number panel_put_record(struct panel *p, unsigned place, const uint8_t *record, size_t length) {
+PANEL_NODISCARD static inline enum panel_number panel_put_record(
+    struct panel *p, unsigned place, const uint8_t *record, size_t length) {
     return (enum panel_number)tihvomen_put_record(p->sheet.words, p->places, place, panel_from(record, length), length);
 }
 
 /* The place is empty afterwards. Numbers: 8, 9. */
-static inline enum panel_number panel_drop(struct panel *p, unsigned place) {
+PANEL_NODISCARD static inline enum panel_number panel_drop(struct panel *p, unsigned place) {
     return (enum panel_number)tihvomen_drop(p->places, place);
 }
 
 /* Writes the record of the tree that the place holds. Numbers: 8, 9, 10. */
-static inline struct panel_answer panel_fetch_record(const struct panel *p, unsigned place, uint8_t *out, size_t room) {
+PANEL_NODISCARD static inline struct panel_answer panel_fetch_record(
+    const struct panel *p, unsigned place, uint8_t *out, size_t room) {
     uint8_t spare = 0;
     return panel_answered(tihvomen_fetch_record(p->places, place, panel_into(out, room, &spare), room));
 }
 
 /* Writes the row of the tree that the place holds: the row last put there. Numbers: 8, 9, 10. */
-static inline struct panel_answer panel_fetch_row(const struct panel *p, unsigned place, uint8_t *out, size_t room) {
+PANEL_NODISCARD static inline struct panel_answer panel_fetch_row(
+    const struct panel *p, unsigned place, uint8_t *out, size_t room) {
     uint8_t spare = 0;
     return panel_answered(tihvomen_fetch_row(p->sheet.words, p->places, place, panel_into(out, room, &spare), room));
 }
 
 /* Writes 256 bytes: record length, record, then 00; all 00 when the place is empty. Numbers: 8, 10. */
-static inline struct panel_answer panel_image(const struct panel *p, unsigned place, uint8_t *out, size_t room) {
+PANEL_NODISCARD static inline struct panel_answer panel_image(
+    const struct panel *p, unsigned place, uint8_t *out, size_t room) {
     uint8_t spare = 0;
     return panel_answered(tihvomen_image(p->places, place, panel_into(out, room, &spare), room));
 }
 
 /* Writes the record of the row's conflict-free tree. Numbers: 1, 3, 6, 10. */
-static inline struct panel_answer panel_build(
+PANEL_NODISCARD static inline struct panel_answer panel_build(
     const struct panel *p, const uint8_t *row, size_t length, uint8_t *out, size_t room) {
     uint8_t spare = 0;
     const uint8_t *from = panel_from(row, length);
@@ -175,7 +176,7 @@ static inline struct panel_answer panel_build(
  * Writes the record of the conflict-free tree of the record's row; it is as long as the record. Two records repair to
  * the same bytes exactly when their rows are the same. Numbers: 1, 3, 7, 1, 10.
  */
-static inline struct panel_answer panel_repair(
+PANEL_NODISCARD static inline struct panel_answer panel_repair(
     const struct panel *p, const uint8_t *record, size_t length, uint8_t *out, size_t room) {
     uint8_t spare = 0;
     const uint8_t *from = panel_from(record, length);
@@ -183,7 +184,7 @@ static inline struct panel_answer panel_repair(
 }
 
 /* Writes the row of the record's tree. Numbers: 1, 3, 7, 1, 10. */
-static inline struct panel_answer panel_yield(
+PANEL_NODISCARD static inline struct panel_answer panel_yield(
     const struct panel *p, const uint8_t *record, size_t length, uint8_t *out, size_t room) {
     uint8_t spare = 0;
     const uint8_t *from = panel_from(record, length);
@@ -195,7 +196,7 @@ static inline struct panel_answer panel_yield(
  * brackets are taken out. No other row that means the same is as short. It has at most as many tokens as the record's
  * row. Numbers: 1, 3, 7, 1, 10.
  */
-static inline struct panel_answer panel_shortest_row(
+PANEL_NODISCARD static inline struct panel_answer panel_shortest_row(
     const struct panel *p, const uint8_t *record, size_t length, uint8_t *out, size_t room) {
     uint8_t spare = 0;
     const uint8_t *from = panel_from(record, length);
@@ -203,7 +204,8 @@ static inline struct panel_answer panel_shortest_row(
 }
 
 /* Counts the pairs of a node and a side in the record's tree that show an excluded pattern. Numbers: 1, 3, 7, 1. */
-static inline struct panel_judgement panel_judge(const struct panel *p, const uint8_t *record, size_t length) {
+PANEL_NODISCARD static inline struct panel_judgement panel_judge(
+    const struct panel *p, const uint8_t *record, size_t length) {
     struct panel_raw_judgement raw = tihvomen_judge(p->sheet.words, panel_from(record, length), length);
     struct panel_judgement judgement;
     judgement.number = (enum panel_number)raw.number;
@@ -213,13 +215,15 @@ static inline struct panel_judgement panel_judge(const struct panel *p, const ui
 
 /*
  * Finds the record of an operand of the top node: that part of the caller's record, not copied. A bracket's tree counts
- * as its left operand. Numbers: 1, 3, 7, 1.
+ * as its left operand. A side that is neither of the two has none. Numbers: 1, 3, 7, 1.
  */
-static inline struct panel_part panel_operand(
+PANEL_NODISCARD static inline struct panel_part panel_operand(
     const struct panel *p, const uint8_t *record, size_t length, enum panel_side side) {
     const uint8_t *from = panel_from(record, length);
-    struct panel_raw_part part = tihvomen_operand(p->sheet.words, from, length, side == PANEL_RIGHT_SIDE);
+    struct panel_raw_part part = {0, 0};
     struct panel_part operand;
+    if (side == PANEL_LEFT_SIDE || side == PANEL_RIGHT_SIDE)
+        part = tihvomen_operand(p->sheet.words, from, length, side == PANEL_RIGHT_SIDE);
     operand.number = (enum panel_number)tihvomen_operand_number(p->sheet.words, from, length);
     operand.offset = part.from;
     operand.length = part.to - part.from;
@@ -231,7 +235,8 @@ static inline struct panel_part panel_operand(
  * success the answer, in digits, without a line end. Answers the reply's length. The output must have room for
  * PANEL_MOST_REPLY characters.
  */
-static inline size_t panel_reply(struct panel *p, const char *line, size_t length, char out[PANEL_MOST_REPLY]) {
+PANEL_NODISCARD static inline size_t panel_reply(
+    struct panel *p, const char *line, size_t length, char out[PANEL_MOST_REPLY]) {
     const uint8_t *from = panel_from((const uint8_t *)line, length);
     return tihvomen_reply(p->sheet.words, p->places, from, length, (uint8_t *)out);
 }

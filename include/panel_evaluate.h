@@ -1,8 +1,6 @@
 /*
- * Running a condition, for C99 and C++: the value of the tree that a place holds.
- *
- * Link with target/staticlib/libevaluator.a too, which `rt staticlib evaluator` makes. What panel.h says of every call
- * holds of this one.
+ * Running a condition, for C99 and C++: the value of the tree that a place holds. What panel.h says of every call, and
+ * of the archive, holds of this one.
  */
 #ifndef TIHVOMEN_PANEL_EVALUATE_H
 #define TIHVOMEN_PANEL_EVALUATE_H
@@ -32,7 +30,7 @@ struct panel_value {
 extern "C" {
 #endif
 
-/* The function of libevaluator.a, in the manner of panel_exports.h. */
+/* The archive's function, in the manner of panel_exports.h. */
 struct panel_raw_value {
     uint8_t number;
     int32_t value;
@@ -52,7 +50,7 @@ struct panel_raw_value tihvomen_evaluate(
  * pass on what is inside them. Every operator of the tree must have a meaning and every reading a value, even where the
  * rest alone would settle the answer. Numbers: 8, 9, 13, 14.
  */
-static inline struct panel_value panel_evaluate(
+PANEL_NODISCARD static inline struct panel_value panel_evaluate(
     const struct panel *p, unsigned place, const uint8_t *meanings, size_t meaning_count,
     const int32_t *readings, size_t reading_count) {
     int32_t none = 0;

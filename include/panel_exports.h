@@ -1,6 +1,6 @@
 /*
- * The functions of libcapi.a and librule_list.a, as the library has them. panel.h has a call for each that takes the
- * panel apart; use those. A list is two arguments, address and length, and the address is never NULL here. `sheet` is
+ * The functions of libtihvomen.a, as the archive has them. panel.h has a call for each that takes the panel apart; use
+ * those. A list is two arguments, address and length, and the address is never NULL here. `sheet` is
  * PANEL_SHEET_WORDS words, `places` PANEL_STORE_BYTES bytes, the output of a reply PANEL_MOST_REPLY bytes. A refused
  * load leaves sheet and places as they were.
  */

@@ -2,6 +2,15 @@
 #ifndef TIHVOMEN_PANEL_NUMBERS_H
 #define TIHVOMEN_PANEL_NUMBERS_H
 
+/* Stands before a call whose answer is to be looked at: a compiler that can warns where it is not. */
+#if (defined(__cplusplus) && __cplusplus >= 201703L) || (defined(__STDC_VERSION__) && __STDC_VERSION__ >= 202311L)
+#define PANEL_NODISCARD [[nodiscard]]
+#elif defined(__GNUC__)
+#define PANEL_NODISCARD __attribute__((warn_unused_result))
+#else
+#define PANEL_NODISCARD
+#endif
+
 /* Each number is given under its condition and under nothing else. */
 enum panel_number {
     PANEL_ACCEPTED = 0,
@@ -35,7 +44,7 @@ enum panel_number {
     PANEL_NO_READING = 14
 };
 
-/* What a number says: document 01's word, then a sentence without a full stop. */
+/* What a number says: its word, then a sentence without a full stop. */
 static inline const char *panel_word(enum panel_number number) {
     switch (number) {
     case PANEL_ACCEPTED: return "accepted";

@@ -1,0 +1,221 @@
+/*
+ * The stack that each call takes, measured on a painted stack of its own over the deepest lists and over random ones.
+ * Prints a table, and fails if a call takes more than panel_stack.h says, or much less. Link with -z now: a function that
+ * is looked up when it is first called takes stack for that.
+ */
+#include "painted_stack.h"
+
+#include "deep_lists.h"
+#include "panel_evaluate.h"
+#include "panel_stack.h"
+
+#include <stdio.h>
+
+enum { ROUNDING = 128, SLACK = 512, RANDOM_LISTS = 400 };
+
+/* What the calls are lent. */
+static struct panel p;
+static struct list lent, rules;
+static struct panel_rule rule_list[PANEL_MOST_RULES + 1];
+static char line[PANEL_MOST_LINE + 3];
+static size_t line_length;
+static uint8_t out[PANEL_MOST_REPLY];
+static unsigned place;
+static enum panel_side side;
+static volatile size_t answer;
+
+static void do_nothing(void) { answer = 0; }
+static void do_fresh(void) { panel_fresh(&p); }
+static void do_operators(void) { answer = panel_operators(&p); }
+static void do_load(void) { answer = panel_load(&p, PANEL_MOST_OPERATORS, rules.bytes, rules.length); }
+static void do_load_rules(void) { answer = panel_load_rules(&p, PANEL_MOST_OPERATORS, rule_list, rules.length / 3); }
+static void do_put_row(void) { answer = panel_put_row(&p, place, lent.bytes, lent.length); }
+static void do_put_record(void) { answer = panel_put_record(&p, place, lent.bytes, lent.length); }
+static void do_drop(void) { answer = panel_drop(&p, place); }
+static void do_fetch_record(void) { answer = panel_fetch_record(&p, place, out, sizeof out).length; }
+static void do_fetch_row(void) { answer = panel_fetch_row(&p, place, out, sizeof out).length; }
+static void do_image(void) { answer = panel_image(&p, place, out, sizeof out).length; }
+static void do_build(void) { answer = panel_build(&p, lent.bytes, lent.length, out, sizeof out).length; }
+static void do_repair(void) { answer = panel_repair(&p, lent.bytes, lent.length, out, sizeof out).length; }
+static void do_yield(void) { answer = panel_yield(&p, lent.bytes, lent.length, out, sizeof out).length; }
+static void do_shortest_row(void) { answer = panel_shortest_row(&p, lent.bytes, lent.length, out, sizeof out).length; }
+static void do_judge(void) { answer = panel_judge(&p, lent.bytes, lent.length).count; }
+static void do_operand(void) { answer = panel_operand(&p, lent.bytes, lent.length, side).length; }
+static void do_reply(void) { answer = panel_reply(&p, line, line_length, (char *)out); }
+
+static void do_evaluate(void) {
+    static const uint8_t meanings[] = {1, 2, 3, 4, 5, 6, 7, 8, 9, 1, 2, 3, 4, 5, 6, 7,
+                                       8, 9, 1, 2, 3, 4, 5, 6, 7, 8, 9, 1, 2, 3, 4, 5};
+    static const int32_t readings[128] = {INT32_MIN, INT32_MAX, -1, 0, 1};
+    answer = (size_t)panel_evaluate(&p, place, meanings, sizeof meanings, readings, 128).number;
+}
+
+/* What a call looks at beside the panel. */
+enum lends { NOTHING, RULES, LIST, LINE };
+
+static struct call {
+    const char *name;
+    void (*run)(void);
+    enum lends lends;
+    size_t stated, most;
+} calls[] = {
+    {"fresh", do_fresh, NOTHING, PANEL_STACK_FRESH, 0},
+    {"operators", do_operators, NOTHING, PANEL_STACK_OPERATORS, 0},
+    {"load", do_load, RULES, PANEL_STACK_LOAD, 0},
+    {"load_rules", do_load_rules, RULES, PANEL_STACK_LOAD_RULES, 0},
+    {"put_row", do_put_row, LIST, PANEL_STACK_PUT_ROW, 0},
+    {"put_record", do_put_record, LIST, PANEL_STACK_PUT_RECORD, 0},
+    {"drop", do_drop, NOTHING, PANEL_STACK_DROP, 0},
+    {"fetch_record", do_fetch_record, NOTHING, PANEL_STACK_FETCH_RECORD, 0},
+    {"fetch_row", do_fetch_row, NOTHING, PANEL_STACK_FETCH_ROW, 0},
+    {"image", do_image, NOTHING, PANEL_STACK_IMAGE, 0},
+    {"build", do_build, LIST, PANEL_STACK_BUILD, 0},
+    {"repair", do_repair, LIST, PANEL_STACK_REPAIR, 0},
+    {"yield", do_yield, LIST, PANEL_STACK_YIELD, 0},
+    {"shortest_row", do_shortest_row, LIST, PANEL_STACK_SHORTEST_ROW, 0},
+    {"judge", do_judge, LIST, PANEL_STACK_JUDGE, 0},
+    {"operand", do_operand, LIST, PANEL_STACK_OPERAND, 0},
+    {"reply", do_reply, LINE, PANEL_STACK_REPLY, 0},
+    {"evaluate", do_evaluate, NOTHING, PANEL_STACK_EVALUATE, 0},
+};
+enum { CALLS = sizeof calls / sizeof calls[0] };
+
+/* Measures the calls that look at this, each from the same panel. */
+static void measure(enum lends lends) {
+    const size_t empty = bytes_taken_by(do_nothing);
+    const struct panel before = p;
+    for (size_t i = 0; i < CALLS; i++) {
+        if (calls[i].lends != lends)
+            continue;
+        size_t taken = bytes_taken_by(calls[i].run) - empty;
+        if (taken > calls[i].most)
+            calls[i].most = taken;
+        p = before;
+    }
+}
+
+static void add_digits(uint8_t byte) {
+    static const char digits[] = "0123456789abcdef";
+    if (line_length + 2 <= sizeof line) {
+        line[line_length++] = digits[byte >> 4];
+        line[line_length++] = digits[byte & 15];
+    }
+}
+
+/* Measures the reply to a line: its kind, a byte where the kind has one, and a list. */
+static void measure_line(uint8_t kind, bool has_byte, uint8_t byte, const struct list *list) {
+    line_length = 0;
+    add_digits(kind);
+    if (has_byte)
+        add_digits(byte);
+    for (size_t i = 0; i < list->length; i++)
+        add_digits(list->bytes[i]);
+    measure(LINE);
+}
+
+/* All calls on this panel with this list, but for loads. */
+static void measure_list(void) {
+    static const struct list nothing = {0, {0}};
+    measure(NOTHING);
+    for (int which = 0; which < 2; which++) {
+        side = which == 0 ? PANEL_LEFT_SIDE : PANEL_RIGHT_SIDE;
+        measure(LIST);
+    }
+    for (uint8_t kind = 0; kind <= 10; kind++) {
+        measure_line(kind, kind != 7 && kind != 8, (uint8_t)place, &lent);
+        measure_line(kind, true, (uint8_t)place, &nothing);
+    }
+}
+
+/* The loads of 2,048 rules on this panel. */
+static void measure_loads(void) {
+    for (int sheet = 0; sheet < SHEETS; sheet++)
+        for (size_t count = PANEL_MOST_RULES; count <= PANEL_MOST_RULES + 1; count++) {
+            make_rules(&rules, sheet, count);
+            for (size_t i = 0; i < count; i++) {
+                const uint8_t *rule = rules.bytes + 3 * i;
+                rule_list[i].kind = rule[0];
+                rule_list[i].first = rule[1];
+                rule_list[i].second = rule[2];
+            }
+            measure(RULES);
+            measure_line(1, true, PANEL_MOST_OPERATORS, &rules);
+        }
+}
+
+/* Every place of the panel gets the list: by a call, or as bytes that no call puts there. */
+static bool fill(bool by_call) {
+    size_t length = lent.length < PANEL_MOST_TOKENS ? lent.length : PANEL_MOST_TOKENS;
+    for (unsigned i = 0; i < PANEL_PLACES; i++)
+        if (!by_call) {
+            p.places[i * PANEL_IMAGE_BYTES] = (uint8_t)length;
+            memcpy(p.places + i * PANEL_IMAGE_BYTES + 1, lent.bytes, length);
+        } else if (panel_put_row(&p, i, lent.bytes, lent.length) != PANEL_ACCEPTED &&
+                   panel_put_record(&p, i, lent.bytes, lent.length) != PANEL_ACCEPTED) {
+            return false;
+        }
+    return true;
+}
+
+/* The list on panels with this sheet that hold it everywhere, and with loads if it is one of the deepest. */
+static void measure_on(const struct panel *sheet, bool deepest) {
+    for (int by_call = 0; by_call < 2; by_call++) {
+        p = *sheet;
+        place = below(PANEL_PLACES);
+        if (!fill(by_call != 0))
+            continue;
+        measure_list();
+        if (deepest)
+            measure_loads();
+    }
+}
+
+static bool measure_all(void) {
+    static const char *const letters[] = {"L", "R", "B", "LR", "LB", "RB", "LRB", "BBL", "BBR", "?"};
+    static const size_t nodes[] = {126, 127, 128, 84, 254};
+    static const uint8_t parts[][3] = {
+        {0x00, 0x00, 0x00}, {0x20, 0x20, 0x20}, {0x80, 0x80, 0x80}, {0x00, 0x20, 0x00}, {0x20, 0x80, 0x00},
+        {0x80, 0x00, 0x20}, {0x00, 0x80, 0x20}, {0x20, 0x00, 0x80}, {0x1F, 0x1E, 0x1D}, {0x20, 0x80, 0x21}};
+    for (int which = ALL_LEFT; which <= CHAIN; which++) {
+        struct panel sheet = PANEL_FRESH;
+        struct list record;
+        make_rules(&rules, which, PANEL_MOST_RULES);
+        if (panel_load(&sheet, PANEL_MOST_OPERATORS, rules.bytes, rules.length) != PANEL_ACCEPTED)
+            return false;
+        for (size_t i = 0; i < sizeof letters / sizeof letters[0] * 10; i++) {
+            make_spine(&record, letters[i / 10], nodes[i / 2 % 5], i % 2 == 0);
+            lent = record;
+            measure_on(&sheet, true);
+            make_row(&lent, &sheet, &record);
+            measure_on(&sheet, i % 2 == 0);
+        }
+        for (size_t i = 0; i < sizeof parts / sizeof parts[0]; i++)
+            for (size_t length = 254; length <= 256; length++) {
+                make_repeated(&lent, parts[i], 3, length);
+                measure_on(&sheet, length == 255);
+            }
+        for (int i = 0; i < RANDOM_LISTS; i++) {
+            make_spine(&record, "?", below(160), false);
+            make_row(&lent, &sheet, &record);
+            if (i % 2 == 0)
+                lent = record;
+            damage(&lent);
+            measure_on(&sheet, i % 16 == 0);
+        }
+    }
+    return true;
+}
+
+int main(void) {
+    bool wrong = !measure_all();
+    printf("%-14s %8s %8s\n", "call", "bytes", "stated");
+    for (size_t i = 0; i < CALLS; i++) {
+        const struct call *call = &calls[i];
+        bool more = call->most > call->stated;
+        bool less = call->stated > call->most + SLACK && 4 * call->stated > 5 * call->most;
+        const char *verdict = more ? "  too little" : less ? "  too much" : "";
+        printf("%-14s %8zu %8zu%s\n", call->name, call->most, call->stated, verdict);
+        wrong = wrong || more || less || call->stated % ROUNDING != 0;
+    }
+    return wrong;
+}

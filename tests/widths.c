@@ -1,0 +1,109 @@
+/*
+ * Numbers that no byte holds, for every call that takes a place or a count of operators: cut to a byte they would be good
+ * ones. Sides that are none, and the ends of the sizes. Silent if all is well.
+ */
+#include "check.h"
+#include "panel_evaluate.h"
+
+#include <limits.h>
+#include <string.h>
+
+static const uint8_t sheet_a[] = {1, 1, 0, 2, 1, 1, 2, 0, 0};
+static const uint8_t row[] = {0x20, 0x80, 0x00, 0x81, 0x21, 0x01, 0x82};
+static const uint8_t record[] = {0x01, 0x20, 0x00, 0x80, 0x81, 0x82};
+static uint8_t out[300];
+
+/* A refusal with this number, after which the output is as it was. */
+static bool refused(struct panel_answer answer, enum panel_number number) {
+    for (size_t i = 0; i < sizeof out; i++)
+        if (out[i] != 0xEE)
+            return false;
+    return answer.number == number && answer.length == 0;
+}
+
+/* A panel with sheet A, and trees at the places 0 and 3. */
+static struct panel filled(void) {
+    struct panel p = PANEL_FRESH;
+    CHECK(panel_load(&p, 2, sheet_a, sizeof sheet_a) == PANEL_ACCEPTED);
+    CHECK(panel_put_row(&p, 0, row, sizeof row) == PANEL_ACCEPTED);
+    CHECK(panel_put_row(&p, 3, row + 1, 3) == PANEL_ACCEPTED);
+    return p;
+}
+
+static void check_places(void) {
+    static const unsigned places[] = {16, 255, 256, 259, 65536, 65536 + 3, INT_MAX, INT_MAX + 1u, 0u - 256, UINT_MAX};
+    static const uint8_t meanings[] = {PANEL_SUM, PANEL_SUM};
+    static const int32_t readings[] = {1, 2, 3};
+    struct panel p = filled();
+    const struct panel before = p;
+    for (size_t i = 0; i < sizeof places / sizeof places[0]; i++) {
+        struct panel_value evaluated = panel_evaluate(&p, places[i], meanings, 2, readings, 3);
+        CHECK(evaluated.number == PANEL_PLACE && evaluated.value == 0);
+        CHECK(panel_put_row(&p, places[i], row, sizeof row) == PANEL_PLACE);
+        CHECK(panel_put_record(&p, places[i], record, sizeof record) == PANEL_PLACE);
+        CHECK(panel_drop(&p, places[i]) == PANEL_PLACE);
+        CHECK(refused(panel_fetch_record(&p, places[i], out, sizeof out), PANEL_PLACE));
+        CHECK(refused(panel_fetch_row(&p, places[i], out, sizeof out), PANEL_PLACE));
+        CHECK(refused(panel_image(&p, places[i], out, sizeof out), PANEL_PLACE));
+    }
+    CHECK(memcmp(&p, &before, sizeof p) == 0);
+}
+
+static void check_counts(void) {
+    static const unsigned counts[] = {33, 255, 256, 258, 65536, 65536 + 2, INT_MAX, INT_MAX + 1u, 0u - 254, UINT_MAX};
+    static const struct panel_rule rules[] = {{PANEL_PRIORITY, 1, 0}, {PANEL_LEFT, 1, 1}, {PANEL_LEFT, 0, 0}};
+    struct panel p = filled();
+    const struct panel before = p;
+    for (size_t i = 0; i < sizeof counts / sizeof counts[0]; i++) {
+        CHECK(panel_load(&p, counts[i], sheet_a, sizeof sheet_a) == PANEL_OVERSIZE);
+        CHECK(panel_load(&p, counts[i], NULL, 0) == PANEL_OVERSIZE);
+        CHECK(panel_load_rules(&p, counts[i], rules, 3) == PANEL_OVERSIZE);
+        CHECK(panel_load_rules(&p, counts[i], NULL, 0) == PANEL_OVERSIZE);
+    }
+    CHECK(panel_load(&p, PANEL_MOST_OPERATORS, NULL, 0) == PANEL_DOUBLE);
+    CHECK(panel_load(&p, PANEL_MOST_OPERATORS + 1, NULL, 0) == PANEL_OVERSIZE);
+    CHECK(memcmp(&p, &before, sizeof p) == 0);
+}
+
+/* C++ has no values for a side beyond the two. */
+#ifndef __cplusplus
+static void check_sides(void) {
+    static const int sides[] = {2, -1, 255, 256, 257, INT_MIN};
+    const struct panel p = filled();
+    for (size_t i = 0; i < sizeof sides / sizeof sides[0]; i++) {
+        struct panel_part good = panel_operand(&p, record, sizeof record, (enum panel_side)sides[i]);
+        struct panel_part cut = panel_operand(&p, record, sizeof record - 1, (enum panel_side)sides[i]);
+        CHECK(good.number == PANEL_ACCEPTED && good.offset == 0 && good.length == 0);
+        CHECK(cut.number == PANEL_NO_TREE && cut.offset == 0 && cut.length == 0);
+    }
+}
+#else
+static void check_sides(void) {}
+#endif
+
+/* The longest line is looked at, and one of a character more is not. */
+static void check_lines(void) {
+    static char line[PANEL_MOST_LINE + 1];
+    struct panel p = PANEL_FRESH;
+    char reply[PANEL_MOST_REPLY];
+    memset(line, '0', sizeof line);
+    CHECK(PANEL_MOST_LINE == 12292);
+    CHECK(panel_reply(&p, line, PANEL_MOST_LINE, reply) == 2 && memcmp(reply, "0c", 2) == 0);
+    CHECK(panel_reply(&p, line, PANEL_MOST_LINE + 1, reply) == 2 && memcmp(reply, "01", 2) == 0);
+}
+
+static void check_version(void) {
+    char text[32];
+    snprintf(text, sizeof text, "%d.%d.%d", PANEL_VERSION_MAJOR, PANEL_VERSION_MINOR, PANEL_VERSION_PATCH);
+    CHECK(strcmp(text, PANEL_VERSION) == 0);
+}
+
+int main(void) {
+    memset(out, 0xEE, sizeof out);
+    check_places();
+    check_counts();
+    check_sides();
+    check_lines();
+    check_version();
+    return failures != 0;
+}
