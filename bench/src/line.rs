@@ -1,4 +1,4 @@
-//! Lines of hexadecimal, as document 01 has them: a frame in, a reply out.
+//! Lines of hexadecimal, as docs/REFERENCE.md, section 8 has them: a frame in, a reply out.
 use crate::fast::{Answer, Panel};
 
 /// The most characters of a line that is read.

@@ -113,7 +113,7 @@ fn small_sheets_agree() {
     }
 }
 
-/// The run that document 01 prints, and lines of a wrong length.
+/// The listing of docs/REFERENCE.md, section 8, and lines of a wrong length.
 #[test]
 fn lines_are_answered() {
     let run = "0102010100020101020000 02038000810182 0403 0304 0102010001020101020000 0403";

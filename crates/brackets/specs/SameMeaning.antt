@@ -1,4 +1,4 @@
--- Document 02, W1: rows that mean the same, and the shortest of them. Assumes nothing.
+-- Rows that mean the same, and the shortest of them (docs/REFERENCE.md, section 6). Assumes nothing.
 use Prim.Native.Nat.{ℕ, _≤_}
 use mathlib.Core.Path.{_≡_}
 use mathlib.Core.List.{List}

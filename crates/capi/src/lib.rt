@@ -12,7 +12,7 @@ use record::Judgement;
 use record::operands::Part;
 use sheet::layout::SHEET_WORDS;
 
-// The count of operators of the sheet in force, document 01's n.
+// The count of operators of the sheet in force, n.
 #[no_mangle]
 pub extern "C" fn tihvomen_operators(sheet: &[u32; SHEET_WORDS]) -> u8
     ensures { λ r. ⌜ r ≡ operatorsOf (now (sheet .entry)) .count ⌝ }

@@ -1,4 +1,4 @@
--- Document 01's cases, and the cases against misreadings, hold of the definitions, by computation. Assumes nothing.
+-- The cases of docs/REFERENCE.md, section 11, and the cases against misreadings, hold of the definitions, by computation. Assumes nothing.
 use mathlib.Core.Path.{refl}
 use Rattle.expression.specs.Lists.{All}
 use Rattle.expression.specs.Token.{class}

@@ -1,4 +1,4 @@
--- Document 01's marked cases and case 13, with document 02's chains of priority, as one table of what is given and what is answered. Assumes nothing.
+-- The cases 1 to 13 of docs/REFERENCE.md, section 11, as one table of what is given and what is answered. Assumes nothing.
 use Prim.Native.Nat.{ℕ}
 use mathlib.Core.Path.{_≡_}
 use mathlib.Core.List.{List, [], _∷_, _++_}

@@ -1,4 +1,4 @@
--- Small sheets and trees, each of which a misreading of document 01 would answer otherwise. Assumes nothing.
+-- Small sheets and trees, each of which a misreading of docs/REFERENCE.md, section 3, would answer otherwise. Assumes nothing.
 use mathlib.Core.List.{List, [], _∷_}
 use Rattle.expression.specs.Refusal.{accepted, double}
 use Rattle.disambiguation.specs.Rules.{priority, left, right}

@@ -1,4 +1,4 @@
--- The checks of a sheet whose rules come in bytes, or as a list of records, in document 01's order; 11 comes after them. Assumes nothing.
+-- The checks of a sheet whose rules come in bytes, or as a list of records, in the order of docs/REFERENCE.md, section 4; 11 comes after them. Assumes nothing.
 use Prim.Native.Nat.{ℕ, _%_}
 use mathlib.Core.Bool.{Bool, not, _||_}
 use mathlib.Core.List.{List, [], _∷_, _++_}

@@ -1,4 +1,4 @@
--- Document 02's meanings of operators, over the integers. Assumes nothing.
+-- The meanings of operators (docs/REFERENCE.md, section 7), over the integers. Assumes nothing.
 use Prim.Native.Nat.{ℕ, zero, suc}
 use mathlib.Core.Bool.{Bool, true, false, _||_, _&&_, cond}
 use mathlib.Core.Option.{Option, none, some}

@@ -1,4 +1,4 @@
-// The meanings of operators, by document 02's numbers. Zero is false, all else is true; a truth answer is 0 or 1.
+// The meanings of operators, by their numbers (docs/REFERENCE.md, section 7). Zero is false, all else is true; a truth answer is 0 or 1.
 ghost use mathlib.Core.Path.{_≡_};
 ghost use Rattle.evaluator.specs.Meanings.{isTrue, truth, Or, And, Less, AtMost, Equal, Smaller, Larger, applied, meant, worked, isMissing};
 use crate::ends;

@@ -1,4 +1,4 @@
--- Tokens are one expression by document 01's grammar exactly if some tree over the operators yields them. Assumes nothing.
+-- Tokens are one expression by the grammar exactly if some tree over the operators yields them. Assumes nothing.
 use Prim.Native.Nat.{ℕ}
 use mathlib.Core.Path.{_≡_, refl, ap, sym, _∙_}
 use mathlib.Core.Logic.{_↔_}

@@ -1,4 +1,4 @@
--- The checks of a row and of a record, in document 01's order. Assumes nothing.
+-- The checks of a row and of a record, in the order of docs/REFERENCE.md, section 4. Assumes nothing.
 use Prim.Native.Nat.{ℕ}
 use mathlib.Core.Bool.{Bool, true, false, not}
 use mathlib.Core.Option.{Option, none, some}

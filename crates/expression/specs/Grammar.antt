@@ -1,4 +1,4 @@
--- Rows: document 01's grammar of expressions. Assumes nothing.
+-- Rows: the grammar of expressions (docs/REFERENCE.md, section 1). Assumes nothing.
 use Prim.Native.Nat.{ℕ}
 use mathlib.Core.Path.{_≡_}
 use mathlib.Core.List.{List, [], _∷_, _++_}

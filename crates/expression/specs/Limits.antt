@@ -1,4 +1,4 @@
--- The lengths and counts that document 01 fixes, each named once. Assumes nothing.
+-- The lengths and counts of docs/REFERENCE.md, section 4, each named once. Assumes nothing.
 use Prim.Native.Nat.{ℕ, _*_}
 
 -- a sheet's operators: the count n is 0 to 32

@@ -1,4 +1,4 @@
--- The numbers of document 01's table of turned-down calls, those that document 02 adds to it, and "the first that applies". Assumes nothing.
+-- The numbers of turned-down calls (docs/REFERENCE.md, section 4), and "the first that applies". Assumes nothing.
 use Prim.Native.Nat.{ℕ}
 use mathlib.Core.Path.{_≡_}
 use mathlib.Core.Bool.{Bool, false, cond}
@@ -24,11 +24,11 @@ dead = 4
 abbrev pub double : ℕ
 double = 5
 
--- document 01's "no row"
+-- "no row"
 abbrev pub noRow : ℕ
 noRow = 6
 
--- document 01's "no tree"
+-- "no tree"
 abbrev pub noTree : ℕ
 noTree = 7
 
@@ -41,14 +41,14 @@ empty = 9
 abbrev pub short : ℕ
 short = 10
 
--- document 01's "in use"
+-- "in use"
 abbrev pub inUse : ℕ
 inUse = 11
 
 abbrev pub frame : ℕ
 frame = 12
 
--- those of document 02: an operator without a meaning, a reading beyond the lent list
+-- those of an evaluation: an operator without a meaning, a reading beyond the lent list
 abbrev pub noMeaning : ℕ
 noMeaning = 13
 
@@ -63,7 +63,7 @@ Check = Bool × ℕ
 abbrev pub Passed : List Check → Type 0
 Passed cs = All (λ c. c .0 ≡ false) cs
 
--- Document 01's "the first that applies, from left to right"; 0 where none applies.
+-- The first that applies, from left to right; 0 where none applies.
 abbrev pub first : List Check → ℕ
 first [] = accepted
 first (c ∷ cs) = cond (c .0) (c .1) (first cs)

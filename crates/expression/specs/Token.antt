@@ -4,7 +4,7 @@ use mathlib.Core.Bool.{cond}
 use lib.Dec.{eqb, ltb}
 use Rattle.expression.specs.Limits.{mostOperators}
 
--- What a byte is in a row or a record. Document 01's "reading" is an atom; the rest of the bytes have no meaning.
+-- What a byte is in a row or a record. A "reading" (docs/REFERENCE.md, section 1) is an atom; the rest of the bytes have no meaning.
 pub data Class : Type 0 where
   Infix Opening Closing Reading Meaningless : Class
 
@@ -22,7 +22,7 @@ firstReading = 0x80
 abbrev pub lastReading : ℕ
 lastReading = 0xff
 
--- The operators of a sheet: all that tells the class of a byte. The count is document 01's n.
+-- The operators of a sheet: all that tells the class of a byte. The count is the n of a sheet.
 pub record Operators : Type 0 where
   pub count : ℕ
 

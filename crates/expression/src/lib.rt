@@ -1,4 +1,4 @@
-// The bytes, the lengths and the numbers of document 01 for the code, each named once. Tokens, trees and rows stand in the specification.
+// The bytes, the lengths and the numbers for the code, each named once. Tokens, trees and rows stand in the specification.
 pub mod limits;
 pub mod refusal;
 pub mod token;

@@ -1,4 +1,4 @@
-// The counts and lengths that document 01 fixes, as in the specification's `Limits`.
+// The counts and lengths of docs/REFERENCE.md, section 4, as in the specification's `Limits`.
 pub const MOST_OPERATORS: u8 = 32;
 
 pub const MOST_RULES: usize = 2048;

@@ -1,4 +1,4 @@
-// The numbers of document 01's table of turned-down calls, as in the specification's `Refusal`.
+// The numbers of turned-down calls, docs/REFERENCE.md, section 4, as in the specification's `Refusal`.
 pub const ACCEPTED: u8 = 0;
 
 pub const OVERSIZE: u8 = 1;

@@ -1,4 +1,4 @@
--- Document 01's listing, and the edges of a line, by computation. Assumes nothing.
+-- The first six lines of the listing in docs/REFERENCE.md, section 8, and the edges of a line, by computation. Assumes nothing.
 use Prim.Native.Nat.{ℕ, _+_}
 use mathlib.Core.Path.{_≡_, refl}
 use mathlib.Core.List.{List, [], _∷_}

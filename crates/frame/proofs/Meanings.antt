@@ -1,4 +1,4 @@
--- The numbers of lines mean what document 01 says. Assumes nothing.
+-- The numbers of lines mean what docs/REFERENCE.md, section 4, says. Assumes nothing.
 use Prim.Native.Nat.{ℕ, _+_, _%_, _<_, _≤_}
 use native.Mathlib.Omega.{arith}
 use native.Mathlib.Decide.{ℕ-discrete, decLt}

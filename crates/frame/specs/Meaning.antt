@@ -1,4 +1,4 @@
--- What the numbers of a line mean, in document 01's words. Assumes nothing.
+-- What the numbers of a line mean, in the words of docs/REFERENCE.md, section 4. Assumes nothing.
 use Prim.Native.Nat.{ℕ, _%_, _<_}
 use mathlib.Core.Path.{_≡_}
 use mathlib.Core.Bool.{false}

@@ -1,4 +1,4 @@
--- Runs of lines from the fresh panel, and the replies that document 01's book gives. A list of lines has the last one first. Assumes nothing.
+-- Runs of lines from the fresh panel, and the replies that the book gives. A list of lines has the last one first. Assumes nothing.
 use Prim.Native.Nat.{ℕ}
 use mathlib.Core.Path.{_≡_}
 use mathlib.Core.Bool.{Bool, true, false}

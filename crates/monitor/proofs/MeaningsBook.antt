@@ -140,7 +140,7 @@ module _ (b : Book) where
         le-antisymm (h .fewest (shortestBy (b .rules) (some u)) (g .means-same)) (g .fewest a (h .means-same))
         ∙ ap length (sym (ap (shortestBy (b .rules)) (reads-back b bytes u x)))))
 
-    -- The book's number of a call means what document 01 says.
+    -- The book's number of a call means what docs/REFERENCE.md, section 4, says.
     pub book-means : (c : Call) → Means b c (bookNumber b c)
     book-means (load n bytes) = load-means b n bytes
     book-means (loadList n rules) = load-list-means b n rules

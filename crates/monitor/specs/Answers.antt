@@ -1,4 +1,4 @@
--- What the book answers to a call, in document 01's terms. Assumes nothing.
+-- What the book answers to a call, in the terms of docs/REFERENCE.md, section 9. Assumes nothing.
 use Prim.Native.Nat.{ℕ}
 use mathlib.Core.Path.{_≡_}
 use mathlib.Core.Option.{Option, none, some}

@@ -1,4 +1,4 @@
--- Document 01's book: it is fed the calls alone, and finds their numbers itself. Assumes nothing.
+-- The book (docs/REFERENCE.md, section 9): it is fed the calls alone, and finds their numbers itself. Assumes nothing.
 use Prim.Native.Nat.{ℕ}
 use mathlib.Core.Bool.{Bool, true, false, cond}
 use mathlib.Core.Option.{Option, none, some}

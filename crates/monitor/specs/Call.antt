@@ -14,7 +14,7 @@ pub data Question : Type 0 where
   judge : (bytes : List ℕ) → Question
   yield : (bytes : List ℕ) (out : List ℕ) → Question
   operand : (right : Bool) (bytes : List ℕ) → Question
-  -- document 02, W1
+  -- docs/REFERENCE.md, section 6
   shortestRow : (bytes : List ℕ) (out : List ℕ) → Question
 
 -- All calls. `loadList` is the load whose rules come as a list of records.

@@ -1,4 +1,4 @@
--- What each number means, in document 01's words: the conditions of each call, in order. Assumes nothing.
+-- What each number means, in the words of docs/REFERENCE.md, section 4: the conditions of each call, in order. Assumes nothing.
 use Prim.Native.Nat.{ℕ, _%_, _<_, _≤_}
 use mathlib.Core.Path.{_≡_}
 use mathlib.Core.Logic.{_⊎_}

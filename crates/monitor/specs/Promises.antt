@@ -1,4 +1,4 @@
--- Demands 1, 2 and 3 of the panel's calls, and what the requests of document 02 add to them, on one page. Assumes nothing.
+-- Demands 1, 2 and 3 of the panel's calls, and what later requests add to them, on one page. Assumes nothing.
 --     Demand 1 speaks of every panel value and every call with any bytes: no call has a `requires`, and each is proved to end.
 --     Demands 2 and 3 and the requests speak of the panel after every list of calls, refused ones included, from a fresh panel. A list has the last call first.
 use Prim.Native.Nat.{ℕ, _≤_}
@@ -29,7 +29,7 @@ use Rattle.monitor.specs.Answers.{Answers}
 use Rattle.monitor.specs.Meaning.{Means}
 use Rattle.monitor.specs.Run.{panelAfter, answer, bookAfter, ruledBy, inForce, lastPut, Each, IsLoad, AnsweredBy, HoldsTree, Filled, RepairsTo}
 
--- Demand 1. A refusal changes neither the panel nor a lent buffer. (That its number is document 01's is `answered` below, and each call's contract.)
+-- Demand 1. A refusal changes neither the panel nor a lent buffer. (That its number is that of docs/REFERENCE.md, section 4, is `answered` below, and each call's contract.)
 pub record Demand1 (p : Panel) (c : Call) : Type 0 where
   pub unchanged : (reply p c .number ≡ accepted → ⊥) → (after p c ≡ p) × (reply p c .output ≡ lentTo c)
 

@@ -1,4 +1,4 @@
--- Document 02's W3, rows read from the left: what stands in the machine wherever a beginning of the row is itself a row. Assumes nothing.
+-- Rows read from the left: what stands in the machine wherever a beginning of the row is itself a row. Assumes nothing.
 use Prim.Native.Nat.{ℕ}
 use mathlib.Core.Path.{_≡_}
 use mathlib.Core.Option.{some}

@@ -7,7 +7,7 @@ use lib.ListN.{length, take, drop, replicate}
 use lib.Seq.{sets}
 use Rattle.expression.specs.Limits.{mostRecordBytes}
 
--- the places of document 01, 0 to 15
+-- the places, 0 to 15
 abbrev pub placeCount : ℕ
 placeCount = 16
 
@@ -35,7 +35,7 @@ recordIn (n ∷ bytes) = take n bytes
 unfoldable pub held : List ℕ → ℕ → List ℕ
 held store place = cond (ltb place placeCount) (recordIn (slotOf store place)) []
 
--- The image (document 01) of a place that holds the bytes of a record: the record's length, the record, then 00.
+-- The image (docs/REFERENCE.md, section 5) of a place that holds the bytes of a record: the record's length, the record, then 00.
 unfoldable pub imageOf : List ℕ → List ℕ
 imageOf bytes = length bytes ∷ (bytes ++ replicate (mostRecordBytes - length bytes) 0)
 

@@ -21,7 +21,7 @@ nodeOf Meaningless c = node.Other
 abbrev pub nodeAt : Operators → List ℕ → ℕ → Node
 nodeAt ops bytes at = cond (ltb at (length bytes)) (nodeOf (class ops (getD bytes at 0)) (getD bytes at 0)) node.Other
 
--- document 01's number of a node: a tree begins there, or the bytes are no tree,
+-- the number of a node: a tree begins there, or the bytes are no tree,
 abbrev pub nodeNumber : Node → ℕ
 nodeNumber (node.Reading a) = accepted
 nodeNumber node.Bracket = accepted

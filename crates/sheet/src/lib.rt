@@ -1,4 +1,4 @@
-// Operator sheets: rules in bytes, the relation that they give, and document 01's numbers 1 to 5. A sheet is a lent list of words,
+// Operator sheets: rules in bytes, the relation that they give, and the numbers 1 to 5 (docs/REFERENCE.md, section 4). A sheet is a lent list of words,
 // whose layout is known here alone; all zero is the fresh one.
 ghost use mathlib.Core.Path.{_≡_};
 ghost use Rattle.sheet.specs.Layout.{operatorsOf};
@@ -14,7 +14,7 @@ mod rules;
 mod verdict;
 mod words;
 
-// The count of the sheet's operators, document 01's n.
+// The count of the sheet's operators, n.
 pub fn operator_count(sheet: &[u32; SHEET_WORDS]) -> u8
     ensures { λ r. ⌜ r ≡ operatorsOf (now (sheet .entry)) .count ⌝ }
 {
