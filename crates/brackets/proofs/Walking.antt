@@ -17,7 +17,7 @@ use Rattle.expression.specs.Refusal.{noTree}
 use Rattle.expression.specs.Lists.{oneIf}
 use Rattle.expression.specs.Limits.{mostOperators, mostTokens, mostRecordBytes}
 use Rattle.expression.specs.Token.{opening, closing}
-use Rattle.expression.specs.Tree.{Tree, reading, bracket}
+use Rattle.expression.specs.Tree.{Tree}
 use Rattle.disambiguation.proofs.BelowLaws.{and-true}
 use Rattle.sheet.specs.Layout.{operatorsOf}
 use Rattle.sheet.specs.Relation.{closesIn}

@@ -10,7 +10,7 @@ use Rattle.expression.proofs.Cond.{by-cond}
 use Rattle.disambiguation.specs.Edges.{seenFromRight, seenFromLeft}
 use Rattle.disambiguation.specs.LeftToRight.{after, Stack, bottom, opened, waiting, close, remains, everything, before}
 use Rattle.disambiguation.proofs.Free.{None, Free}
-use Rattle.disambiguation.proofs.LeftToRight.{Holds}
+use Rattle.disambiguation.proofs.LeftToRight.{close-keeps, Holds}
 
 -- an operand that shows no operator
 abbrev pub Bare : Tree → Type 0
@@ -39,9 +39,7 @@ abbrev pub base : Stack → Stack
 base = remains everything
 
 pub base-close : (p : ℕ → Bool) (s : Stack) (t : Tree) → base ((close p s t) .0) ≡ base s
-base-close p bottom t = refl
-base-close p (opened s) t = refl
-base-close p (waiting (after l o) s) t = by-cond (λ (x : Stack × Tree). base (x .0) ≡ base s) (p o) (λ _. base-close p s (binary o l t)) (λ _. refl)
+base-close p s t = close-keeps (λ x y. base x ≡ base s) (λ l o x y e. e) p s t refl
 
 module _ (closes : ℕ → ℕ → Bool) where
   -- operator b may not have a on its left unless a closes before b
@@ -75,10 +73,7 @@ module _ (closes : ℕ → ℕ → Bool) where
         }
 
     pub close-stands : (p : ℕ → Bool) (s : Stack) (t : Tree) (tokens : List ℕ) → Stands s t tokens → Stands ((close p s t) .0) ((close p s t) .1) tokens
-    close-stands p bottom t tokens h = h
-    close-stands p (opened s) t tokens h = h
-    close-stands p (waiting (after l o) s) t tokens h =
-        by-cond (λ (x : Stack × Tree). Stands (x .0) (x .1) tokens) (p o) (λ _. close-stands p s (binary o l t) tokens (filled l o s t tokens h)) (λ _. h)
+    close-stands p s t tokens = close-keeps (λ x y. Stands x y tokens) (λ l o x y. filled l o x y tokens) p s t
 
   -- where b comes, the operator that still waits on top does not close before it
   pub close-holds : (b : ℕ) (s : Stack) (t : Tree) → Holds closes ((close (before closes b) s t) .0) b

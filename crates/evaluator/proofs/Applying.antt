@@ -13,7 +13,7 @@ use lib.ListN.{length, getD}
 use borrow.Author.Needs.{needs}
 use borrow.Author.Tests.{lt-ltb, le-ltb, eq-eqb, ne-eqb}
 use mir.Syntax.{w32}
-use mir.Val.{SFits, toZ, ofZ}
+use mir.Val.{SFits, ofZ}
 use mir.Facts.{toZ-ofZ}
 use Rattle.evaluator.specs.Meanings.{Meaning, Or, And, Less, AtMost, Equal, Sum, Difference, Smaller, Larger, inOrder, entry, meant, isMissing, isTrue, truth, same, applied, worked}
 use Rattle.evaluator.proofs.Stopping.{read}

@@ -7,17 +7,15 @@ use mathlib.Core.Bool.{Bool, true, false, _&&_, cond, true≢false, false≢true
 use mathlib.Core.Logic.{_⊎_, inl, inr}
 use mathlib.Core.List.{List, [], _∷_}
 use mathlib.Core.Option.{Option, none, some, Option·none-ne-some, Option·some-injective}
-use borrow.Author.Tests.{ne-eqb, eqb-true, eq-eqb}
+use borrow.Author.Tests.{ne-eqb, eq-eqb}
 use lib.Dec.{eqb}
 use lib.ListN.{length}
-use Rattle.expression.specs.Refusal.{oversize, frame}
+use Rattle.expression.specs.Refusal.{oversize}
 use Rattle.monitor.specs.Call.{Call, load, putRow, putRecord, drop, ask, fetchRecord, fetchRow, image, repair, judge}
 use Rattle.monitor.specs.Panel.{Panel}
 use Rattle.monitor.specs.Book.{Book}
-use Rattle.monitor.specs.Meaning.{When, SomeOf, Means}
-use Rattle.monitor.specs.Run.{bookAfter, panelAfter}
+use Rattle.monitor.specs.Meaning.{SomeOf, Means}
 use Rattle.monitor.proofs.Stands.{Stands}
-use Rattle.monitor.proofs.Histories.{stands}
 use Rattle.monitor.proofs.Meanings.{when, decides-less}
 use Rattle.monitor.proofs.MeaningsBook.{reply-means}
 use Rattle.hexadecimal.specs.Digits.{isDigit, allDigits}
@@ -25,7 +23,7 @@ use Rattle.hexadecimal.specs.Text.{pairBytes, bytesOf}
 use Rattle.hexadecimal.proofs.Laws.{line-read}
 use Rattle.frame.specs.Frames.{room, callOf, frameCall, frameNumber}
 use Rattle.frame.specs.Lines.{mostCharacters, isLong, textCall, lineCall}
-use Rattle.frame.specs.Meaning.{NoPairs, NoFrame, OfCall, WithFrame, MeansLine}
+use Rattle.frame.specs.Meaning.{NoPairs, NoFrame, WithFrame, MeansLine}
 
 -- ---- frames
 -- no frame and no call, or a frame and a call

@@ -6,12 +6,9 @@ use borrow.Author.Tests.{ne-eqb}
 use Rattle.expression.specs.Refusal.{accepted}
 use Rattle.disambiguation.specs.SheetChecks.{ruleBytes}
 use Rattle.monitor.specs.Call.{Call, load, loadList, putRow, putRecord, drop, ask}
-use Rattle.monitor.specs.Panel.{Panel, ifAccepted}
+use Rattle.monitor.specs.Panel.{Panel}
 use Rattle.monitor.specs.Steps.{loadNumber, putRowNumber, putRecordNumber, dropNumber, sheetAfter, placesAfterLoad, placesAfterRow, placesAfterRecord, placesAfterDrop, after, outcome}
 use Rattle.monitor.specs.Promises.{Demand1}
-
-refused-value : {A : Type 0} (number : ℕ) → (number ≡ accepted → ⊥) → (x y : A) → ifAccepted number x y ≡ y
-refused-value number h x y = rw (ne-eqb number accepted h)
 
 module _ (p : Panel) where
   load-unchanged : (n : ℕ) (rules : List ℕ) → (loadNumber p n rules ≡ accepted → ⊥) → after p (load n rules) ≡ p

@@ -11,18 +11,15 @@ use Rattle.expression.specs.Limits.{mostOperators}
 use Rattle.expression.specs.Token.{opening}
 use Rattle.expression.specs.Tree.{Tree, bracket, binary, recordOf, Over}
 use Rattle.expression.proofs.Classes.{infix-byte}
-use Rattle.expression.proofs.Cond.{by-cond}
 use Rattle.disambiguation.specs.LeftToRight.{after, Stack, bottom, opened, waiting, State, due, have, stuck, close, everything, whole, finish, everyOperator}
+use Rattle.disambiguation.proofs.LeftToRight.{close-keeps}
 use Rattle.parser.specs.Notes.{note, byteIn, backIn, notesOf, notesBelow, notesAt}
 use Rattle.parser.specs.Reading.{classOf, OverBelow, Waits}
 use Rattle.parser.proofs.NoteLaws.{byte-note, back-note, length-notesOf}
 
 -- ---- what is left is over the operators
 pub close-over : (p : ℕ → Bool) (s : Stack) (t : Tree) → OverBelow s → Over classOf t → OverBelow ((close p s t) .0) × Over classOf ((close p s t) .1)
-close-over p bottom t hs ht = (hs, ht)
-close-over p (opened s) t hs ht = (hs, ht)
-close-over p (waiting (after l o) s) t hs ht =
-    by-cond (λ (x : Stack × Tree). OverBelow (x .0) × Over classOf (x .1)) (p o) (λ _. close-over p s (binary o l t) (hs .2) (hs .0, hs .1, ht)) (λ _. (hs, ht))
+close-over p s t hs ht = close-keeps (λ x y. OverBelow x × Over classOf y) (λ l o x y h. (h .0 .2, (h .0 .0, h .0 .1, h .1))) p s t (hs, ht)
 
 -- ---- lengths
 pub length-opened : (s : Stack) → length (notesBelow (opened s)) ≡ suc (length (notesBelow s))
@@ -43,11 +40,7 @@ fill-notes l o s t =
     append-assoc (notesBelow s ++ notesOf 1 l) (n ∷ []) (notesOf 0 t) ∙ append-assoc (notesBelow s) (notesOf 1 l) (n ∷ notesOf 0 t)
 
 pub close-notes : (p : ℕ → Bool) (s : Stack) (t : Tree) → notesAt (have s t) ≡ notesAt (have ((close p s t) .0) ((close p s t) .1))
-close-notes p bottom t = refl
-close-notes p (opened s) t = refl
-close-notes p (waiting (after l o) s) t =
-    by-cond (λ (x : Stack × Tree). notesAt (have (waiting (after l o) s) t) ≡ notesAt (have (x .0) (x .1))) (p o)
-    (λ _. fill-notes l o s t ∙ close-notes p s (binary o l t)) (λ _. refl)
+close-notes p s t = close-keeps (λ x y. notesAt (have s t) ≡ notesAt (have x y)) (λ l o x y e. e ∙ fill-notes l o x y) p s t refl
 
 -- a bracket that closes has its note already
 pub shut-notes : (s : Stack) (t : Tree) → notesAt (have (opened s) t) ≡ notesAt (have s (bracket t))

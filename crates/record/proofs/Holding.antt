@@ -29,8 +29,3 @@ front-copied bytes held rest e =
 pub from-start : (ops : Operators) (size at : ℕ) (held : List ℕ) {x : Node} → x ≡ nodeAt ops (take (size - 0) (drop 0 held)) at → x ≡ nodeAt ops (front size held) at
 unfolding front
 from-start ops size at held e = e ∙ ap (λ k. nodeAt ops (take k held) at) (sub-zero size)
-
--- all of the bytes
-pub front-all : (bytes : List ℕ) → front (length bytes) bytes ≡ bytes
-unfolding front
-front-all bytes = take-all (length bytes) bytes (omega arith)

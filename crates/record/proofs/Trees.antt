@@ -7,7 +7,7 @@ use mathlib.Core.Option.{some}
 use mathlib.Core.List.{List, _∷_, _++_, append-assoc, append-nil}
 use lib.ListN.{length, getD, drop, length-drop, length-append}
 use lib.Seq.{getD-drop, drop-drop, drop-append-seam, drop-length}
-use Rattle.expression.specs.Refusal.{accepted, noTree}
+use Rattle.expression.specs.Refusal.{accepted}
 use Rattle.expression.specs.Token.{opening, Operators, class}
 use Rattle.expression.specs.Tree.{Tree, reading, bracket, binary, recordOf}
 use Rattle.expression.specs.Decode.{treeOf}
@@ -145,10 +145,6 @@ tree-node ops bytes from t x = let e = top-node ops bytes from t x in (ap nodeNu
     byte (reading a) = refl
     byte (bracket t) = refl
     byte (binary o l r) = refl
-
--- Where the node's number is 7, none stands.
-pub refused-node : (ops : Operators) (bytes : List ℕ) (from : ℕ) → nodeNumber (nodeAt ops bytes from) ≡ noTree → (t : Tree) {to : ℕ} → TreeAt ops bytes from t to → ⊥
-refused-node ops bytes from e t x = omega (arith, e, tree-node ops bytes from t x .0)
 
 -- past the end of the record no tree stands
 pub none-past : (ops : Operators) (size : ℕ) (held : List ℕ) (from : ℕ) → size ≤ from → (t : Tree) {to : ℕ} → TreeAt ops (front size held) from t to → ⊥

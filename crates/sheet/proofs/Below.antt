@@ -1,20 +1,11 @@
 -- Laws of a test over the numbers below n, as a loop from 0 up meets them. Assumes nothing.
 use mathlib.Core.Path.{_≡_, refl, sym, ap, _∙_}
-use mathlib.Core.Bool.{Bool, true, false, _&&_, and-false}
+use mathlib.Core.Bool.{Bool, true, false, and-false}
 use mathlib.Core.Logic.{⊎-elim}
 use Prim.Native.Nat.{ℕ, zero, suc, _+_, _<_, _≤_}
 use native.Mathlib.Nat.{not-suc-le-zero, le-of-suc-le-suc, eq-or-lt-of-le, lt-suc-self, le-step, le-antisymm}
 use native.Mathlib.Numerals.{add-one}
 use Rattle.disambiguation.specs.Below.{allBelow}
-
-and-left : (p q : Bool) → (p && q) ≡ true → p ≡ true
-and-left true q e = refl
-and-left false q e = e
-
-and-right : (p q : Bool) → (p && q) ≡ true → q ≡ true
-and-right true q e = e
-and-right false true e = refl
-and-right false false e = e
 
 -- before the first number
 pub all-none : (f : ℕ → Bool) → allBelow 0 f ≡ true
@@ -37,14 +28,6 @@ all-fails f (suc n) a l e =
 -- past the last number
 pub all-done : (f : ℕ → Bool) (n a : ℕ) → allBelow a f ≡ true → a ≤ n → n ≤ a → allBelow n f ≡ true
 all-done f n a p l k = rw (le-antisymm k l) p
-
--- what holds of all holds of each
-pub all-at : (f : ℕ → Bool) (n : ℕ) → allBelow n f ≡ true → (a : ℕ) → a < n → f a ≡ true
-unfolding allBelow
-all-at f zero h a l = absurd (not-suc-le-zero l)
-all-at f (suc n) h a l =
-    ⊎-elim (λ q. ap f q ∙ and-right (allBelow n f) (f n) h) (λ k. all-at f n (and-left (allBelow n f) (f n) h) a k)
-    (eq-or-lt-of-le (le-of-suc-le-suc l))
 
 -- tests that agree below n
 pub all-same : (f g : ℕ → Bool) (n : ℕ) → ((a : ℕ) → a < n → f a ≡ g a) → allBelow n f ≡ allBelow n g

@@ -1,5 +1,5 @@
 -- What callers know of a sheet: its operators, and its relation by the excluded patterns, never by words. Assumes nothing.
-use mathlib.Core.Path.{_≡_, refl, sym, ap, _∙_, fun-ext}
+use mathlib.Core.Path.{_≡_, refl, sym, ap, _∙_}
 use mathlib.Core.Bool.{Bool, true, false, not, _||_, cond, false≢true}
 use mathlib.Core.List.{List, []}
 use Prim.Native.Nat.{ℕ, _%_, _<_, _≤_}
@@ -112,10 +112,6 @@ fresh-in-force = record { few = omega arith; operators = refl; accepts = refl; r
 
 -- ---- what the relation decides
 module _ (sheet : List ℕ) (ops : Operators) (rules : List Rule) (k : InForce sheet ops rules) where
-  -- as functions: whatever is made of R is made of the relation
-  pub relation-is-R : closesIn sheet ≡ R rules
-  relation-is-R = fun-ext (λ a. fun-ext (λ b. k .right a b))
-
   -- the conflict count of a tree over the sheet's operators needs only the relation
   pub count-by-relation : (t : Tree) → Over (class ops) t → conflictCount rules t ≡ conflicts (λ b a. not (closesIn sheet a b)) (closesIn sheet) t
   count-by-relation = count-by-closes ops rules (accepted-passes ops rules (k .accepts)) (closesIn sheet) (λ a b _ _. k .right a b)

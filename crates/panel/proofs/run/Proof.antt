@@ -1,5 +1,5 @@
 -- `panel::run` meets its contract; its loop keeps the lengths, the unfinished line within its limit, and the panel after the lines taken. Assumes nothing.
-use Prim.Native.Nat.{_+_, _≤_}
+use Prim.Native.Nat.{_≤_}
 use mathlib.Core.Path.{_≡_}
 use lib.ListN.{length}
 use Rattle.monitor.specs.Panel.{panel}

@@ -1,7 +1,6 @@
 -- `panel::lines::answer_lines` meets its contract; in its loop, the lines before the place are answered. Assumes nothing.
 use Prim.Native.Nat.{_-_}
 use lib.ListN.{length}
-use native.Mathlib.Omega.{arith}
 use Rattle.monitor.specs.Panel.{panel}
 use Rattle.panel.proofs.LinesWays.{Answering, lines-ways}
 use Rattle.panel.proofs.lines.answer_lines.Statement.{statement}
