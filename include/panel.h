@@ -15,9 +15,9 @@
  *  - A list of length 0 may be lent as NULL. No other pointer may be NULL: no panel, no other list, no output of a reply.
  *  - What a call only reads may overlap. What it writes must not overlap anything else that is lent to it.
  *
- * A token is one byte: 00 to 1F an operator, 20 and 21 the brackets, 80 to FF a reading. A row is a list of tokens that
- * is one expression. A record lists a tree top first: a reading; or 20 and one tree; or an operator, its left tree, its
- * right tree.
+ * Tokens are bytes: operators up to 1F, the brackets 20 and 21, readings from 80 up. Tokens that make up an expression are
+ * a row. A record writes a tree as bytes, each node before its operands; a bracket node is 20 and the tree inside.
+ * docs/REFERENCE.md of the repository says it in full.
  */
 #ifndef TIHVOMEN_PANEL_H
 #define TIHVOMEN_PANEL_H
@@ -106,9 +106,9 @@ PANEL_NODISCARD static inline unsigned panel_operators(const struct panel *p) {
 }
 
 /*
- * The sheet of n operators and the rules, three bytes each, replaces the old one, and every held tree becomes the
- * conflict-free tree of its row under the new one. Then every row of any length over the n operators has exactly one
- * conflict-free tree. Numbers: 1, 2, 3, 4, 5, 11.
+ * The sheet of n operators and the rules, three bytes each, takes the old one's place, and each held tree is rebuilt: it
+ * is then the one that its row has under the new sheet. A sheet is accepted only if each row over its operators, however
+ * long, has one conflict-free tree and no second. Numbers: 1, 2, 3, 4, 5, 11.
  */
 PANEL_NODISCARD static inline enum panel_number panel_load(
     struct panel *p, unsigned n, const uint8_t *rules, size_t length) {
@@ -157,7 +157,7 @@ PANEL_NODISCARD static inline struct panel_answer panel_fetch_row(
     return panel_answered(tihvomen_fetch_row(p->sheet.words, p->places, place, panel_into(out, room, &spare), room));
 }
 
-/* Writes 256 bytes: record length, record, then 00; all 00 when the place is empty. Numbers: 8, 10. */
+/* Writes 256 bytes: the record's length, the record, and 00 for the rest; without a tree 00 throughout. Numbers: 8, 10. */
 PANEL_NODISCARD static inline struct panel_answer panel_image(
     const struct panel *p, unsigned place, uint8_t *out, size_t room) {
     uint8_t spare = 0;
@@ -173,8 +173,8 @@ PANEL_NODISCARD static inline struct panel_answer panel_build(
 }
 
 /*
- * Writes the record of the conflict-free tree of the record's row; it is as long as the record. Two records repair to
- * the same bytes exactly when their rows are the same. Numbers: 1, 3, 7, 1, 10.
+ * Writes the record of the conflict-free tree of the record's row; it is as long as the record. Records of one row have
+ * the same repair, and records of different rows never. Numbers: 1, 3, 7, 1, 10.
  */
 PANEL_NODISCARD static inline struct panel_answer panel_repair(
     const struct panel *p, const uint8_t *record, size_t length, uint8_t *out, size_t room) {
@@ -203,7 +203,7 @@ PANEL_NODISCARD static inline struct panel_answer panel_shortest_row(
     return panel_answered(tihvomen_shortest_row(p->sheet.words, from, length, panel_into(out, room, &spare), room));
 }
 
-/* Counts the pairs of a node and a side in the record's tree that show an excluded pattern. Numbers: 1, 3, 7, 1. */
+/* Counts, over the operators of the record's tree, the sides that show an excluded pattern. Numbers: 1, 3, 7, 1. */
 PANEL_NODISCARD static inline struct panel_judgement panel_judge(
     const struct panel *p, const uint8_t *record, size_t length) {
     struct panel_raw_judgement raw = tihvomen_judge(p->sheet.words, panel_from(record, length), length);
@@ -214,8 +214,8 @@ PANEL_NODISCARD static inline struct panel_judgement panel_judge(
 }
 
 /*
- * Finds the record of an operand of the top node: that part of the caller's record, not copied. A bracket's tree counts
- * as its left operand. A side that is neither of the two has none. Numbers: 1, 3, 7, 1.
+ * Points out, in the caller's record, the record of an operand of the top node. A bracket's tree is taken for its left
+ * operand. A side that is neither of the two has none. Numbers: 1, 3, 7, 1.
  */
 PANEL_NODISCARD static inline struct panel_part panel_operand(
     const struct panel *p, const uint8_t *record, size_t length, enum panel_side side) {

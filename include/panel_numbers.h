@@ -11,7 +11,7 @@
 #define PANEL_NODISCARD
 #endif
 
-/* Each number is given under its condition and under nothing else. */
+/* No number is given where its condition does not hold. */
 enum panel_number {
     PANEL_ACCEPTED = 0,
     /* more than 32 operators, 2,048 rules, 255 tokens in a row, 255 bytes in a record or 12,292 characters in a line */

@@ -25,8 +25,8 @@ impl Panel {
         linked::operators(&self.sheet)
     }
 
-    /// The sheet of `n` operators and the rules, three bytes each, replaces the old one, and every held tree becomes the
-    /// conflict-free tree of its row under the new one.
+    /// The sheet of `n` operators and the rules, three bytes each, takes the old one's place, and each held tree is
+    /// rebuilt: it is then the one that its row has under the new sheet.
     ///
     /// # Errors
     ///
@@ -100,7 +100,7 @@ impl Panel {
         length(linked::fetch_row(&self.sheet, &self.places, place, out))
     }
 
-    /// The image of the place: record length, record, then 00; all 00 when empty.
+    /// The image of the place: the record's length, the record, and 00 for the rest; without a tree 00 throughout.
     ///
     /// # Errors
     ///

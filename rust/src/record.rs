@@ -35,7 +35,7 @@ impl Panel {
         length(linked::repair(&self.sheet, record, out))
     }
 
-    /// The conflict count: how many pairs of a node and a side show an excluded pattern.
+    /// The conflict count: over the operators of the tree, the sides that show an excluded pattern.
     ///
     /// # Errors
     ///
