@@ -14,13 +14,13 @@ use Rattle.disambiguation.specs.Rules.{L, R}
 use Rattle.disambiguation.specs.ExactlyOne.{SomeRowHasNone, EveryRowHasOne, SomeRowHasTwo, EveryRowHasExactlyOne}
 use Rattle.disambiguation.specs.Verdict.{ruleChecks, verdict}
 use Rattle.disambiguation.specs.SheetChecks.{rulesOf, orderChecks, InOrder, sheetNumber}
-use Rattle.disambiguation.proofs.TestsDecide.{neither}
+use Rattle.expression.proofs.Tests.{both-false}
 use Rattle.disambiguation.proofs.VerdictDecides.{dead-exactly-if, double-exactly-if, accepted-exactly-if}
 
 module _ (n : ℕ) (bytes : List ℕ) where
   module _ (order : InOrder n bytes) where
     pub operators-fit : n ≤ mostOperators
-    operators-fit = ltb-false mostOperators n ((neither (ltb mostOperators n) (ltb mostRuleBytes (length bytes)) (order .0)) .0)
+    operators-fit = ltb-false mostOperators n ((both-false (ltb mostOperators n) (ltb mostRuleBytes (length bytes)) (order .0)) .0)
 
     pub sheetNumber-verdict : sheetNumber n bytes ≡ verdict (operators n) (rulesOf bytes)
     unfolding sheetNumber verdict

@@ -7,6 +7,7 @@ use mathlib.Core.Logic.{_⊎_, inl, inr}
 use borrow.Author.Tests.{not-false}
 use Rattle.expression.specs.Limits.{mostOperators}
 use Rattle.expression.specs.Token.{Infix, Operators, class}
+use Rattle.expression.proofs.Tests.{both-false}
 use Rattle.expression.proofs.Classes.{class-operator, operator-below}
 use Rattle.disambiguation.specs.Verdict.{safe, total, within, level}
 use Rattle.disambiguation.proofs.BelowLaws.{and-true, allBelow-at, allBelow-fails, allPairs-at, allPairs-fails}
@@ -20,10 +21,6 @@ not-both : (a b : Bool) → not (a && b) ≡ true → a ≡ true → b ≡ true 
 not-both true true e p q = false≢true e
 not-both true false e p q = false≢true q
 not-both false b e p q = false≢true p
-
-pub neither : (a b : Bool) → (a || b) ≡ false → (a ≡ false) × (b ≡ false)
-neither true b e = absurd (true≢false e)
-neither false b e = (refl, e)
 
 either : (a b : Bool) → (a || b) ≡ true → a ≡ false → b ≡ false → ⊥
 either true b e p q = true≢false p
@@ -110,7 +107,7 @@ module _ (ops : Operators) where
     unfolding total
     total-fails L R e =
         let (a, b, ha, hb, f) = allPairs-fails (ops .count) (λ a b. R a b || L b a) e in
-        let (r, l) = neither (R a b) (L b a) f in
+        let (r, l) = both-false (R a b) (L b a) f in
         (a, b, (operator a ha, operator b hb), r, l)
 
     pub level-fails : (R : ℕ → ℕ → Bool) → level ops R ≡ false

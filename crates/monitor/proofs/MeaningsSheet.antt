@@ -12,13 +12,13 @@ use Rattle.expression.specs.Lists.{anyHolds}
 use Rattle.expression.specs.Limits.{mostOperators, mostRules, mostRuleBytes, bytesOfRule}
 use Rattle.expression.specs.Refusal.{first, accepted, oversize, torn, stranger, dead, double, inUse}
 use Rattle.expression.specs.Token.{Operators, operators}
+use Rattle.expression.proofs.Tests.{both-false}
 use Rattle.disambiguation.specs.Rules.{Rule, priority, right, L, R}
 use Rattle.disambiguation.specs.ExactlyOne.{SomeRowHasNone, EveryRowHasOne, SomeRowHasTwo}
 use Rattle.disambiguation.specs.Below.{allBelow}
 use Rattle.disambiguation.specs.Verdict.{safe, total, level, ruleChecks, verdict}
 use Rattle.disambiguation.specs.SheetChecks.{rulesOf, strangeRule}
 use Rattle.disambiguation.proofs.BelowLaws.{allBelow-at, allBelow-fails}
-use Rattle.disambiguation.proofs.TestsDecide.{neither}
 use Rattle.disambiguation.proofs.VerdictDecides.{dead-exactly-if, double-exactly-if}
 use Rattle.places.specs.Store.{placeCount}
 use Rattle.monitor.specs.Call.{load, loadList}
@@ -139,7 +139,7 @@ module _ (b : Book) (n : ℕ) where
 
   -- ---- a load, with its rules in bytes and as a list
   few-operators : (y : Bool) → (ltb mostOperators n || y) ≡ false → n ≤ mostOperators
-  few-operators y e = ltb-false mostOperators n (neither (ltb mostOperators n) y e .0)
+  few-operators y e = ltb-false mostOperators n (both-false (ltb mostOperators n) y e .0)
 
   pub load-means : (bytes : List ℕ) → Means b (load n bytes) (bookNumber b (load n bytes))
   load-means bytes =

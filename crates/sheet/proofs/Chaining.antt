@@ -21,7 +21,7 @@ use Rattle.sheet.specs.Relation.{bitOf, closesIn}
 use Rattle.sheet.specs.Marking.{wordOf, unmarked, marks, marksTurned, marksAll}
 use Rattle.sheet.specs.Chaining.{changed, added, joined, passed, chained, related}
 use Rattle.sheet.proofs.Bits.{bit-or}
-use Rattle.sheet.proofs.WordTests.{closes-bit, closes-beyond, closes-blank, as-false}
+use Rattle.sheet.proofs.WordTests.{closes-bit, closes-everywhere, closes-blank, as-false}
 use Rattle.sheet.proofs.Marks.{pairs-written, pairs-turned}
 use Rattle.sheet.proofs.Orderly.{written-below, leads-below}
 use Rattle.sheet.proofs.Through.{through, through-exactly-if}
@@ -135,15 +135,7 @@ module _ (n : ℕ) (few : n ≤ mostOperators) (marked : List ℕ) (pairs : ℕ 
       closes-kept n few priority marked fresh refl a b hb (omega arith) ha ∙ closes-blank a b ha hb ∙ sym (as-false (pairs priority a b) (λ e. l (below priority a b e .0)))
 
   direct-is : (a b : ℕ) → closesIn direct a b ≡ pairs priority a b
-  direct-is a b = go (decLt a mostOperators) (decLt b mostOperators)
-    where
-      beyond : ((a < mostOperators) × (b < mostOperators) → ⊥) → closesIn direct a b ≡ pairs priority a b
-      beyond h = closes-beyond direct a b h ∙ sym (as-false (pairs priority a b) (λ e. let m = below priority a b e in h (omega arith, omega arith)))
-
-      go : Dec (a < mostOperators) → Dec (b < mostOperators) → closesIn direct a b ≡ pairs priority a b
-      go (yes p) (yes q) = direct-below a b p q (decLt a n)
-      go (yes p) (no q) = beyond (λ h. q (h .1))
-      go (no p) q = beyond (λ h. p (h .0))
+  direct-is = closes-everywhere direct (pairs priority) (λ a b e. let m = below priority a b e in (omega arith, omega arith)) (λ a b ha hb. direct-below a b ha hb (decLt a n))
 
   long : length direct ≡ sheetWords
   long = length-added n few priority marked fresh

@@ -3,7 +3,6 @@ use mathlib.Core.Path.{_≡_, refl, sym, ap, _∙_}
 use mathlib.Core.Bool.{Bool, true, false, not, _||_, cond, false≢true}
 use mathlib.Core.List.{List, []}
 use Prim.Native.Nat.{ℕ, _%_, _<_, _≤_}
-use native.Mathlib.Decide.{decLt}
 use native.Mathlib.Omega.{arith}
 use borrow.Author.Tests.{ltb-false}
 use lib.Dec.{eqb, ltb}
@@ -30,11 +29,11 @@ use Rattle.sheet.specs.Loading.{sheetOf}
 use Rattle.sheet.specs.InForce.{InForce}
 use Rattle.sheet.proofs.Chaining.{length-related, related-is-R}
 use Rattle.sheet.proofs.Orderly.{R-below}
-use Rattle.sheet.proofs.WordTests.{closes-bit, closes-beyond, closes-blank, as-false}
+use Rattle.sheet.proofs.WordTests.{closes-bit, closes-everywhere, closes-blank}
 pub use Rattle.sheet.proofs.WordTests.{closes-below}
 
 closes-fresh : (a b : ℕ) → closesIn fresh a b ≡ false
-closes-fresh a b = as-false (closesIn fresh a b) (λ e. let k = closes-below fresh a b e in false≢true (sym (closes-blank a b (k .0) (k .1)) ∙ e))
+closes-fresh = closes-everywhere fresh (λ a b. false) (λ a b e. absurd (false≢true e)) closes-blank
 
 -- ---- the sheet that is made of n and rules
 module _ (n : ℕ) (few : n ≤ mostOperators) (rules : List Rule) where
@@ -81,7 +80,7 @@ accepted-by n bytes e = go (ltb mostOperators n) (ltb mostRuleBytes (length byte
 -- made of accepted bytes
 pub made-in-force : (n : ℕ) (bytes : List ℕ) → sheetNumber n bytes ≡ accepted → InForce (sheetOf n (rulesOf bytes)) (operators n) (rulesOf bytes)
 made-in-force n bytes z =
-    record { few = k .few; operators = operators-made n (k .few) rules; accepts = k .accepts; right = λ a b. at a b (decLt a mostOperators) (decLt b mostOperators); left = opposed }
+    record { few = k .few; operators = operators-made n (k .few) rules; accepts = k .accepts; right = closes-everywhere (sheetOf n rules) (R rules) below (closes-made n (k .few) rules (k .plain)); left = opposed }
   where
     k : Accepted n bytes
     k = accepted-by n bytes z
@@ -89,16 +88,8 @@ made-in-force n bytes z =
     rules : List Rule
     rules = rulesOf bytes
 
-    beyond : (a b : ℕ) → ((a < mostOperators) × (b < mostOperators) → ⊥) → closesIn (sheetOf n rules) a b ≡ R rules a b
-    beyond a b h =
-        let f = k .few in
-        closes-beyond (sheetOf n rules) a b h
-        ∙ sym (as-false (R rules a b) (λ e. let m = R-below n rules a b (k .plain) e in h (omega arith, omega arith)))
-
-    at : (a b : ℕ) → Dec (a < mostOperators) → Dec (b < mostOperators) → closesIn (sheetOf n rules) a b ≡ R rules a b
-    at a b (yes p) (yes q) = closes-made n (k .few) rules (k .plain) a b p q
-    at a b (yes p) (no q) = beyond a b (λ h. q (h .1))
-    at a b (no p) q = beyond a b (λ h. p (h .0))
+    below : (a b : ℕ) → R rules a b ≡ true → (a < mostOperators) × (b < mostOperators)
+    below a b e = let m = R-below n rules a b (k .plain) e in (omega (arith, k .few), omega (arith, k .few))
 
     opposed : (a b : ℕ) → a < n → b < n → L rules b a ≡ not (closesIn (sheetOf n rules) a b)
     opposed a b ha hb =

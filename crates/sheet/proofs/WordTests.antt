@@ -4,6 +4,7 @@ use mathlib.Core.Bool.{Bool, true, false, not, _&&_, _||_}
 use mathlib.Core.List.{List}
 use Prim.Native.Nat.{ℕ, _-_, _^_, _<_, _≤_}
 use native.Mathlib.Nat.{lt-of-lt-of-le}
+use native.Mathlib.Decide.{decLt}
 use native.Mathlib.Omega.{arith}
 use borrow.Author.Tests.{lt-ltb, ltb-true}
 use lib.Bits.{bitAnd, bitOr, or-lt}
@@ -65,8 +66,18 @@ pub as-false : (p : Bool) → (p ≡ true → ⊥) → p ≡ false
 as-false true h = absurd (h refl)
 as-false false h = refl
 
-pub closes-beyond : (sheet : List ℕ) (a b : ℕ) → ((a < mostOperators) × (b < mostOperators) → ⊥) → closesIn sheet a b ≡ false
-closes-beyond sheet a b h = as-false (closesIn sheet a b) (λ e. h (closes-below sheet a b e))
+-- so a relation of operators that a sheet has at each pair of them is the sheet's
+pub closes-everywhere : (sheet : List ℕ) (pairs : ℕ → ℕ → Bool) → ((a b : ℕ) → pairs a b ≡ true → (a < mostOperators) × (b < mostOperators))
+    → ((a b : ℕ) → a < mostOperators → b < mostOperators → closesIn sheet a b ≡ pairs a b) → (a b : ℕ) → closesIn sheet a b ≡ pairs a b
+closes-everywhere sheet pairs below is a b = go (decLt a mostOperators) (decLt b mostOperators)
+  where
+    beyond : ((a < mostOperators) × (b < mostOperators) → ⊥) → closesIn sheet a b ≡ pairs a b
+    beyond h = as-false (closesIn sheet a b) (λ e. h (closes-below sheet a b e)) ∙ sym (as-false (pairs a b) (λ e. h (below a b e)))
+
+    go : Dec (a < mostOperators) → Dec (b < mostOperators) → closesIn sheet a b ≡ pairs a b
+    go (yes p) (yes q) = is a b p q
+    go (yes p) (no q) = beyond (λ h. q (h .1))
+    go (no p) q = beyond (λ h. p (h .0))
 
 pub closes-blank : (x y : ℕ) → x < mostOperators → y < mostOperators → closesIn fresh x y ≡ false
 closes-blank x y hx hy =
