@@ -2,18 +2,18 @@
 use Prim.Native.Nat.{ℕ, _<_}
 use native.Mathlib.Omega.{arith}
 use mathlib.Core.Path.{_≡_, refl, ap, sym, _∙_}
-use mathlib.Core.Bool.{Bool, true, false, not, _&&_, _||_, cond}
+use mathlib.Core.Bool.{Bool, true, false, not, _&&_, _||_, cond, false≢true}
 use mathlib.Core.Logic.{_↔_}
 use mathlib.Core.List.{List}
 use Rattle.expression.specs.Refusal.{accepted}
-use Rattle.expression.specs.Token.{Operators, class}
+use Rattle.expression.specs.Token.{Infix, Operators, class}
 use Rattle.expression.specs.Tree.{Tree, yield, Over}
 use Rattle.disambiguation.specs.Rules.{Rule, L, R}
 use Rattle.disambiguation.specs.Conflicts.{conflicts, conflictCount, ConflictFreeTree}
-use Rattle.disambiguation.specs.Verdict.{safe, total, level, verdict}
+use Rattle.disambiguation.specs.Verdict.{comes, comers, safe, total, level, verdict}
 use Rattle.disambiguation.specs.Repair.{repair}
 use Rattle.disambiguation.proofs.BelowLaws.{and-true, allPairs-at}
-use Rattle.disambiguation.proofs.TestsDecide.{infix-below, safe-safe}
+use Rattle.disambiguation.proofs.TestsDecide.{waits-below, infix-below, infix-comes, safe-safe}
 use Rattle.disambiguation.proofs.Repaired.{repair-makes, yield-repair, repair-safe}
 use Rattle.disambiguation.proofs.Agreement.{conflicts-agree}
 use Rattle.disambiguation.proofs.VerdictDecides.{tests-unique}
@@ -38,29 +38,32 @@ module _ (ops : Operators) (rules : List Rule) where
           record { is-safe = s; is-total = p; is-level = q }
 
   -- one way exactly
-  exclusive : (r l : Bool) → not (r && l) ≡ true → (r || l) ≡ true → l ≡ not r
-  exclusive true true e f = sym e
-  exclusive true false e f = refl
-  exclusive false l e f = f
+  exclusive : (r l c : Bool) → not ((r && c) && l) ≡ true → ((r || not c) || l) ≡ true → c ≡ true → l ≡ not r
+  exclusive true true true e f g = sym e
+  exclusive true false true e f g = refl
+  exclusive false l true e f g = f
+  exclusive r l false e f g = absurd (false≢true g)
 
   module _ (passes : Passes) where
-    -- L(b,a) is excluded exactly where R(a,b) is not
-    pub opposite : (a b : ℕ) → a < ops .count → b < ops .count → L rules b a ≡ not (R rules a b)
+    -- L(b,a) is excluded exactly where R(a,b) is not, for an infix operator b
+    pub opposite : (a b : ℕ) → a < ops .count → class ops b ≡ Infix → L rules b a ≡ not (R rules a b)
     unfolding safe total
     opposite a b ha hb =
-        exclusive (R rules a b) (L rules b a) (allPairs-at (ops .count) (λ a b. not (R rules a b && L rules b a)) (passes .is-safe) a b ha hb)
-        (allPairs-at (ops .count) (λ a b. R rules a b || L rules b a) (passes .is-total) a b ha hb)
+        exclusive (R rules a b) (L rules b a) (comes ops b)
+        (allPairs-at (ops .count) (λ a b. not (comers ops (R rules a) b && L rules b a)) (passes .is-safe) a b ha (infix-below ops b hb))
+        (allPairs-at (ops .count) (λ a b. (R rules a b || not (comes ops b)) || L rules b a) (passes .is-total) a b ha (infix-below ops b hb))
+        (infix-comes ops b hb)
 
     -- the conflict count from a relation that agrees with R on the operators
     pub count-by-closes : (closes : ℕ → ℕ → Bool) → ((a b : ℕ) → a < ops .count → b < ops .count → closes a b ≡ R rules a b) → (t : Tree) → Over (class ops) t
         → conflictCount rules t ≡ conflicts (λ b a. not (closes a b)) closes t
     count-by-closes closes h =
         conflicts-agree (class ops) (L rules) (R rules) (λ b a. not (closes a b)) closes
-        (λ b a hb ha. opposite a b (infix-below ops a ha) (infix-below ops b hb) ∙ ap not (sym (h a b (infix-below ops a ha) (infix-below ops b hb))))
-        (λ a b ha hb. sym (h a b (infix-below ops a ha) (infix-below ops b hb)))
+        (λ b a hb ha. opposite a b (waits-below ops a ha) hb ∙ ap not (sym (h a b (waits-below ops a ha) (infix-below ops b hb))))
+        (λ a b ha hb. sym (h a b (waits-below ops a ha) (infix-below ops b hb)))
 
     -- Repair makes the conflict-free tree of the tree's row,
-    pub repair-is : (t : Tree) → Over (class ops) t → ConflictFreeTree ops rules (yield t) (repair (R rules) t)
+    pub repair-is : (t : Tree) → Over (class ops) t → ConflictFreeTree ops rules (yield t) (repair ops (R rules) t)
     repair-is t h =
         record {
           over = repair-makes (R rules) ops t h .over;
@@ -73,15 +76,15 @@ module _ (ops : Operators) (rules : List Rule) where
     only-one = tests-unique ops rules (passes .is-total) (passes .is-level)
 
     -- so it changes exactly the trees that have a conflict,
-    pub repair-same-exactly-if : (t : Tree) → Over (class ops) t → (repair (R rules) t ≡ t) ↔ (conflictCount rules t ≡ 0)
+    pub repair-same-exactly-if : (t : Tree) → Over (class ops) t → (repair ops (R rules) t ≡ t) ↔ (conflictCount rules t ≡ 0)
     repair-same-exactly-if t h = (
       λ e. ap (conflictCount rules) (sym e) ∙ repair-is t h .free,
-      λ e. only-one (yield t) (repair (R rules) t) t (repair-is t h) (record { over = h; yields = refl; free = e }),
+      λ e. only-one (yield t) (repair ops (R rules) t) t (repair-is t h) (record { over = h; yields = refl; free = e }),
     )
 
     -- and two trees repair to one exactly if their rows are the same.
-    pub repair-equal-exactly-if : (t u : Tree) → Over (class ops) t → Over (class ops) u → (repair (R rules) t ≡ repair (R rules) u) ↔ (yield t ≡ yield u)
+    pub repair-equal-exactly-if : (t u : Tree) → Over (class ops) t → Over (class ops) u → (repair ops (R rules) t ≡ repair ops (R rules) u) ↔ (yield t ≡ yield u)
     repair-equal-exactly-if t u ht hu = (
       λ e. sym (yield-repair (R rules) ops t ht) ∙ ap yield e ∙ yield-repair (R rules) ops u hu,
-      λ e. only-one (yield t) (repair (R rules) t) (repair (R rules) u) (repair-is t ht) (rw (← e) at (repair-is u hu)),
+      λ e. only-one (yield t) (repair ops (R rules) t) (repair ops (R rules) u) (repair-is t ht) (rw (← e) at (repair-is u hu)),
     )

@@ -4,16 +4,16 @@ use native.Mathlib.Omega.{arith}
 use mathlib.Core.Path.{_≡_, refl}
 use mathlib.Core.List.{[], _∷_}
 use Rattle.expression.specs.Lists.{All}
-use Rattle.expression.specs.Token.{operators, class}
+use Rattle.expression.specs.Token.{class}
 use Rattle.expression.specs.Tree.{Tree, binary}
 use Rattle.expression.specs.Decode.{treeOf}
 use Rattle.expression.specs.Checks.{recordNumber}
 use Rattle.disambiguation.specs.Rules.{L, R}
 use Rattle.disambiguation.specs.Below.{allBelow}
 use Rattle.disambiguation.specs.Verdict.{safe, total, within, level}
-use Rattle.disambiguation.specs.SheetChecks.{rulesOf, sheetNumber}
+use Rattle.disambiguation.specs.SheetChecks.{sheetNumber}
 use Rattle.disambiguation.specs.ExactlyOne.{HasTwo}
-use Rattle.disambiguation.specs.Cases.{Holds}
+use Rattle.disambiguation.specs.Cases.{ops, rules, Holds}
 use Rattle.disambiguation.specs.ChainCases.{roundBySides, chainCases}
 use Rattle.disambiguation.proofs.Cases.{w, x, y, z, _next_}
 
@@ -45,7 +45,7 @@ chains-hold =
     next tt
 
 -- Every pair is settled, yet this row has two trees.
-pub round-has-two : HasTwo (operators (roundBySides .n)) (rulesOf (roundBySides .bytes)) (0x80 ∷ 0 ∷ 0x81 ∷ 1 ∷ 0x82 ∷ 2 ∷ 0x83 ∷ [])
+pub round-has-two : HasTwo (ops roundBySides) (rules roundBySides) (0x80 ∷ 0 ∷ 0x81 ∷ 1 ∷ 0x82 ∷ 2 ∷ 0x83 ∷ [])
 unfolding class L R
 round-has-two = (
   binary 2 (binary 1 (binary 0 w x) y) z,

@@ -3,13 +3,14 @@ use Prim.Native.Nat.{ℕ}
 use mathlib.Core.Path.{_≡_, ap}
 use mathlib.Core.Bool.{Bool, true, false}
 use Rattle.expression.specs.Lists.{All}
-use Rattle.expression.specs.Token.{Class, Infix, Opening, Closing, Reading, Meaningless}
-use Rattle.expression.specs.Tree.{Tree, reading, bracket, binary, Over}
+use Rattle.expression.specs.Token.{Class, Infix, Prefix, Opening, Closing, Reading, Meaningless}
+use Rattle.expression.specs.Tree.{Tree, reading, bracket, binary, prefix, Over}
 use Rattle.disambiguation.specs.Edges.{rightEdge}
 
--- an operator that takes an operand on its right, and so may wait for it
+-- an operator that takes an operand on its right, infix or prefix, and so may wait for it
 abbrev pub waits : Class → Bool
 waits Infix = true
+waits Prefix = true
 waits Opening = false
 waits Closing = false
 waits Reading = false
@@ -18,6 +19,7 @@ waits Meaningless = false
 -- an operator that takes an operand on its left, and so makes others close
 abbrev pub takes : Class → Bool
 takes Infix = true
+takes Prefix = false
 takes Opening = false
 takes Closing = false
 takes Reading = false
@@ -44,3 +46,4 @@ pub right-edge-waits : (k : ℕ → Class) (t : Tree) → Over k t → All (λ p
 right-edge-waits k (reading a) h = tt
 right-edge-waits k (bracket t) h = tt
 right-edge-waits k (binary o l r) h = (ap waits (h .0), right-edge-waits k r (h .2))
+right-edge-waits k (prefix p t) h = (ap waits (h .0), right-edge-waits k t (h .1))

@@ -6,10 +6,10 @@ use mathlib.Core.Option.{some, Option·some-injective}
 use mathlib.Core.List.{[], _∷_, _++_}
 use Rattle.expression.specs.Lists.{All}
 use Rattle.expression.specs.Token.{Class, opening, closing}
-use Rattle.expression.specs.Tree.{Tree, reading, bracket, binary, yield, Over}
+use Rattle.expression.specs.Tree.{Tree, reading, bracket, binary, prefix, yield, Over}
 use Rattle.expression.proofs.Classes.{Brackets}
 use Rattle.disambiguation.specs.Edges.{rightEdge, leftEdge}
-use Rattle.disambiguation.specs.LeftToRight.{after, Stack, bottom, opened, waiting, due, have, close, everything, whole, finish, whereDue, before, run, parse}
+use Rattle.disambiguation.specs.LeftToRight.{after, ahead, Stack, bottom, opened, waiting, due, have, close, everything, whole, finish, whereDue, before, run, parse}
 use Rattle.disambiguation.proofs.Free.{all, None}
 use Rattle.disambiguation.proofs.LeftToRight.{run-append, Holds}
 
@@ -18,25 +18,29 @@ abbrev laid : Tree → Stack → Stack
 laid (reading a) s = s
 laid (bracket t) s = s
 laid (binary o l r) s = laid r (waiting (after l o) s)
+laid (prefix p t) s = laid t (waiting (ahead p) s)
 
 abbrev lastOperand : Tree → Tree
 lastOperand (reading a) = reading a
 lastOperand (bracket t) = bracket t
 lastOperand (binary o l r) = lastOperand r
+lastOperand (prefix p t) = lastOperand t
 
 close-laid : (p : ℕ → Bool) (t : Tree) (s : Stack) → All (λ a. p a ≡ true) (rightEdge t) → close p (laid t s) (lastOperand t) ≡ close p s t
 close-laid p (reading a) s h = refl
 close-laid p (bracket t) s h = refl
 close-laid p (binary o l r) s h = close-laid p r (waiting (after l o) s) (h .1) ∙ rw (h .0)
+close-laid p (prefix o t) s h = close-laid p t (waiting (ahead o) s) (h .1) ∙ rw (h .0)
 
 close-everything : (t : Tree) (s : Stack) → close everything (laid t s) (lastOperand t) ≡ close everything s t
 close-everything t s = close-laid everything t s (all (λ a. refl) (rightEdge t))
 
--- What the machine needs of a tree: before each operator all of its left operand's right edge closes, and it closes before nothing on its right operand's left edge.
+-- What the machine needs of a tree: before each operator all of its left operand's right edge closes, and it closes before nothing on the left edge of its right or only operand.
 abbrev pub Follows : (ℕ → ℕ → Bool) → Tree → Type 0
 Follows closes (reading a) = Unit {0}
 Follows closes (bracket t) = Follows closes t
 Follows closes (binary o l r) = All (λ p. closes p o ≡ true) (rightEdge l) × None (closes o) (leftEdge r) × Follows closes l × Follows closes r
+Follows closes (prefix p t) = None (closes p) (leftEdge t) × Follows closes t
 
 module _ (closes : ℕ → ℕ → Bool) where
   close-holds : (b : ℕ) (s : Stack) (t : Tree) → Holds closes s b → close (before closes b) s t ≡ (s, t)
@@ -63,6 +67,8 @@ module _ (closes : ℕ → ℕ → Bool) where
         ∙ ap (run closes k (o ∷ yield r)) (run-yield l (ht .1) (ft .2) s (h .1))
         ∙ ap (run closes k (yield r)) (rw (ht .0, close-edge o l s (ft .0) (h .0)))
         ∙ run-yield r (ht .2) (ft .3) (waiting (after l o) s) (ft .1)
+    run-yield (prefix p t) ht ft s h =
+        ap (λ x. run closes k (yield t) (whereDue x p s)) (ht .0) ∙ run-yield t (ht .1) (ft .1) (waiting (ahead p) s) (ft .0)
 
     pub parse-follows : (t : Tree) → Over k t → Follows closes t → parse closes k (yield t) ≡ some t
     unfolding parse

@@ -6,7 +6,6 @@ pub mod Unique
 pub mod MachineInvariant
 pub mod MakesTree
 pub mod SafeMakes
-pub mod ClassesAgree
 pub mod Repaired
 pub mod FewOperators
 pub mod Converse
@@ -21,4 +20,5 @@ pub mod Agreement
 pub mod Accepted
 pub mod Cases
 pub mod ChainCases
+pub mod PrefixCases
 pub mod MachineExamples

@@ -3,15 +3,15 @@ use Prim.Native.Nat.{ℕ}
 use mathlib.Core.Path.{_≡_, refl}
 use mathlib.Core.Option.{none, some}
 use mathlib.Core.List.{List, [], _∷_}
-use Rattle.expression.specs.Token.{operators, class}
+use Rattle.expression.specs.Token.{class}
 use Rattle.expression.specs.Tree.{Tree, reading, bracket, binary}
 use Rattle.disambiguation.specs.Rules.{L, R}
 use Rattle.disambiguation.specs.SheetChecks.{rulesOf}
-use Rattle.disambiguation.specs.Cases.{sheetA}
+use Rattle.disambiguation.specs.Cases.{ops, sheetA}
 use Rattle.disambiguation.specs.LeftToRight.{State, due, have, stuck, after, bottom, opened, waiting, finish, stateAfter}
 
 abbrev state : List ℕ → State
-state = stateAfter (R (rulesOf (sheetA .bytes))) (class (operators (sheetA .n)))
+state = stateAfter (R (rulesOf (sheetA .bytes))) (class (ops sheetA))
 
 abbrev x : Tree
 x = reading 0x80

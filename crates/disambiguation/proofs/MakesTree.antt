@@ -4,13 +4,13 @@ use mathlib.Core.Path.{_≡_, refl, ap, sym, _∙_}
 use mathlib.Core.Bool.{Bool, false}
 use mathlib.Core.Option.{some}
 use mathlib.Core.List.{List, [], _∷_, _++_, append-assoc}
-use Rattle.expression.specs.Token.{Class, Infix, opening, closing}
-use Rattle.expression.specs.Tree.{Tree, reading, bracket, binary, yield, Over}
+use Rattle.expression.specs.Token.{Class, Infix, Prefix, opening, closing}
+use Rattle.expression.specs.Tree.{Tree, reading, bracket, binary, prefix, yield, Over}
 use Rattle.expression.proofs.Classes.{Brackets}
 use Rattle.disambiguation.specs.Edges.{seenFromRight}
 use Rattle.disambiguation.specs.Conflicts.{conflicts}
-use Rattle.disambiguation.specs.LeftToRight.{after, Stack, bottom, opened, waiting, due, have, close, everything, shut, whole, finish, whereDue, before, whereRead, run, parse}
-use Rattle.disambiguation.proofs.Free.{None, count-of-free}
+use Rattle.disambiguation.specs.LeftToRight.{after, ahead, Stack, bottom, opened, waiting, due, have, close, everything, shut, whole, finish, whereDue, before, whereRead, run, parse}
+use Rattle.disambiguation.proofs.Free.{None, count-of-free, seen-on-edge}
 use Rattle.disambiguation.proofs.LeftToRight.{run-append, close-remains, Holds}
 use Rattle.disambiguation.proofs.MachineInvariant.{Bare, bare-right, tokensOf, tokens-waiting, base, base-close, yields, Good, Stands, close-stands, close-holds, close-yields}
 
@@ -74,7 +74,8 @@ module _ (closes : ℕ → ℕ → Bool) (k : ℕ → Class) where
     joined o ho l r s₀ q f =
         go ((close (before closes o) (q .stack) (q .operand)) .0) ((close (before closes o) (q .stack) (q .operand)) .1) refl
         (close-stands closes k (before closes o) (q .stack) (q .operand) (tokensOf s₀ ++ yield l) (q .stands))
-        (close-yields closes o (q .stack) (q .operand) (bare-right (λ x. yields closes o x ≡ false) (q .operand) (q .bare)))
+        (seen-on-edge (λ x. yields closes o x ≡ false) ((close (before closes o) (q .stack) (q .operand)) .1)
+        (close-yields closes o (q .stack) (q .operand) (bare-right (λ x. yields closes o x ≡ false) (q .operand) (q .bare))))
         (close-holds closes o (q .stack) (q .operand))
         (base-close (before closes o) (q .stack) (q .operand) ∙ q .same-base)
       where
@@ -107,6 +108,24 @@ module _ (closes : ℕ → ℕ → Bool) (k : ℕ → Class) where
               same-base = p .same-base ∙ b;
             }
 
+    -- a prefix operator before a tree
+    led : (p : ℕ) → k p ≡ Prefix → (t : Tree) (s₀ : Stack) → Read t (waiting (ahead p) s₀) → Read (prefix p t) s₀
+    led p hp t s₀ q =
+        record {
+          stack = q .stack;
+          operand = q .operand;
+          runs = ap (λ x. run closes k (yield t) (whereDue x p s₀)) hp ∙ q .runs;
+          bare = q .bare;
+          stands = record {
+            over = q .stands .over;
+            free = q .stands .free;
+            held = q .stands .held;
+            good = q .stands .good;
+            reads = q .stands .reads ∙ append-assoc (tokensOf s₀) (p ∷ []) (yield t);
+          };
+          same-base = q .same-base;
+        }
+
     read : (t₀ : Tree) → Over k t₀ → (s₀ : Stack) → Good closes k s₀ → Read t₀ s₀
     read (reading a) h s₀ g =
         record {
@@ -119,6 +138,7 @@ module _ (closes : ℕ → ℕ → Bool) (k : ℕ → Class) where
         }
     read (bracket t) h s₀ g = enclosed t s₀ (read t h (opened s₀) g)
     read (binary o l r) h s₀ g = joined o (h .0) l r s₀ (read l (h .1) s₀ g) (read r (h .2))
+    read (prefix p t) h s₀ g = led p (h .0) t s₀ (read t (h .1) (waiting (ahead p) s₀) (h .0, g))
 
     -- Of every tree's row a tree is made.
     pub parse-makes : (t₀ : Tree) → Over k t₀ → (t : Tree) × Makes (yield t₀) t

@@ -4,7 +4,7 @@ use mathlib.Core.Path.{_≡_, ap}
 use mathlib.Core.Bool.{Bool, true}
 use borrow.Author.Tests.{not-false}
 use Rattle.expression.specs.Token.{Class}
-use Rattle.expression.specs.Tree.{Tree, reading, bracket, binary, yield, Over}
+use Rattle.expression.specs.Tree.{Tree, reading, bracket, binary, prefix, yield, Over}
 use Rattle.expression.proofs.Classes.{Brackets}
 use Rattle.disambiguation.specs.Edges.{seenFromRight}
 use Rattle.disambiguation.specs.Conflicts.{conflicts}
@@ -25,6 +25,7 @@ module _ (L closes : ℕ → ℕ → Bool) (k : ℕ → Class) (safe : Safe L cl
     free-safe l (h .1) (f .2),
     free-safe r (h .2) (f .3),
   )
+  free-safe (prefix p t) h f = (f .0, free-safe t (h .1) (f .1))
 
   pub conflicts-safe : (t : Tree) → Over k t → conflicts (yields closes) closes t ≡ 0 → conflicts L closes t ≡ 0
   conflicts-safe t h e = count-of-free L closes t (free-safe t h (free-of-count (yields closes) closes t e))

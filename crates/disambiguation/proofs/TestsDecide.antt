@@ -4,12 +4,14 @@ use native.Mathlib.Omega.{arith}
 use mathlib.Core.Path.{_≡_, refl, ap, sym, _∙_}
 use mathlib.Core.Bool.{Bool, true, false, not, _&&_, _||_, cond, true≢false, false≢true}
 use mathlib.Core.Logic.{_⊎_, inl, inr}
+use lib.Dec.{eqb}
 use borrow.Author.Tests.{not-false}
 use Rattle.expression.specs.Limits.{mostOperators}
-use Rattle.expression.specs.Token.{Infix, Operators, class}
+use Rattle.expression.specs.Token.{Infix, Prefix, prefixKind, Operators, kindOf, classOfKind, class}
 use Rattle.expression.proofs.Tests.{both-false}
-use Rattle.expression.proofs.Classes.{class-operator, operator-below}
-use Rattle.disambiguation.specs.Verdict.{safe, total, within, level}
+use Rattle.expression.proofs.Classes.{class-operator, by-class, operator-below}
+use Rattle.disambiguation.specs.Verdict.{comes, comers, safe, total, within, level}
+use Rattle.disambiguation.proofs.Free.{is-true}
 use Rattle.disambiguation.proofs.BelowLaws.{and-true, allBelow-at, allBelow-fails, allPairs-at, allPairs-fails}
 use Rattle.disambiguation.proofs.Conditions.{waits, takes, Safe, Total, Transitive, Cotransitive}
 
@@ -39,27 +41,52 @@ abbrev pub Uneven : (ℕ → ℕ → Bool) → ℕ → ℕ → ℕ → Type 0
 Uneven R a b c = ((R a b ≡ true) × (R b c ≡ true) × (R a c ≡ false)) ⊎ ((R a b ≡ false) × (R b c ≡ false) × (R a c ≡ true))
 
 module _ (ops : Operators) where
-  waits-below : (a : ℕ) → waits (class ops a) ≡ true → a < ops .count
+  pub waits-below : (a : ℕ) → waits (class ops a) ≡ true → a < ops .count
   waits-below = operator-below ops waits refl refl refl refl
 
   takes-below : (b : ℕ) → takes (class ops b) ≡ true → b < ops .count
   takes-below = operator-below ops takes refl refl refl refl
 
   pub infix-below : (b : ℕ) → class ops b ≡ Infix → b < ops .count
-  infix-below b h = waits-below b (ap waits h)
+  infix-below b h = takes-below b (ap takes h)
+
+  -- what takes a left operand may stand right of another
+  takes-comes : (b : ℕ) → takes (class ops b) ≡ true → comes ops b ≡ true
+  takes-comes b =
+      by-class ops (λ x. takes x ≡ true → comes ops b ≡ true) b (λ _ _ e _. ap not e) (λ _ _ _ h. absurd (false≢true h)) (λ _ h. absurd (false≢true h))
+      (λ _ h. absurd (false≢true h)) (λ _ _ h. absurd (false≢true h)) (λ h. absurd (false≢true h))
+
+  pub infix-comes : (b : ℕ) → class ops b ≡ Infix → comes ops b ≡ true
+  infix-comes b h = takes-comes b (ap takes h)
+
+  comers-at : (p : ℕ → Bool) (b : ℕ) → takes (class ops b) ≡ true → p b ≡ true → comers ops p b ≡ true
+  comers-at p b h e = rw (e, takes-comes b h)
 
   module _ (L R : ℕ → ℕ → Bool) where
     pub safe-safe : safe ops L R ≡ true → Safe L R (class ops)
     unfolding safe
-    safe-safe e a b ha hb = not-both (R a b) (L b a) (allPairs-at (ops .count) (λ a b. not (R a b && L b a)) e a b (waits-below a ha) (takes-below b hb))
+    safe-safe e a b ha hb r =
+        not-both (comers ops (R a) b) (L b a) (allPairs-at (ops .count) (λ a b. not (comers ops (R a) b && L b a)) e a b (waits-below a ha) (takes-below b hb))
+        (comers-at (R a) b hb r)
 
     pub total-total : total ops L R ≡ true → Total L R (class ops)
     unfolding total
-    total-total e a b ha hb = either (R a b) (L b a) (allPairs-at (ops .count) (λ a b. R a b || L b a) e a b (waits-below a ha) (takes-below b hb))
+    total-total e a b ha hb r =
+        either (R a b || not (comes ops b)) (L b a)
+        (allPairs-at (ops .count) (λ a b. (R a b || not (comes ops b)) || L b a) e a b (waits-below a ha) (takes-below b hb)) (rw (r, takes-comes b hb))
 
   module _ (R : ℕ → ℕ → Bool) where
-    abbrev pub levelAt : ℕ → ℕ → Bool
-    levelAt a b = cond (R a b) (within (ops .count) (R b) (R a)) (within (ops .count) (R a) (R b))
+    abbrev levelPair : ℕ → ℕ → Bool
+    levelPair a b = cond (R a b) (within (ops .count) (comers ops (R b)) (R a)) (within (ops .count) (comers ops (R a)) (R b))
+
+    abbrev levelAt : ℕ → ℕ → Bool
+    levelAt a b = not (comes ops b) || levelPair a b
+
+    pair-at : level ops R ≡ true → (a b : ℕ) → waits (class ops a) ≡ true → class ops b ≡ Infix → levelPair a b ≡ true
+    unfolding level
+    pair-at e a b ha hb =
+        is-true (levelPair a b)
+        (implies (comes ops b) (levelPair a b) (allPairs-at (ops .count) levelAt e a b (waits-below a ha) (infix-below b hb)) (infix-comes b hb))
 
     within-at : (p q : ℕ → Bool) → within (ops .count) p q ≡ true → (c : ℕ) → c < ops .count → p c ≡ true → q c ≡ false → ⊥
     unfolding within
@@ -73,51 +100,66 @@ module _ (ops : Operators) where
         (c, h, x, y)
 
     pub level-transitive : level ops R ≡ true → Transitive R (class ops)
-    unfolding level
-    level-transitive e a b c ha hb hc ab bc ac = within-at (R b) (R a) (here (R a b) ab (allPairs-at (ops .count) levelAt e a b (waits-below a ha) (infix-below b hb))) c (takes-below c hc) bc ac
-      where
-        here : (x : Bool) → x ≡ true → cond x (within (ops .count) (R b) (R a)) (within (ops .count) (R a) (R b)) ≡ true → within (ops .count) (R b) (R a) ≡ true
-        here true h e = e
-        here false h e = absurd (false≢true h)
+    level-transitive e a b c ha hb hc ab bc ac =
+        within-at (comers ops (R b)) (R a) (rw ab at (pair-at e a b ha hb)) c (takes-below c hc) (comers-at (R b) c hc bc) ac
 
     pub level-cotransitive : level ops R ≡ true → Cotransitive R (class ops)
-    unfolding level
-    level-cotransitive e a b c ha hb hc ab bc ac = within-at (R a) (R b) (here (R a b) ab (allPairs-at (ops .count) levelAt e a b (waits-below a ha) (infix-below b hb))) c (infix-below c hc) ac bc
-      where
-        here : (x : Bool) → x ≡ false → cond x (within (ops .count) (R b) (R a)) (within (ops .count) (R a) (R b)) ≡ true → within (ops .count) (R a) (R b) ≡ true
-        here true h e = absurd (true≢false h)
-        here false h e = e
+    level-cotransitive e a b c ha hb hc ab bc ac =
+        within-at (comers ops (R a)) (R b) (rw ab at (pair-at e a b ha hb)) c (infix-below c hc) (comers-at (R a) c (ap takes hc) ac) bc
 
   -- Where a test fails, operators that fail it.
   module _ (small : ops .count ≤ mostOperators) where
-    operator : (a : ℕ) → a < ops .count → class ops a ≡ Infix
+    operator : (a : ℕ) → a < ops .count → class ops a ≡ classOfKind (kindOf ops a)
     operator a h = class-operator ops a (omega arith) h
 
-    abbrev Infix₂ : ℕ → ℕ → Type 0
-    Infix₂ a b = (class ops a ≡ Infix) × (class ops b ≡ Infix)
+    is-left : (a : ℕ) → a < ops .count → waits (class ops a) ≡ true
+    is-left a h = ap waits (operator a h) ∙ go (eqb (kindOf ops a) prefixKind)
+      where
+        go : (b : Bool) → waits (cond b Prefix Infix) ≡ true
+        go true = refl
+        go false = refl
 
-    pub safe-fails : (L R : ℕ → ℕ → Bool) → safe ops L R ≡ false → (a : ℕ) × (b : ℕ) × Infix₂ a b × (R a b ≡ true) × (L b a ≡ true)
+    is-infix : (b : ℕ) → b < ops .count → comes ops b ≡ true → class ops b ≡ Infix
+    is-infix b h e = operator b h ∙ go (eqb (kindOf ops b) prefixKind) e
+      where
+        go : (x : Bool) → not x ≡ true → cond x Prefix Infix ≡ Infix
+        go true e = absurd (false≢true e)
+        go false e = refl
+
+    abbrev Pair : ℕ → ℕ → Type 0
+    Pair a b = (waits (class ops a) ≡ true) × (class ops b ≡ Infix)
+
+    pub safe-fails : (L R : ℕ → ℕ → Bool) → safe ops L R ≡ false → (a : ℕ) × (b : ℕ) × Pair a b × (R a b ≡ true) × (L b a ≡ true)
     unfolding safe
     safe-fails L R e =
-        let (a, b, ha, hb, f) = allPairs-fails (ops .count) (λ a b. not (R a b && L b a)) e in
-        let (r, l) = both (R a b) (L b a) f in
-        (a, b, (operator a ha, operator b hb), r, l)
+        let (a, b, ha, hb, f) = allPairs-fails (ops .count) (λ a b. not (comers ops (R a) b && L b a)) e in
+        let (q, l) = both (comers ops (R a) b) (L b a) f in
+        let (r, i) = and-true (R a b) (comes ops b) q in
+        (a, b, (is-left a ha, is-infix b hb i), r, l)
 
-    pub total-fails : (L R : ℕ → ℕ → Bool) → total ops L R ≡ false → (a : ℕ) × (b : ℕ) × Infix₂ a b × (R a b ≡ false) × (L b a ≡ false)
+    pub total-fails : (L R : ℕ → ℕ → Bool) → total ops L R ≡ false → (a : ℕ) × (b : ℕ) × Pair a b × (R a b ≡ false) × (L b a ≡ false)
     unfolding total
     total-fails L R e =
-        let (a, b, ha, hb, f) = allPairs-fails (ops .count) (λ a b. R a b || L b a) e in
-        let (r, l) = both-false (R a b) (L b a) f in
-        (a, b, (operator a ha, operator b hb), r, l)
+        let (a, b, ha, hb, f) = allPairs-fails (ops .count) (λ a b. (R a b || not (comes ops b)) || L b a) e in
+        let (q, l) = both-false (R a b || not (comes ops b)) (L b a) f in
+        let (r, i) = both-false (R a b) (not (comes ops b)) q in
+        (a, b, (is-left a ha, is-infix b hb (not-false (comes ops b) i)), r, l)
 
-    pub level-fails : (R : ℕ → ℕ → Bool) → level ops R ≡ false
-        → (a : ℕ) × (b : ℕ) × (c : ℕ) × (class ops a ≡ Infix) × (class ops b ≡ Infix) × (class ops c ≡ Infix) × Uneven R a b c
+    pub level-fails : (R : ℕ → ℕ → Bool) → level ops R ≡ false → (a : ℕ) × (b : ℕ) × (c : ℕ) × Pair a b × (class ops c ≡ Infix) × Uneven R a b c
     unfolding level
     level-fails R e =
         let (a, b, ha, hb, f) = allPairs-fails (ops .count) (levelAt R) e in
-        let (c, hc, u) = go a b (R a b) refl f in
-        (a, b, c, operator a ha, operator b hb, operator c hc, u)
+        let (i, g) = not-implies (comes ops b) (levelPair R a b) f in
+        let (c, hc, u) = go a b (R a b) refl g in
+        (a, b, c, (is-left a ha, is-infix b hb i), hc, u)
       where
-        go : (a b : ℕ) (x : Bool) → R a b ≡ x → cond x (within (ops .count) (R b) (R a)) (within (ops .count) (R a) (R b)) ≡ false → (c : ℕ) × (c < ops .count) × Uneven R a b c
-        go a b true h f = let (c, hc, p, q) = within-fails R (R b) (R a) f in (c, hc, inl (h, p, q))
-        go a b false h f = let (c, hc, p, q) = within-fails R (R a) (R b) f in (c, hc, inr (h, q, p))
+        go : (a b : ℕ) (x : Bool) → R a b ≡ x → cond x (within (ops .count) (comers ops (R b)) (R a)) (within (ops .count) (comers ops (R a)) (R b)) ≡ false
+            → (c : ℕ) × (class ops c ≡ Infix) × Uneven R a b c
+        go a b true h f =
+            let (c, hc, p, q) = within-fails R (comers ops (R b)) (R a) f in
+            let (r, i) = and-true (R b c) (comes ops c) p in
+            (c, is-infix c hc i, inl (h, r, q))
+        go a b false h f =
+            let (c, hc, p, q) = within-fails R (comers ops (R a)) (R b) f in
+            let (r, i) = and-true (R a c) (comes ops c) p in
+            (c, is-infix c hc i, inr (h, q, r))

@@ -17,6 +17,7 @@ use Rattle.disambiguation.specs.Conflicts.{ConflictFreeTree}
 use Rattle.disambiguation.specs.ExactlyOne.{SomeRowHasNone, EveryRowHasOne, SomeRowHasTwo, EveryRowHasExactlyOne}
 use Rattle.disambiguation.specs.Verdict.{safe, total, level, verdict}
 use Rattle.disambiguation.proofs.BelowLaws.{and-true, and-false}
+use Rattle.disambiguation.proofs.Conditions.{waits}
 use Rattle.disambiguation.proofs.SafeMakes.{makes-safe}
 use Rattle.disambiguation.proofs.Unique.{unique}
 use Rattle.disambiguation.proofs.Converse.{Twins, not-safe, not-total, not-transitive, not-cotransitive}
@@ -70,10 +71,10 @@ module _ (ops : Operators) (rules : List Rule) where
 
     uneven-has-two : safe ops (L rules) (R rules) ≡ true → level ops (R rules) ≡ false → SomeRowHasTwo ops rules
     uneven-has-two s e =
-        let (a, b, c, ha, hb, hc, uneven) = level-fails ops small (R rules) e in
+        let (a, b, c, (ha, hb), hc, uneven) = level-fails ops small (R rules) e in
         go a b c ha hb hc uneven
       where
-        go : (a b c : ℕ) → class ops a ≡ Infix → class ops b ≡ Infix → class ops c ≡ Infix → Uneven (R rules) a b c → SomeRowHasTwo ops rules
+        go : (a b c : ℕ) → waits (class ops a) ≡ true → class ops b ≡ Infix → class ops c ≡ Infix → Uneven (R rules) a b c → SomeRowHasTwo ops rules
         go a b c ha hb hc (inl (p, q, r)) =
             let (t, u, w) = not-transitive (L rules) (R rules) (class ops) (brackets ops) 0x80 reading-80 (safe-safe ops (L rules) (R rules) s) a b c ha hb hc p q r in
             two-trees t u w

@@ -3,8 +3,9 @@ use Prim.Native.Nat.{ℕ}
 use mathlib.Core.Path.{_≡_}
 use mathlib.Core.List.{List, [], _∷_, _++_}
 use mathlib.Core.Option.{some}
+use lib.ListN.{length, replicate}
 use Rattle.expression.specs.Refusal.{accepted, dead, double, noRow, noTree}
-use Rattle.expression.specs.Token.{Operators, operators, class}
+use Rattle.expression.specs.Token.{infixKind, Operators, operators, class}
 use Rattle.expression.specs.Tree.{Tree, yield}
 use Rattle.expression.specs.Decode.{treeOf}
 use Rattle.expression.specs.Checks.{rowNumber, recordNumber}
@@ -13,10 +14,14 @@ use Rattle.disambiguation.specs.Conflicts.{conflictCount, ConflictFreeTr
 use Rattle.disambiguation.specs.SheetChecks.{rulesOf, sheetNumber}
 use Rattle.disambiguation.specs.Repair.{repair}
 
--- n and the rule bytes
+-- the kind bytes, as many as there are operators, and the rule bytes
 pub record Sheet : Type 0 where
-  pub n : ℕ
+  pub kinds : List ℕ
   pub bytes : List ℕ
+
+-- n infix operators
+abbrev pub infixes : ℕ → List ℕ
+infixes n = replicate n infixKind
 
 pub data Case : Type 0 where
   -- a row and the record of its conflict-free tree
@@ -29,11 +34,13 @@ pub data Case : Type 0 where
   row : Sheet → List ℕ → ℕ → Case
   tree : Sheet → List ℕ → ℕ → Case
   sheet : Sheet → ℕ → Case
+  -- n and the bytes after it, and their number
+  frame : ℕ → List ℕ → ℕ → Case
 
-abbrev ops : Sheet → Operators
-ops s = operators (s .n)
+abbrev pub ops : Sheet → Operators
+ops s = operators (length (s .kinds)) (s .kinds)
 
-abbrev rules : Sheet → List Rule
+abbrev pub rules : Sheet → List Rule
 rules s = rulesOf (s .bytes)
 
 -- t is the tree that the record is of
@@ -45,35 +52,36 @@ abbrev pub Holds : Case → Type 0
 Holds (built s tokens answer) =
     (rowNumber (ops s) tokens ≡ accepted) × ((t : Tree) × Records s answer t × ConflictFreeTree (ops s) (rules s) tokens t)
 Holds (repaired s bytes answer) =
-    (t : Tree) × (u : Tree) × Records s bytes t × Records s answer u × ConflictFreeTree (ops s) (rules s) (yield t) u × (repair (R (rules s)) t ≡ u)
+    (t : Tree) × (u : Tree) × Records s bytes t × Records s answer u × ConflictFreeTree (ops s) (rules s) (yield t) u × (repair (ops s) (R (rules s)) t ≡ u)
 Holds (counted s bytes number) = (t : Tree) × Records s bytes t × (conflictCount (rules s) t ≡ number)
 Holds (row s tokens number) = rowNumber (ops s) tokens ≡ number
 Holds (tree s bytes number) = recordNumber (ops s) bytes ≡ number
-Holds (sheet s number) = sheetNumber (s .n) (s .bytes) ≡ number
+Holds (sheet s number) = sheetNumber (length (s .kinds)) (s .kinds ++ s .bytes) ≡ number
+Holds (frame n bytes number) = sheetNumber n bytes ≡ number
 
 -- Sheet A: two operators, 01 over 00, each left with itself.
 abbrev pub sheetA : Sheet
-sheetA = record { n = 2; bytes = priority ∷ 1 ∷ 0 ∷ left ∷ 1 ∷ 1 ∷ left ∷ 0 ∷ 0 ∷ [] }
+sheetA = record { kinds = infixes 2; bytes = priority ∷ 1 ∷ 0 ∷ left ∷ 1 ∷ 1 ∷ left ∷ 0 ∷ 0 ∷ [] }
 
 -- n = 1 without rules, and with 00 left and right of itself
 abbrev pub undecided : Sheet
-undecided = record { n = 1; bytes = [] }
+undecided = record { kinds = infixes 1; bytes = [] }
 
 abbrev pub excluded : Sheet
-excluded = record { n = 1; bytes = left ∷ 0 ∷ 0 ∷ right ∷ 0 ∷ 0 ∷ [] }
+excluded = record { kinds = infixes 1; bytes = left ∷ 0 ∷ 0 ∷ right ∷ 0 ∷ 0 ∷ [] }
 
 abbrev pub empty : Sheet
-empty = record { n = 0; bytes = [] }
+empty = record { kinds = infixes 0; bytes = [] }
 
 -- n = 3, each left with itself, 00 over 01, 01 over 02; and with 02 over 00, by which each operator stands over itself
 abbrev pub falling : Sheet
 falling = record {
-  n = 3;
+  kinds = infixes 3;
   bytes = left ∷ 0 ∷ 0 ∷ left ∷ 1 ∷ 1 ∷ left ∷ 2 ∷ 2 ∷ priority ∷ 0 ∷ 1 ∷ priority ∷ 1 ∷ 2 ∷ [];
 }
 
 abbrev pub round : Sheet
-round = record { n = 3; bytes = falling .bytes ++ (priority ∷ 2 ∷ 0 ∷ []) }
+round = record { kinds = infixes 3; bytes = falling .bytes ++ (priority ∷ 2 ∷ 0 ∷ []) }
 
 -- The cases 1 to 13.
 abbrev pub table : List Case

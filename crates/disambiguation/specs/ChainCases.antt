@@ -2,37 +2,37 @@
 use mathlib.Core.List.{List, [], _∷_}
 use Rattle.expression.specs.Refusal.{dead, double}
 use Rattle.disambiguation.specs.Rules.{priority, left, right}
-use Rattle.disambiguation.specs.Cases.{Sheet, Case, counted, sheet, falling}
+use Rattle.disambiguation.specs.Cases.{Sheet, infixes, Case, counted, sheet, falling}
 
 -- 02 over 03 and 00 over 01; and with 01 over 02, which joins them
 abbrev pub apart : Sheet
-apart = record { n = 4; bytes = priority ∷ 2 ∷ 3 ∷ priority ∷ 0 ∷ 1 ∷ [] }
+apart = record { kinds = infixes 4; bytes = priority ∷ 2 ∷ 3 ∷ priority ∷ 0 ∷ 1 ∷ [] }
 
 abbrev pub joined : Sheet
-joined = record { n = 4; bytes = priority ∷ 2 ∷ 3 ∷ priority ∷ 0 ∷ 1 ∷ priority ∷ 1 ∷ 2 ∷ [] }
+joined = record { kinds = infixes 4; bytes = priority ∷ 2 ∷ 3 ∷ priority ∷ 0 ∷ 1 ∷ priority ∷ 1 ∷ 2 ∷ [] }
 
 -- from 00 to 04 in four rules, in no order
 abbrev pub steps : Sheet
-steps = record { n = 5; bytes = priority ∷ 3 ∷ 4 ∷ priority ∷ 1 ∷ 2 ∷ priority ∷ 0 ∷ 1 ∷ priority ∷ 2 ∷ 3 ∷ [] }
+steps = record { kinds = infixes 5; bytes = priority ∷ 3 ∷ 4 ∷ priority ∷ 1 ∷ 2 ∷ priority ∷ 0 ∷ 1 ∷ priority ∷ 2 ∷ 3 ∷ [] }
 
 -- 00 over 01 and 01 over 00
 abbrev pub circle : Sheet
-circle = record { n = 2; bytes = priority ∷ 0 ∷ 1 ∷ priority ∷ 1 ∷ 0 ∷ [] }
+circle = record { kinds = infixes 2; bytes = priority ∷ 0 ∷ 1 ∷ priority ∷ 1 ∷ 0 ∷ [] }
 
 -- what would be chains if left and right were priorities, and chains that they break
 abbrev pub lefts : Sheet
-lefts = record { n = 3; bytes = left ∷ 0 ∷ 1 ∷ left ∷ 1 ∷ 2 ∷ [] }
+lefts = record { kinds = infixes 3; bytes = left ∷ 0 ∷ 1 ∷ left ∷ 1 ∷ 2 ∷ [] }
 
 abbrev pub rights : Sheet
-rights = record { n = 3; bytes = right ∷ 0 ∷ 1 ∷ right ∷ 1 ∷ 2 ∷ [] }
+rights = record { kinds = infixes 3; bytes = right ∷ 0 ∷ 1 ∷ right ∷ 1 ∷ 2 ∷ [] }
 
 abbrev pub broken : Sheet
-broken = record { n = 3; bytes = priority ∷ 0 ∷ 1 ∷ left ∷ 1 ∷ 2 ∷ right ∷ 1 ∷ 2 ∷ [] }
+broken = record { kinds = infixes 3; bytes = priority ∷ 0 ∷ 1 ∷ left ∷ 1 ∷ 2 ∷ right ∷ 1 ∷ 2 ∷ [] }
 
 -- Case 12 with left and right in place of each priority: every pair is settled, and nothing leads on.
 abbrev pub roundBySides : Sheet
 roundBySides = record {
-  n = 3;
+  kinds = infixes 3;
   bytes =
       left ∷ 0 ∷ 0 ∷ left ∷ 1 ∷ 1 ∷ left ∷ 2 ∷ 2
       ∷ left ∷ 0 ∷ 1 ∷ right ∷ 0 ∷ 1 ∷ left ∷ 1 ∷ 2 ∷ right ∷ 1 ∷ 2 ∷ left ∷ 2 ∷ 0 ∷ right ∷ 2 ∷ 0 ∷ [];

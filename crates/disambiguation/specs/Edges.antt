@@ -1,28 +1,40 @@
 -- The edges of a tree, and what an operator beside the tree sees of them. Assumes nothing.
 use Prim.Native.Nat.{ℕ}
-use mathlib.Core.List.{List, [], _∷_}
-use Rattle.expression.specs.Tree.{Tree, reading, bracket, binary}
+use mathlib.Core.List.{List, [], _∷_, _++_}
+use Rattle.expression.specs.Tree.{Tree, reading, bracket, binary, prefix}
 
--- the operators along the right edge, from the top: down the right operands to the first bracket or reading
+-- the operators along the right edge, from the top: down the right operands, a prefix operator's only one, to the first bracket or reading
 abbrev pub rightEdge : Tree → List ℕ
 rightEdge (reading a) = []
 rightEdge (bracket t) = []
 rightEdge (binary o l r) = o ∷ rightEdge r
+rightEdge (prefix p t) = p ∷ rightEdge t
 
--- the operators along the left edge
+-- the operators along the left edge that have an operand on their left: down the left operands; a prefix operator ends it
 abbrev pub leftEdge : Tree → List ℕ
 leftEdge (reading a) = []
 leftEdge (bracket t) = []
 leftEdge (binary o l r) = o ∷ leftEdge l
+leftEdge (prefix p t) = []
 
--- What an operator that stands right of the tree sees of it, as its left operand: the operator on top. A bracket node is never the operator inside it.
+-- of the right edge the prefix operators
+abbrev pub prefixes : Tree → List ℕ
+prefixes (reading a) = []
+prefixes (bracket t) = []
+prefixes (binary o l r) = prefixes r
+prefixes (prefix p t) = p ∷ prefixes t
+
+-- the infix operator on top, if there is one; a bracket node is never the operator inside it
+abbrev pub onTop : Tree → List ℕ
+onTop (reading a) = []
+onTop (bracket t) = []
+onTop (binary o l r) = o ∷ []
+onTop (prefix p t) = []
+
+-- What an operator that stands right of the tree sees of it, as its left operand: an infix operator on top, and the prefix operators anywhere on the right edge.
 abbrev pub seenFromRight : Tree → List ℕ
-seenFromRight (reading a) = []
-seenFromRight (bracket t) = []
-seenFromRight (binary o l r) = o ∷ []
+seenFromRight t = onTop t ++ prefixes t
 
--- what an operator that stands left of the tree sees of it, as its right operand: the operator on top
+-- what an operator that stands left of the tree sees of it, as its right or only operand: an infix operator on top
 abbrev pub seenFromLeft : Tree → List ℕ
-seenFromLeft (reading a) = []
-seenFromLeft (bracket t) = []
-seenFromLeft (binary o l r) = o ∷ []
+seenFromLeft t = onTop t

@@ -3,19 +3,21 @@ use Prim.Native.Nat.{ℕ}
 use mathlib.Core.Bool.{Bool, true, cond}
 use mathlib.Core.Option.{Option, none, some}
 use mathlib.Core.List.{List, [], _∷_}
-use Rattle.expression.specs.Limits.{mostOperators}
-use Rattle.expression.specs.Token.{Class, Infix, Opening, Closing, Reading, Meaningless, Operators, operators, class}
-use Rattle.expression.specs.Tree.{Tree, reading, bracket, binary}
+use Rattle.expression.specs.Token.{Class, Infix, Prefix, Opening, Closing, Reading, Meaningless, Operators, class}
+use Rattle.expression.specs.Tree.{Tree, reading, bracket, binary, prefix}
 
--- an operator that waits for its right operand, with what stands left of it
+-- an operator that waits for its right operand, with what stands left of it; a prefix operator that waits for its operand
 pub data Frame : Type 0 where
   after : Tree → ℕ → Frame
+  ahead : ℕ → Frame
 
 abbrev pub operatorOf : Frame → ℕ
 operatorOf (after l o) = o
+operatorOf (ahead p) = p
 
 abbrev pub fill : Frame → Tree → Tree
 fill (after l o) t = binary o l t
+fill (ahead p) t = prefix p t
 
 -- what waits, the latest first, back to an open bracket or to the row's beginning
 pub data Stack : Type 0 where
@@ -29,7 +31,7 @@ pub data State : Type 0 where
   have : Stack → Tree → State
   stuck : State
 
--- What waits closes as long as p says so, the nearest first: each takes the tree so far as its right operand.
+-- What waits closes as long as p says so, the nearest first: each takes the tree so far as its right or only operand.
 abbrev pub close : (ℕ → Bool) → Stack → Tree → Stack × Tree
 close p bottom t = (bottom, t)
 close p (opened s) t = (opened s, t)
@@ -63,9 +65,10 @@ finish (due s) = none
 finish (have s t) = whole ((close everything s t) .0) ((close everything s t) .1)
 finish stuck = none
 
--- One token, by its class, where an operand is due,
+-- One token, by its class, where an operand is due: a prefix operator waits;
 abbrev pub whereDue : Class → ℕ → Stack → State
 whereDue Infix c s = stuck
+whereDue Prefix c s = due (waiting (ahead c) s)
 whereDue Opening c s = due (opened s)
 whereDue Closing c s = stuck
 whereDue Reading c s = have s (reading c)
@@ -79,6 +82,7 @@ module _ (closes : ℕ → ℕ → Bool) where
   -- and where one has been read: an operator takes what closes before it as its left operand, and waits.
   abbrev pub whereRead : Class → ℕ → Stack → Tree → State
   whereRead Infix b s t = due (waiting (after ((close (before b) s t) .1) b) ((close (before b) s t) .0))
+  whereRead Prefix b s t = stuck
   whereRead Opening b s t = stuck
   whereRead Closing b s t = shut ((close everything s t) .0) ((close everything s t) .1)
   whereRead Reading b s t = stuck
@@ -103,10 +107,6 @@ module _ (closes : ℕ → ℕ → Bool) where
     unfoldable pub parse : List ℕ → Option Tree
     parse tokens = finish (stateAfter tokens)
 
--- every operator byte taken for an operator: what is made of a row does not ask how many of them the sheet has
-abbrev pub everyOperator : Operators
-everyOperator = operators mostOperators
-
--- the tree that is made of a row
-unfoldable pub made : (ℕ → ℕ → Bool) → List ℕ → Option Tree
-made closes tokens = parse closes (class everyOperator) tokens
+-- the tree that is made of a row over a sheet's operators
+unfoldable pub made : Operators → (ℕ → ℕ → Bool) → List ℕ → Option Tree
+made ops closes tokens = parse closes (class ops) tokens

@@ -11,4 +11,5 @@ pub mod LeftToRight
 pub mod Repair
 pub mod Cases
 pub mod ChainCases
+pub mod PrefixCases
 pub mod Misreadings

@@ -2,29 +2,29 @@
 use mathlib.Core.List.{List, [], _∷_}
 use Rattle.expression.specs.Refusal.{accepted, double}
 use Rattle.disambiguation.specs.Rules.{priority, left, right}
-use Rattle.disambiguation.specs.Cases.{Sheet, Case, repaired, counted, sheet, sheetA}
+use Rattle.disambiguation.specs.Cases.{Sheet, infixes, Case, repaired, counted, sheet, sheetA}
 
 -- two operators and one rule: 00 left 01, 00 right 01, 00 over 01
 abbrev pub leftOnly : Sheet
-leftOnly = record { n = 2; bytes = left ∷ 0 ∷ 1 ∷ [] }
+leftOnly = record { kinds = infixes 2; bytes = left ∷ 0 ∷ 1 ∷ [] }
 
 abbrev pub rightOnly : Sheet
-rightOnly = record { n = 2; bytes = right ∷ 0 ∷ 1 ∷ [] }
+rightOnly = record { kinds = infixes 2; bytes = right ∷ 0 ∷ 1 ∷ [] }
 
 abbrev pub overOnly : Sheet
-overOnly = record { n = 2; bytes = priority ∷ 0 ∷ 1 ∷ [] }
+overOnly = record { kinds = infixes 2; bytes = priority ∷ 0 ∷ 1 ∷ [] }
 
 -- each left with itself and 00 left 01, without and with 01 left 00
 abbrev pub oneOrder : Sheet
-oneOrder = record { n = 2; bytes = left ∷ 0 ∷ 0 ∷ left ∷ 1 ∷ 1 ∷ left ∷ 0 ∷ 1 ∷ [] }
+oneOrder = record { kinds = infixes 2; bytes = left ∷ 0 ∷ 0 ∷ left ∷ 1 ∷ 1 ∷ left ∷ 0 ∷ 1 ∷ [] }
 
 abbrev pub bothOrders : Sheet
-bothOrders = record { n = 2; bytes = left ∷ 0 ∷ 0 ∷ left ∷ 1 ∷ 1 ∷ left ∷ 0 ∷ 1 ∷ left ∷ 1 ∷ 0 ∷ [] }
+bothOrders = record { kinds = infixes 2; bytes = left ∷ 0 ∷ 0 ∷ left ∷ 1 ∷ 1 ∷ left ∷ 0 ∷ 1 ∷ left ∷ 1 ∷ 0 ∷ [] }
 
 -- Every pair is settled, and what closes is transitive; but 00 does not close before 01, nor 01 before 02, yet 00 before 02.
 abbrev pub uneven : Sheet
 uneven = record {
-  n = 3;
+  kinds = infixes 3;
   bytes =
       left ∷ 0 ∷ 2 ∷ right ∷ 0 ∷ 0 ∷ right ∷ 1 ∷ 0 ∷ right ∷ 0 ∷ 1 ∷ right ∷ 1 ∷ 1
       ∷ right ∷ 2 ∷ 1 ∷ right ∷ 0 ∷ 2 ∷ right ∷ 1 ∷ 2 ∷ right ∷ 2 ∷ 2 ∷ [];

@@ -2,6 +2,7 @@
 use Prim.Native.Nat.{ℕ}
 use mathlib.Core.Bool.{Bool}
 use mathlib.Core.Option.{Option, none, some}
+use Rattle.expression.specs.Token.{Operators}
 use Rattle.expression.specs.Tree.{Tree, yield}
 use Rattle.disambiguation.specs.LeftToRight.{made}
 
@@ -10,5 +11,5 @@ orElse t none = t
 orElse t (some u) = u
 
 -- closes a b: operator a closes before b. Where the machine makes no tree, which happens to no tree over a sheet's operators, the tree itself.
-unfoldable pub repair : (ℕ → ℕ → Bool) → Tree → Tree
-repair closes t = orElse t (made closes (yield t))
+unfoldable pub repair : Operators → (ℕ → ℕ → Bool) → Tree → Tree
+repair ops closes t = orElse t (made ops closes (yield t))

@@ -45,10 +45,10 @@ leads (r ∷ rs) a c =
     leads rs a c
     || (eqb (r .kind) priority && ((eqb a (r .first) || leads rs a (r .first)) && (eqb (r .second) c || leads rs (r .second) c)))
 
--- L(a,b): operator a whose left operand has b as its top node. Excluded where priority leads from a to b, and by a right b as written.
+-- L(a,b): infix operator a whose left operand shows b: an infix b as its top node, a prefix b on its right edge. Excluded where priority leads from a to b, and by a right b as written.
 unfoldable pub L : List Rule → ℕ → ℕ → Bool
 L rules a b = leads rules a b || written right rules a b
 
--- R(a,b): operator a whose right operand has b as its top node. Excluded where priority leads from a to b, and by a left b as written.
+-- R(a,b): operator a whose right or only operand has the infix operator b as its top node. Excluded where priority leads from a to b, and by a left b as written.
 unfoldable pub R : List Rule → ℕ → ℕ → Bool
 R rules a b = leads rules a b || written left rules a b

@@ -1,13 +1,13 @@
--- The checks of a sheet whose rules come in bytes, or as a list of records, in the order of docs/REFERENCE.md, section 4; 11 comes after them. Assumes nothing.
+-- The checks of a sheet whose kinds and rules come in bytes, or as lists, in the order of docs/REFERENCE.md, section 4; 11 comes after them. Assumes nothing.
 use Prim.Native.Nat.{ℕ, _%_}
 use mathlib.Core.Bool.{Bool, not, _||_}
 use mathlib.Core.List.{List, [], _∷_, _++_}
 use lib.Dec.{eqb, ltb}
-use lib.ListN.{length}
+use lib.ListN.{length, take, drop}
 use Rattle.expression.specs.Lists.{anyHolds}
 use Rattle.expression.specs.Limits.{mostOperators, mostRules, mostRuleBytes, bytesOfRule}
 use Rattle.expression.specs.Refusal.{Check, Passed, first, oversize, torn, stranger}
-use Rattle.expression.specs.Token.{operators}
+use Rattle.expression.specs.Token.{prefixKind, Operators, operators}
 use Rattle.disambiguation.specs.Rules.{Rule, rule, priority, right, L, R}
 use Rattle.disambiguation.specs.Verdict.{ruleChecks}
 
@@ -27,13 +27,27 @@ ruleBytes (r ∷ rs) = r .kind ∷ r .first ∷ r .second ∷ ruleBytes rs
 abbrev pub strangeRule : ℕ → Rule → Bool
 strangeRule n r = ltb (r .kind) priority || ltb right (r .kind) || not (ltb (r .first) n) || not (ltb (r .second) n)
 
+-- the kind of an operator is neither 00 nor 01
+abbrev pub strangeKind : ℕ → Bool
+strangeKind kind = ltb prefixKind kind
+
+-- A sheet's bytes after n: n kind bytes, then the rules.
 module _ (n : ℕ) (bytes : List ℕ) where
+  abbrev pub kindsIn : List ℕ
+  kindsIn = take n bytes
+
+  abbrev pub rulesIn : List Rule
+  rulesIn = rulesOf (drop n bytes)
+
+  abbrev pub operatorsIn : Operators
+  operatorsIn = operators n kindsIn
+
   -- 1, 2, 3
   abbrev pub orderChecks : List Check
   orderChecks =
-      (ltb mostOperators n || ltb mostRuleBytes (length bytes), oversize)
-      ∷ (not (eqb (length bytes % bytesOfRule) 0), torn)
-      ∷ (anyHolds (strangeRule n) (rulesOf bytes), stranger)
+      (ltb mostOperators n || ltb mostRuleBytes (length (drop n bytes)), oversize)
+      ∷ (ltb (length bytes) n || not (eqb (length (drop n bytes) % bytesOfRule) 0), torn)
+      ∷ (anyHolds strangeKind kindsIn || anyHolds (strangeRule n) rulesIn, stranger)
       ∷ []
 
   -- A sheet's bytes are in order if 1, 2 and 3 don't apply.
@@ -42,15 +56,19 @@ module _ (n : ℕ) (bytes : List ℕ) where
 
   -- The number of a sheet: 1, 2, 3, 4, 5 or 0.
   unfoldable pub sheetNumber : ℕ
-  sheetNumber = first (orderChecks ++ ruleChecks (operators n) (L (rulesOf bytes)) (R (rulesOf bytes)))
+  sheetNumber = first (orderChecks ++ ruleChecks operatorsIn (L rulesIn) (R rulesIn))
 
--- Rules as a list of records: over 2,048 records is 1, and there is no 2.
-module _ (n : ℕ) (rules : List Rule) where
+-- Kinds and rules as lists: over 2,048 records is 1, and any number of kinds but n is 2.
+module _ (n : ℕ) (kinds : List ℕ) (rules : List Rule) where
   abbrev pub listOrderChecks : List Check
-  listOrderChecks = (ltb mostOperators n || ltb mostRules (length rules), oversize) ∷ (anyHolds (strangeRule n) rules, stranger) ∷ []
+  listOrderChecks =
+      (ltb mostOperators n || ltb mostRules (length rules), oversize)
+      ∷ (not (eqb (length kinds) n), torn)
+      ∷ (anyHolds strangeKind kinds || anyHolds (strangeRule n) rules, stranger)
+      ∷ []
 
   abbrev pub ListInOrder : Type 0
   ListInOrder = Passed listOrderChecks
 
   unfoldable pub listNumber : ℕ
-  listNumber = first (listOrderChecks ++ ruleChecks (operators n) (L rules) (R rules))
+  listNumber = first (listOrderChecks ++ ruleChecks (operators n kinds) (L rules) (R rules))

@@ -9,8 +9,8 @@ use lib.Dec.{eqb}
 use lib.ListN.{length, length-append}
 use borrow.Author.Tests.{ne-eqb}
 use Rattle.expression.specs.Lists.{oneIf, howMany}
-use Rattle.expression.specs.Token.{Class, Infix, Opening, Closing, Reading, Meaningless, opening, closing}
-use Rattle.expression.specs.Tree.{Tree, reading, bracket, binary, yield, recordOf, Over}
+use Rattle.expression.specs.Token.{Class, Infix, Prefix, Opening, Closing, Reading, Meaningless, opening, closing}
+use Rattle.expression.specs.Tree.{Tree, reading, bracket, binary, prefix, yield, recordOf, Over}
 use Rattle.expression.specs.Decode.{treeOf}
 use Rattle.expression.specs.Checks.{recordBytes, rowTokens}
 use Rattle.expression.proofs.Classes.{Brackets}
@@ -28,6 +28,7 @@ notClosing c = not (eqb c closing)
 
 abbrev isBracket : Class → Bool
 isBracket Infix = false
+isBracket Prefix = false
 isBracket Opening = true
 isBracket Closing = true
 isBracket Reading = false
@@ -54,6 +55,7 @@ module _ (k : ℕ → Class) (brackets : Brackets k) where
         row-length l (h .1),
         row-length r (h .2),
       )
+  row-length (prefix p t) h = omega (arith, ap oneIf (not-opening p (ap isBracket (h .0))), row-length t (h .1))
 
   -- A tree's record has as many bytes as its row has tokens that are no closing bracket.
   pub record-length : (t : Tree) → Over k t → length (recordOf t) ≡ recordBytes (yield t)
@@ -68,6 +70,7 @@ module _ (k : ℕ → Class) (brackets : Brackets k) where
         record-length l (h .1),
         record-length r (h .2),
       )
+  record-length (prefix p t) h = omega (arith, ap oneIf (not-closing p (ap isBracket (h .0))), record-length t (h .1))
 
   -- Trees of one row have records of one length.
   pub same-row-same-length : (t u : Tree) → Over k t → Over k u → yield t ≡ yield u → length (recordOf t) ≡ length (recordOf u)

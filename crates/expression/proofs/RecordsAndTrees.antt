@@ -3,8 +3,8 @@ use Prim.Native.Nat.{ℕ}
 use mathlib.Core.Path.{_≡_, refl, ap, sym, _∙_}
 use mathlib.Core.Option.{Option, none, some, Option·none-ne-some, Option·some-injective}
 use mathlib.Core.List.{List, [], _∷_, _++_, append-assoc, append-nil}
-use Rattle.expression.specs.Token.{Class, Infix, Opening, Closing, Reading, Meaningless, opening}
-use Rattle.expression.specs.Tree.{Tree, reading, bracket, binary, recordOf, Over}
+use Rattle.expression.specs.Token.{Class, Infix, Prefix, Opening, Closing, Reading, Meaningless, opening}
+use Rattle.expression.specs.Tree.{Tree, reading, bracket, binary, prefix, recordOf, Over}
 use Rattle.expression.specs.Decode.{andThen, wrapTop, joinTops, prepend, only, treesOf, treeOf}
 use Rattle.expression.proofs.Classes.{Brackets}
 
@@ -28,10 +28,15 @@ module _ (k : ℕ → Class) where
     treesOf-record (bracket t) h bytes ts e = rw (treesOf-record t h bytes ts e, brackets .opens)
     treesOf-record (binary o l r) h bytes ts e =
         rw (append-assoc (recordOf l) (recordOf r) bytes, treesOf-record l (h .1) (recordOf r ++ bytes) (r ∷ ts) (treesOf-record r (h .2) bytes ts e), h .0)
+    treesOf-record (prefix p t) h bytes ts e = rw (treesOf-record t (h .1) bytes ts e, h .0)
 
-    wrapped : (bytes : List ℕ) (ts us : List Tree) → Lists bytes ts → wrapTop ts ≡ some us → Lists (opening ∷ bytes) us
-    wrapped bytes [] us h e = absurd (Option·none-ne-some us e)
-    wrapped bytes (t ∷ ts) us h e = rw (← Option·some-injective (bracket t ∷ ts) us e) (ap (λ x. opening ∷ x) (h .0), h .1)
+    -- a byte that makes the first tree into another, which has the byte before its record
+    wrapped : (c : ℕ) (wrap : Tree → Tree) → ((t : Tree) → Over k t → (recordOf (wrap t) ≡ c ∷ recordOf t) × Over k (wrap t))
+        → (bytes : List ℕ) (ts us : List Tree) → Lists bytes ts → wrapTop wrap ts ≡ some us → Lists (c ∷ bytes) us
+    wrapped c wrap f bytes [] us h e = absurd (Option·none-ne-some us e)
+    wrapped c wrap f bytes (t ∷ ts) us h e =
+        rw (← Option·some-injective (wrap t ∷ ts) us e)
+        (ap (λ x. x ++ recordsOf ts) (f t (h .1 .0) .0) ∙ ap (λ x. c ∷ x) (h .0), (f t (h .1 .0) .1, h .1 .1))
 
     joined : (o : ℕ) → k o ≡ Infix → (bytes : List ℕ) (ts us : List Tree) → Lists bytes ts → joinTops o ts ≡ some us → Lists (o ∷ bytes) us
     joined o ho bytes [] us h e = absurd (Option·none-ne-some us e)
@@ -42,7 +47,8 @@ module _ (k : ℕ → Class) where
 
     prepended : (x : Class) (c : ℕ) → k c ≡ x → (bytes : List ℕ) (ts us : List Tree) → Lists bytes ts → prepend x c ts ≡ some us → Lists (c ∷ bytes) us
     prepended Infix c hc bytes ts us h e = joined c hc bytes ts us h e
-    prepended Opening c hc bytes ts us h e = rw (brackets .opening-only c hc) (wrapped bytes ts us h e)
+    prepended Prefix c hc bytes ts us h e = wrapped c (prefix c) (λ t g. (refl, (hc, g))) bytes ts us h e
+    prepended Opening c hc bytes ts us h e = rw (brackets .opening-only c hc) (wrapped opening bracket (λ t g. (refl, g)) bytes ts us h e)
     prepended Closing c hc bytes ts us h e = absurd (Option·none-ne-some us e)
     prepended Reading c hc bytes ts us h e = rw (← Option·some-injective (reading c ∷ ts) us e) (ap (λ x. c ∷ x) (h .0), (hc, h .1))
     prepended Meaningless c hc bytes ts us h e = absurd (Option·none-ne-some us e)

@@ -4,8 +4,8 @@ use mathlib.Core.Path.{_≡_, refl, ap, sym, _∙_}
 use mathlib.Core.Bool.{true, false, false≢true}
 use mathlib.Core.Logic.{_↔_}
 use mathlib.Core.List.{List, [], _∷_, _++_, append-assoc}
-use Rattle.expression.specs.Token.{Class, Infix, Opening, Closing, Reading, Meaningless, opening, closing, Operators, class}
-use Rattle.expression.specs.Grammar.{Operand, single, bracketed, Expression, operand-then, Tail, end, operator-then, Row}
+use Rattle.expression.specs.Token.{Class, Infix, Prefix, Opening, Closing, Reading, Meaningless, opening, closing, Operators, class}
+use Rattle.expression.specs.Grammar.{Operand, single, bracketed, prefixed, Expression, operand-then, Tail, end, operator-then, Row}
 use Rattle.expression.specs.RowTest.{Progress, due, done, wrong, whereDue, whereDone, closed, complete, advance, scan, isRow}
 use Rattle.expression.proofs.Classes.{Brackets, brackets}
 
@@ -22,6 +22,7 @@ module _ (k : ℕ → Class) where
       scan-operand xs (bracketed ys x e) d =
           ap (scan k (due d)) e ∙ ap (λ c. scan k (whereDue c d) (ys ++ (closing ∷ []))) (bytes .opens)
           ∙ scan-append ys (closing ∷ []) (due (suc d)) ∙ ap (λ p. scan k p (closing ∷ [])) (scan-expression ys x (suc d)) ∙ rw (bytes .closes)
+      scan-operand xs (prefixed p ys h x e) d = ap (scan k (due d)) e ∙ ap (λ c. scan k (whereDue c d) ys) h ∙ scan-operand ys x d
 
       scan-expression : (xs : List ℕ) → Expression k xs → (d : ℕ) → scan k (due d) xs ≡ done d
       scan-expression xs (operand-then ys zs x u e) d =
@@ -53,6 +54,7 @@ module _ (k : ℕ → Class) where
     left-due : (x : Class) (c : ℕ) → k c ≡ x → (d : ℕ) (xs : List ℕ) → Left (whereDue x d) xs → Left (due d) (c ∷ xs)
     unfolding Left After
     left-due Infix c h d xs f = absurd f
+    left-due Prefix c h d xs (ys, zs, y, a, e) = (c ∷ ys, zs, prefixed c ys h y refl, a, ap (λ l. c ∷ l) e)
     left-due Opening c h d xs (ys, zs, y, (t, u, ht, hu, e), f) = (
       opening ∷ (ys ++ t) ++ (closing ∷ []),
       u,
@@ -72,6 +74,7 @@ module _ (k : ℕ → Class) where
     left-done : (x : Class) (c : ℕ) → k c ≡ x → (d : ℕ) (xs : List ℕ) → Left (whereDone x d) xs → Left (done d) (c ∷ xs)
     unfolding Left
     left-done Infix c h d xs (ys, zs, y, t, e) = rw e (after-operator c h d ys zs y t)
+    left-done Prefix c h d xs f = absurd f
     left-done Opening c h d xs f = absurd f
     left-done Closing c h d xs f = rw (bytes .closing-only c h) (left-closed d xs f)
     left-done Reading c h d xs f = absurd f

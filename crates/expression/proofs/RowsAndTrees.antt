@@ -3,9 +3,9 @@ use Prim.Native.Nat.{ℕ}
 use mathlib.Core.Path.{_≡_, refl, ap, sym, _∙_}
 use mathlib.Core.Logic.{_↔_}
 use mathlib.Core.List.{List, [], _∷_, _++_, append-assoc, append-nil}
-use Rattle.expression.specs.Token.{Class, Infix, opening, closing, Operators, class}
-use Rattle.expression.specs.Tree.{Tree, reading, bracket, binary, yield, Over}
-use Rattle.expression.specs.Grammar.{Operand, single, bracketed, Expression, operand-then, Tail, end, operator-then, Row}
+use Rattle.expression.specs.Token.{Class, Infix, Prefix, opening, closing, Operators, class}
+use Rattle.expression.specs.Tree.{Tree, reading, bracket, binary, prefix, yield, Over}
+use Rattle.expression.specs.Grammar.{Operand, single, bracketed, prefixed, Expression, operand-then, Tail, end, operator-then, Row}
 
 module _ (k : ℕ → Class) where
   tail-append : (xs ys : List ℕ) → Tail k xs → Tail k ys → Tail k (xs ++ ys)
@@ -19,11 +19,16 @@ module _ (k : ℕ → Class) where
       operand-then zs (rest ++ o ∷ ys) x (tail-append rest (o ∷ ys) t (operator-then o zs′ rest′ h y u (ap (λ l. o ∷ l) e′)))
       (ap (λ l. l ++ o ∷ ys) e ∙ append-assoc zs rest (o ∷ ys))
 
+  -- a prefix operator before an expression takes its first operand
+  expression-prefixed : (p : ℕ) → k p ≡ Prefix → (xs : List ℕ) → Expression k xs → Expression k (p ∷ xs)
+  expression-prefixed p h xs (operand-then zs rest x t e) = operand-then (p ∷ zs) rest (prefixed p zs h x refl) t (ap (λ l. p ∷ l) e)
+
   expression-yield : (t : Tree) → Over k t → Expression k (yield t)
   expression-yield (reading a) h = operand-then (a ∷ []) [] (single a h refl) (end refl) refl
   expression-yield (bracket t) h =
       operand-then (yield (bracket t)) [] (bracketed (yield t) (expression-yield t h) refl) (end refl) (sym (append-nil (yield (bracket t))))
   expression-yield (binary o l r) h = expression-join o (h .0) (yield l) (yield r) (expression-yield l (h .1)) (expression-yield r (h .2))
+  expression-yield (prefix p t) h = expression-prefixed p (h .0) (yield t) (expression-yield t (h .1))
 
   -- some tree over the operators yields the tokens
   abbrev pub Yielded : List ℕ → Type 0
@@ -35,6 +40,9 @@ module _ (k : ℕ → Class) where
     tree-of-operand xs (bracketed ys x e) =
         let (t, h, f) = tree-of-expression ys x in
         (bracket t, h, ap (λ l. opening ∷ l ++ (closing ∷ [])) f ∙ sym e)
+    tree-of-operand xs (prefixed p ys hp x e) =
+        let (t, h, f) = tree-of-operand ys x in
+        (prefix p t, (hp, h), ap (λ l. p ∷ l) f ∙ sym e)
 
     tree-of-expression : (xs : List ℕ) → Expression k xs → Yielded xs
     tree-of-expression xs (operand-then ys zs x u e) =

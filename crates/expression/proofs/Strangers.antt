@@ -5,7 +5,7 @@ use mathlib.Core.Bool.{Bool, true, false, _||_, false≢true}
 use mathlib.Core.Option.{Option, none, some, Option·none-ne-some}
 use mathlib.Core.List.{List, [], _∷_}
 use Rattle.expression.specs.Lists.{anyHolds}
-use Rattle.expression.specs.Token.{Class, Infix, Opening, Closing, Reading, Meaningless}
+use Rattle.expression.specs.Token.{Class, Infix, Prefix, Opening, Closing, Reading, Meaningless}
 use Rattle.expression.specs.Tree.{Tree}
 use Rattle.expression.specs.RowTest.{Progress, due, done, wrong, whereDue, whereDone, complete, advance, scan, isRow}
 use Rattle.expression.specs.Decode.{andThen, prepend, only, treesOf, treeOf}
@@ -18,6 +18,7 @@ is-not false h = refl
 module _ (k : ℕ → Class) where
   strange-due : (x : Class) (d : ℕ) → strangeInRow x ≡ true → whereDue x d ≡ wrong
   strange-due Infix d e = refl
+  strange-due Prefix d e = absurd (false≢true e)
   strange-due Opening d e = absurd (false≢true e)
   strange-due Closing d e = refl
   strange-due Reading d e = absurd (false≢true e)
@@ -25,6 +26,7 @@ module _ (k : ℕ → Class) where
 
   strange-done : (x : Class) (d : ℕ) → strangeInRow x ≡ true → whereDone x d ≡ wrong
   strange-done Infix d e = absurd (false≢true e)
+  strange-done Prefix d e = refl
   strange-done Opening d e = refl
   strange-done Closing d e = absurd (false≢true e)
   strange-done Reading d e = refl
@@ -50,6 +52,7 @@ module _ (k : ℕ → Class) where
 
   prepend-strange : (x : Class) (c : ℕ) (ts : List Tree) → strangeInRecord x ≡ true → prepend x c ts ≡ none
   prepend-strange Infix c ts e = absurd (false≢true e)
+  prepend-strange Prefix c ts e = absurd (false≢true e)
   prepend-strange Opening c ts e = absurd (false≢true e)
   prepend-strange Closing c ts e = refl
   prepend-strange Reading c ts e = absurd (false≢true e)

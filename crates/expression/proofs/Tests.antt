@@ -1,8 +1,8 @@
 -- Laws of tests, and of tests over the elements of a list. Assumes nothing.
 use Prim.Native.Nat.{ℕ, zero, suc, _≤_, _<_}
 use native.Mathlib.Omega.{arith}
-use mathlib.Core.Path.{_≡_, refl, ap₂}
-use mathlib.Core.Bool.{Bool, true, false, _||_, true≢false}
+use mathlib.Core.Path.{_≡_, refl, ap₂, sym}
+use mathlib.Core.Bool.{Bool, true, false, _||_, true≢false, or-true}
 use mathlib.Core.List.{List, [], _∷_, _++_}
 use lib.ListN.{length, getD}
 use Rattle.expression.specs.Lists.{anyHolds, oneIf}
@@ -40,3 +40,13 @@ pub none-at : (p : ℕ → Bool) (xs : List ℕ) → anyHolds p xs ≡ false →
 none-at p [] e i h = absurd (omega arith)
 none-at p (x ∷ xs) e zero h = both-false (p x) (anyHolds p xs) e .0
 none-at p (x ∷ xs) e (suc i) h = none-at p xs (both-false (p x) (anyHolds p xs) e .1) i (omega arith)
+
+pub any-or : (p q : ℕ → Bool) (xs : List ℕ) → anyHolds (λ c. p c || q c) xs ≡ (anyHolds p xs || anyHolds q xs)
+any-or p q [] = refl
+any-or p q (x ∷ xs) = go (p x) (q x) (any-or p q xs)
+  where
+    go : (a b : Bool) → anyHolds (λ c. p c || q c) xs ≡ (anyHolds p xs || anyHolds q xs)
+        → ((a || b) || anyHolds (λ c. p c || q c) xs) ≡ ((a || anyHolds p xs) || (b || anyHolds q xs))
+    go true b e = refl
+    go false true e = sym (or-true (anyHolds p xs))
+    go false false e = e

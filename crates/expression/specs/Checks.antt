@@ -8,7 +8,7 @@ use lib.ListN.{length}
 use Rattle.expression.specs.Lists.{anyHolds, howMany}
 use Rattle.expression.specs.Limits.{mostTokens, mostRecordBytes}
 use Rattle.expression.specs.Refusal.{Check, first, oversize, stranger, noRow, noTree, short}
-use Rattle.expression.specs.Token.{Class, Infix, Opening, Closing, Reading, Meaningless, closing, Operators, class}
+use Rattle.expression.specs.Token.{Class, Infix, Prefix, Opening, Closing, Reading, Meaningless, closing, Operators, class}
 use Rattle.expression.specs.Tree.{Tree, yield}
 use Rattle.expression.specs.RowTest.{isRow}
 use Rattle.expression.specs.Decode.{treeOf}
@@ -16,6 +16,7 @@ use Rattle.expression.specs.Decode.{treeOf}
 -- a byte without meaning
 abbrev pub strangeInRow : Class → Bool
 strangeInRow Infix = false
+strangeInRow Prefix = false
 strangeInRow Opening = false
 strangeInRow Closing = false
 strangeInRow Reading = false
@@ -24,6 +25,7 @@ strangeInRow Meaningless = true
 -- in a record, 21 is one too
 abbrev pub strangeInRecord : Class → Bool
 strangeInRecord Infix = false
+strangeInRecord Prefix = false
 strangeInRecord Opening = false
 strangeInRecord Closing = true
 strangeInRecord Reading = false

@@ -2,16 +2,17 @@
 use Prim.Native.Nat.{ℕ}
 use mathlib.Core.Option.{Option, none, some}
 use mathlib.Core.List.{List, [], _∷_}
-use Rattle.expression.specs.Token.{Class, Infix, Opening, Closing, Reading, Meaningless}
-use Rattle.expression.specs.Tree.{Tree, reading, bracket, binary}
+use Rattle.expression.specs.Token.{Class, Infix, Prefix, Opening, Closing, Reading, Meaningless}
+use Rattle.expression.specs.Tree.{Tree, reading, bracket, binary, prefix}
 
 abbrev pub andThen : {A B : Type 0} → Option A → (A → Option B) → Option B
 andThen none f = none
 andThen (some a) f = f a
 
-abbrev pub wrapTop : List Tree → Option (List Tree)
-wrapTop [] = none
-wrapTop (t ∷ ts) = some (bracket t ∷ ts)
+-- the first tree, made into another
+abbrev pub wrapTop : (Tree → Tree) → List Tree → Option (List Tree)
+wrapTop wrap [] = none
+wrapTop wrap (t ∷ ts) = some (wrap t ∷ ts)
 
 abbrev pub joinTops : ℕ → List Tree → Option (List Tree)
 joinTops o [] = none
@@ -21,7 +22,8 @@ joinTops o (l ∷ r ∷ ts) = some (binary o l r ∷ ts)
 -- a byte before the trees that follow it
 abbrev pub prepend : Class → ℕ → List Tree → Option (List Tree)
 prepend Infix c ts = joinTops c ts
-prepend Opening c ts = wrapTop ts
+prepend Prefix c ts = wrapTop (prefix c) ts
+prepend Opening c ts = wrapTop bracket ts
 prepend Closing c ts = none
 prepend Reading c ts = some (reading c ∷ ts)
 prepend Meaningless c ts = none

@@ -2,14 +2,15 @@
 use Prim.Native.Nat.{ℕ}
 use mathlib.Core.Path.{_≡_}
 use mathlib.Core.List.{List, [], _∷_, _++_}
-use Rattle.expression.specs.Token.{Class, Infix, Reading, opening, closing, Operators, class}
+use Rattle.expression.specs.Token.{Class, Infix, Prefix, Reading, opening, closing, Operators, class}
 
 -- Each constructor ends with what the tokens are.
 mutual
-  -- An operand is a reading, or 20, expression, 21.
+  -- An operand is a reading, or 20, expression, 21, or a prefix operator and an operand.
   pub data Operand (k : ℕ → Class) : List ℕ → Type 0 where
     single : {tokens : List ℕ} (c : ℕ) → k c ≡ Reading → tokens ≡ c ∷ [] → Operand k tokens
     bracketed : {tokens : List ℕ} (inner : List ℕ) → Expression k inner → tokens ≡ opening ∷ inner ++ (closing ∷ []) → Operand k tokens
+    prefixed : {tokens : List ℕ} (p : ℕ) (inner : List ℕ) → k p ≡ Prefix → Operand k inner → tokens ≡ p ∷ inner → Operand k tokens
 
   -- An expression is an operand, then any number of operator and operand.
   pub data Expression (k : ℕ → Class) : List ℕ → Type 0 where

@@ -6,7 +6,7 @@ use mathlib.Core.List.{List, []}
 use lib.Dec.{eqb}
 use Rattle.expression.specs.Refusal.{accepted}
 use Rattle.expression.specs.Token.{Operators, class}
-use Rattle.expression.specs.Tree.{Tree, reading, bracket, binary, yield, recordOf}
+use Rattle.expression.specs.Tree.{Tree, reading, bracket, binary, prefix, yield, recordOf}
 use Rattle.expression.specs.Decode.{treeOf}
 use Rattle.expression.specs.Checks.{recordNumber}
 
@@ -20,6 +20,7 @@ abbrev pub operandRecord : Bool → Tree → List ℕ
 operandRecord right (reading a) = []
 operandRecord right (bracket t) = cond right [] (recordOf t)
 operandRecord right (binary o l r) = cond right (recordOf r) (recordOf l)
+operandRecord right (prefix p t) = cond right [] (recordOf t)
 
 abbrev pub operandIn : Bool → Option Tree → List ℕ
 operandIn right none = []

@@ -2,7 +2,7 @@
 use Prim.Native.Nat.{ℕ, zero, suc}
 use mathlib.Core.Bool.{Bool, true, false}
 use mathlib.Core.List.{List, [], _∷_}
-use Rattle.expression.specs.Token.{Class, Infix, Opening, Closing, Reading, Meaningless}
+use Rattle.expression.specs.Token.{Class, Infix, Prefix, Opening, Closing, Reading, Meaningless}
 
 -- Reading a row from the left, inside so many open brackets: an operand is due, or one has just been read; or the tokens so far begin no row.
 pub data Progress : Type 0 where
@@ -12,6 +12,7 @@ pub data Progress : Type 0 where
 
 abbrev pub whereDue : Class → ℕ → Progress
 whereDue Infix d = wrong
+whereDue Prefix d = due d
 whereDue Opening d = due (suc d)
 whereDue Closing d = wrong
 whereDue Reading d = done d
@@ -23,6 +24,7 @@ closed (suc d) = done d
 
 abbrev pub whereDone : Class → ℕ → Progress
 whereDone Infix d = due d
+whereDone Prefix d = wrong
 whereDone Opening d = wrong
 whereDone Closing d = closed d
 whereDone Reading d = wrong
