@@ -1,103 +1,137 @@
 -- What callers know of a sheet: its operators, and its relation by the excluded patterns, never by words. Assumes nothing.
-use mathlib.Core.Path.{_≡_, refl, sym, ap, _∙_}
+use mathlib.Core.Path.{_≡_, refl, sym, ap, ap₂, _∙_}
 use mathlib.Core.Bool.{Bool, true, false, not, _||_, cond, false≢true}
 use mathlib.Core.List.{List, []}
 use Prim.Native.Nat.{ℕ, _%_, _<_, _≤_}
 use native.Mathlib.Omega.{arith}
 use borrow.Author.Tests.{ltb-false}
 use lib.Dec.{eqb, ltb}
-use lib.ListN.{length, set}
-use lib.Seq.{getD-set-same, getD-set-other}
+use lib.ListN.{length, set, drop, length-set}
+use lib.Seq.{length-take-le, getD-set-same, getD-set-other}
 use Rattle.expression.specs.Lists.{anyHolds}
 use Rattle.expression.specs.Limits.{mostOperators, mostRuleBytes, bytesOfRule}
 use Rattle.expression.specs.Refusal.{accepted, oversize, torn, stranger}
-use Rattle.expression.specs.Token.{Operators, operators, class}
+use Rattle.expression.specs.Token.{Infix, Operators, operators, class}
 use Rattle.expression.specs.Tree.{Tree, Over}
 use Rattle.disambiguation.specs.Rules.{Rule, left, L, R}
 use Rattle.disambiguation.specs.ExactlyOne.{EveryRowHasExactlyOne}
+use Rattle.disambiguation.proofs.TestsDecide.{infix-below}
 use Rattle.disambiguation.proofs.VerdictDecides.{accepted-exactly-if}
 use Rattle.disambiguation.proofs.Accepted.{accepted-passes, opposite, count-by-closes}
 use Rattle.disambiguation.specs.Conflicts.{conflicts, conflictCount}
 use Rattle.disambiguation.specs.Below.{allBelow}
 use Rattle.disambiguation.specs.Verdict.{safe, total, level, verdict}
-use Rattle.disambiguation.specs.SheetChecks.{rulesOf, strangeRule, sheetNumber}
-use Rattle.sheet.specs.Layout.{countWord, sheetWords, operatorsOf, fresh}
+use Rattle.disambiguation.specs.SheetChecks.{strangeRule, strangeKind, kindsIn, rulesIn, operatorsIn, sheetNumber}
+use Rattle.sheet.specs.Layout.{countWord, prefixWordAt, sheetWords, operatorsBy, operatorsOf, fresh}
+use Rattle.sheet.specs.Kinds.{prefixWord}
 use Rattle.sheet.specs.Relation.{bitOf, closesIn}
 use Rattle.sheet.specs.Marking.{unmarked, marks, marksAll}
 use Rattle.sheet.specs.Chaining.{related}
 use Rattle.sheet.specs.Loading.{sheetOf}
 use Rattle.sheet.specs.InForce.{InForce}
+use Rattle.sheet.proofs.PrefixWord.{operators-back}
 use Rattle.sheet.proofs.Chaining.{length-related, related-is-R}
 use Rattle.sheet.proofs.Orderly.{R-below}
 use Rattle.sheet.proofs.WordTests.{closes-bit, closes-everywhere, closes-blank}
 pub use Rattle.sheet.proofs.WordTests.{closes-below}
+pub use Rattle.sheet.proofs.PrefixWord.{class-in, none-prefix}
 
 closes-fresh : (a b : ℕ) → closesIn fresh a b ≡ false
 closes-fresh = closes-everywhere fresh (λ a b. false) (λ a b e. absurd (false≢true e)) closes-blank
 
--- ---- the sheet that is made of n and rules
-module _ (n : ℕ) (few : n ≤ mostOperators) (rules : List Rule) where
-  -- the words of its relation
+-- ---- the sheet that is made of n kinds and rules
+module _ (n : ℕ) (few : n ≤ mostOperators) (kinds : List ℕ) (rules : List Rule) where
+  -- the words of its relation, and with the count
   abbrev relationOf : List ℕ
   relationOf = related n left (marksAll marks rules unmarked) fresh
+
+  abbrev counted : List ℕ
+  counted = set relationOf countWord n
 
   long : length relationOf ≡ sheetWords
   long = length-related n few left (marksAll marks rules unmarked) fresh
 
-  -- its operators are n, where that fits a byte
-  pub operators-made : operatorsOf (sheetOf n rules) ≡ operators n
+  -- its operators are n of these kinds, where none is strange
+  pub operators-made : length kinds ≡ n → anyHolds strangeKind kinds ≡ false → operatorsOf (sheetOf n kinds rules) ≡ operators n kinds
   unfolding operatorsOf sheetOf
-  operators-made = ap (λ (m : ℕ). operators (m % 256)) (getD-set-same relationOf countWord n 0 (omega (arith, long))) ∙ ap operators (omega arith)
+  operators-made as-many plain =
+      ap₂ (λ (m w : ℕ). operatorsBy (m % 256) w)
+      (getD-set-other counted prefixWordAt countWord (prefixWord kinds n) 0 (λ e. omega arith) ∙ getD-set-same relationOf countWord n 0 (omega (arith, long)))
+      (getD-set-same counted prefixWordAt (prefixWord kinds n) 0 (omega (arith, length-set relationOf countWord n, long)))
+      ∙ ap (λ (m : ℕ). operatorsBy m (prefixWord kinds n)) (omega arith)
+      ∙ operators-back n kinds as-many plain
 
   -- its relation is the patterns R, where no rule is strange
-  pub closes-made : anyHolds (strangeRule n) rules ≡ false → (a b : ℕ) → a < mostOperators → b < mostOperators → closesIn (sheetOf n rules) a b ≡ R rules a b
+  pub closes-made : anyHolds (strangeRule n) rules ≡ false → (a b : ℕ) → a < mostOperators → b < mostOperators → closesIn (sheetOf n kinds rules) a b ≡ R rules a b
   unfolding sheetOf
   closes-made plain a b ha hb =
-      closes-bit (set relationOf countWord n) a b ha hb
-      ∙ ap (λ (w : ℕ). bitOf w b) (getD-set-other relationOf countWord a n 0 (λ e. omega arith))
+      closes-bit (set counted prefixWordAt (prefixWord kinds n)) a b ha hb
+      ∙ ap (λ (w : ℕ). bitOf w b) (getD-set-other counted prefixWordAt a (prefixWord kinds n) 0 (λ e. omega arith) ∙ getD-set-other relationOf countWord a n 0 (λ e. omega arith))
       ∙ sym (closes-bit relationOf a b ha hb)
       ∙ related-is-R n few rules plain a b ha hb
 
 -- what number 0 says of n and the bytes
 pub record Accepted (n : ℕ) (bytes : List ℕ) : Type 0 where
   pub few : n ≤ mostOperators
-  pub plain : anyHolds (strangeRule n) (rulesOf bytes) ≡ false
-  pub accepts : verdict (operators n) (rulesOf bytes) ≡ accepted
+  pub as-many : length (kindsIn n bytes) ≡ n
+  pub known-kinds : anyHolds strangeKind (kindsIn n bytes) ≡ false
+  pub plain : anyHolds (strangeRule n) (rulesIn n bytes) ≡ false
+  pub accepts : verdict (operatorsIn n bytes) (rulesIn n bytes) ≡ accepted
 
 pub accepted-by : (n : ℕ) (bytes : List ℕ) → sheetNumber n bytes ≡ accepted → Accepted n bytes
 unfolding sheetNumber verdict
-accepted-by n bytes e = go (ltb mostOperators n) (ltb mostRuleBytes (length bytes)) (not (eqb (length bytes % bytesOfRule) 0)) (anyHolds (strangeRule n) (rulesOf bytes)) _ refl refl refl e
+accepted-by n bytes e =
+    go (ltb mostOperators n) (ltb mostRuleBytes (length (drop n bytes))) (ltb (length bytes) n) (not (eqb (length (drop n bytes) % bytesOfRule) 0))
+    (anyHolds strangeKind (kindsIn n bytes)) (anyHolds (strangeRule n) (rulesIn n bytes)) _ refl refl refl refl refl e
   where
-    go : (p q t s : Bool) (v : ℕ) → ltb mostOperators n ≡ p → anyHolds (strangeRule n) (rulesOf bytes) ≡ s → verdict (operators n) (rulesOf bytes) ≡ v
-        → cond (p || q) oversize (cond t torn (cond s stranger v)) ≡ accepted → Accepted n bytes
-    go true q t s v a b c z = absurd (omega arith)
-    go false true t s v a b c z = absurd (omega arith)
-    go false false true s v a b c z = absurd (omega arith)
-    go false false false true v a b c z = absurd (omega arith)
-    go false false false false v a b c z = record { few = ltb-false mostOperators n a; plain = b; accepts = c ∙ z }
+    go : (p q f t k s : Bool) (v : ℕ) → ltb mostOperators n ≡ p → ltb (length bytes) n ≡ f → anyHolds strangeKind (kindsIn n bytes) ≡ k
+        → anyHolds (strangeRule n) (rulesIn n bytes) ≡ s → verdict (operatorsIn n bytes) (rulesIn n bytes) ≡ v
+        → cond (p || q) oversize (cond (f || t) torn (cond (k || s) stranger v)) ≡ accepted → Accepted n bytes
+    go true q f t k s v a b c d g z = absurd (omega arith)
+    go false true f t k s v a b c d g z = absurd (omega arith)
+    go false false true t k s v a b c d g z = absurd (omega arith)
+    go false false false true k s v a b c d g z = absurd (omega arith)
+    go false false false false true s v a b c d g z = absurd (omega arith)
+    go false false false false false true v a b c d g z = absurd (omega arith)
+    go false false false false false false v a b c d g z = record {
+      few = ltb-false mostOperators n a;
+      as-many = length-take-le n bytes (ltb-false (length bytes) n b);
+      known-kinds = c;
+      plain = d;
+      accepts = g ∙ z;
+    }
 
 -- ---- the sheet in force
 -- made of accepted bytes
-pub made-in-force : (n : ℕ) (bytes : List ℕ) → sheetNumber n bytes ≡ accepted → InForce (sheetOf n (rulesOf bytes)) (operators n) (rulesOf bytes)
+pub made-in-force : (n : ℕ) (bytes : List ℕ) → sheetNumber n bytes ≡ accepted → InForce (sheetOf n (kindsIn n bytes) (rulesIn n bytes)) (operatorsIn n bytes) (rulesIn n bytes)
 made-in-force n bytes z =
-    record { few = k .few; operators = operators-made n (k .few) rules; accepts = k .accepts; right = closes-everywhere (sheetOf n rules) (R rules) below (closes-made n (k .few) rules (k .plain)); left = opposed }
+    record {
+      few = k .few;
+      operators = operators-made n (k .few) kinds rules (k .as-many) (k .known-kinds);
+      accepts = k .accepts;
+      right = closes-everywhere (sheetOf n kinds rules) (R rules) below (closes-made n (k .few) kinds rules (k .plain));
+      left = opposed;
+    }
   where
     k : Accepted n bytes
     k = accepted-by n bytes z
 
+    kinds : List ℕ
+    kinds = kindsIn n bytes
+
     rules : List Rule
-    rules = rulesOf bytes
+    rules = rulesIn n bytes
 
     below : (a b : ℕ) → R rules a b ≡ true → (a < mostOperators) × (b < mostOperators)
     below a b e = let m = R-below n rules a b (k .plain) e in (omega (arith, k .few), omega (arith, k .few))
 
-    opposed : (a b : ℕ) → a < n → b < n → L rules b a ≡ not (closesIn (sheetOf n rules) a b)
+    opposed : (a b : ℕ) → a < n → class (operatorsIn n bytes) b ≡ Infix → L rules b a ≡ not (closesIn (sheetOf n kinds rules) a b)
     opposed a b ha hb =
-        opposite (operators n) rules (accepted-passes (operators n) rules (k .accepts)) a b ha hb
-        ∙ ap not (sym (closes-made n (k .few) rules (k .plain) a b (omega (arith, k .few)) (omega (arith, k .few))))
+        opposite (operatorsIn n bytes) rules (accepted-passes (operatorsIn n bytes) rules (k .accepts)) a b ha hb
+        ∙ ap not (sym (closes-made n (k .few) kinds rules (k .plain) a b (omega (arith, k .few)) (omega (arith, k .few, infix-below (operatorsIn n bytes) b hb))))
 
 -- before any load
-pub fresh-in-force : InForce fresh (operators 0) []
+pub fresh-in-force : InForce fresh (operators 0 []) []
 unfolding operatorsOf verdict safe total level allBelow R
 fresh-in-force = record { few = omega arith; operators = refl; accepts = refl; right = closes-fresh; left = λ a b h. absurd (omega arith) }
 

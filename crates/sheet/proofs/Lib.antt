@@ -1,5 +1,7 @@
 pub mod Below
 pub mod Bits
+pub mod PrefixWord
+pub mod KindWays
 pub mod WordTests
 pub mod Orderly
 pub mod Marks
@@ -9,5 +11,6 @@ pub mod ChainWays
 pub mod Reading
 pub mod Testing
 pub mod Verdicts
+pub mod RelateWays
 pub mod Loading
 pub mod Laws

@@ -11,12 +11,14 @@ use lib.Bits.{bitAnd, bitOr, or-lt}
 use lib.Dec.{eqb, ltb}
 use lib.ListN.{getD, getD-replicate}
 use Rattle.expression.specs.Limits.{mostOperators}
-use Rattle.disambiguation.specs.Verdict.{within}
+use Rattle.disambiguation.specs.Verdict.{comers, within}
 use Rattle.disambiguation.proofs.BelowLaws.{and-true}
-use Rattle.sheet.specs.Layout.{sheetWords, fresh}
+use Rattle.sheet.specs.Layout.{sheetWords, operatorsBy, fresh}
+use Rattle.sheet.specs.Kinds.{without}
 use Rattle.sheet.specs.Relation.{bitOf, closesIn, turned}
 use Rattle.sheet.specs.Tests.{noneInBoth, eachInOne, safeFor, totalFor}
 use Rattle.sheet.proofs.Below.{all-same}
+use Rattle.sheet.proofs.PrefixWord.{comes-by, bit-without}
 use Rattle.sheet.proofs.Bits.{bit-and, bit-or, bit-not, bit-zero, masked-clear}
 
 not-not : (p : Bool) → not (not p) ≡ p
@@ -83,21 +85,27 @@ pub closes-blank : (x y : ℕ) → x < mostOperators → y < mostOperators → c
 closes-blank x y hx hy =
     closes-bit fresh x y hx hy ∙ ap (λ (w : ℕ). bitOf w y) (getD-replicate {A = ℕ} sheetWords x 0 0 (omega arith)) ∙ bit-zero y
 
--- The tests of a relation, of the words of one operator or two.
-module _ (n : ℕ) (t u : List ℕ) (few : n ≤ mostOperators) (a : ℕ) (h : a < n) where
-  bits : (t : List ℕ) (b : ℕ) → b < n → bitOf (getD t a 0) b ≡ closesIn t a b
-  bits t b l = sym (closes-bit t a b (lt-of-lt-of-le h few) (lt-of-lt-of-le l few))
+-- The tests of a relation, of the words of one operator or two. The word w has the prefix operators.
+module _ (n w : ℕ) (few : n ≤ mostOperators) (small : w < 2 ^ 32) where
+  bits : (t : List ℕ) (a b : ℕ) → a < n → b < n → bitOf (getD t a 0) b ≡ closesIn t a b
+  bits t a b h l = sym (closes-bit t a b (lt-of-lt-of-le h few) (lt-of-lt-of-le l few))
 
-  pub safe-by-words : noneInBoth n (bitOf (getD t a 0)) (bitOf (getD u a 0)) ≡ safeFor n (turned (closesIn u)) (closesIn t) a
-  unfolding safeFor noneInBoth
-  safe-by-words = all-same _ _ n (λ b l. ap₂ (λ (p q : Bool). not (p && q)) (bits t b l) (bits u b l))
+  -- a row without the prefix operators
+  bits-without : (t : List ℕ) (a b : ℕ) → a < n → b < n → bitOf (without (getD t a 0) w) b ≡ comers (operatorsBy n w) (closesIn t a) b
+  bits-without t a b h l = bit-without (getD t a 0) w b small (lt-of-lt-of-le l few) ∙ ap₂ _&&_ (bits t a b h l) (sym (comes-by n w b l))
 
-  pub total-by-words : eachInOne n (bitOf (getD t a 0)) (bitOf (getD u a 0)) ≡ totalFor n (turned (closesIn u)) (closesIn t) a
-  unfolding totalFor eachInOne
-  total-by-words = all-same _ _ n (λ b l. ap₂ (λ (p q : Bool). p || q) (bits t b l) (bits u b l))
+  module _ (t u : List ℕ) (a : ℕ) (h : a < n) where
+    pub safe-by-words : noneInBoth n (bitOf (without (getD t a 0) w)) (bitOf (getD u a 0)) ≡ safeFor (operatorsBy n w) (turned (closesIn u)) (closesIn t) a
+    unfolding safeFor noneInBoth
+    safe-by-words = all-same _ _ n (λ b l. ap₂ (λ (p q : Bool). not (p && q)) (bits-without t a b h l) (bits u a b h l))
 
-pub within-by-words : (n : ℕ) (t : List ℕ) (a b : ℕ) → n ≤ mostOperators → a < n → b < n
-    → within n (bitOf (getD t a 0)) (bitOf (getD t b 0)) ≡ within n (closesIn t a) (closesIn t b)
-unfolding within
-within-by-words n t a b few ha hb =
-    all-same _ _ n (λ c l. ap₂ (λ (p q : Bool). not p || q) (bits n t t few a ha t c l) (bits n t t few b hb t c l))
+    pub total-by-words : eachInOne n (bitOf (bitOr (getD t a 0) w)) (bitOf (getD u a 0)) ≡ totalFor (operatorsBy n w) (turned (closesIn u)) (closesIn t) a
+    unfolding totalFor eachInOne
+    total-by-words =
+        all-same _ _ n
+        (λ b l. ap₂ _||_ (bit-or (getD t a 0) w b ∙ ap₂ _||_ (bits t a b h l) (sym (ap not (comes-by n w b l) ∙ not-not (bitOf w b)))) (bits u a b h l))
+
+  pub within-by-words : (t : List ℕ) (a b : ℕ) → a < n → b < n
+      → within n (bitOf (without (getD t a 0) w)) (bitOf (getD t b 0)) ≡ within n (comers (operatorsBy n w) (closesIn t a)) (closesIn t b)
+  unfolding within
+  within-by-words t a b ha hb = all-same _ _ n (λ c l. ap₂ (λ (p q : Bool). not p || q) (bits-without t a c ha l) (bits t b c hb l))

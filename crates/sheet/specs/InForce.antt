@@ -5,7 +5,7 @@ use mathlib.Core.Bool.{not}
 use mathlib.Core.List.{List}
 use Rattle.expression.specs.Limits.{mostOperators}
 use Rattle.expression.specs.Refusal.{accepted}
-use Rattle.expression.specs.Token.{Operators}
+use Rattle.expression.specs.Token.{Infix, Operators, class}
 use Rattle.disambiguation.specs.Rules.{Rule, L, R}
 use Rattle.disambiguation.specs.Verdict.{verdict}
 use Rattle.sheet.specs.Layout.{operatorsOf}
@@ -17,6 +17,6 @@ pub record InForce (sheet : List ℕ) (ops : Operators) (rules : List Rule) : Ty
   pub operators : operatorsOf sheet ≡ ops
   -- neither 4 nor 5 applies
   pub accepts : verdict ops rules ≡ accepted
-  -- the relation decides both patterns: a closes before b exactly if R(a,b) is excluded, and else L(b,a) is
+  -- the relation decides both patterns: a closes before b exactly if R(a,b) is excluded, and else, for an infix operator b, L(b,a) is
   pub right : (a b : ℕ) → closesIn sheet a b ≡ R rules a b
-  pub left : (a b : ℕ) → a < ops .count → b < ops .count → L rules b a ≡ not (closesIn sheet a b)
+  pub left : (a b : ℕ) → a < ops .count → class ops b ≡ Infix → L rules b a ≡ not (closesIn sheet a b)

@@ -1,5 +1,6 @@
-pub mod Layout
 pub mod Relation
+pub mod Layout
+pub mod Kinds
 pub mod Marking
 pub mod Chaining
 pub mod Tests

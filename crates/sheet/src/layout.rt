@@ -1,8 +1,10 @@
-// The words of a lent sheet, as in the specification's `Layout`: the relation's, the count of operators, and three set aside.
+// The words of a lent sheet, as in the specification's `Layout`: the relation's, the count of operators, the prefix operators, and two set aside.
 use expression::limits::MOST_OPERATORS;
 
 pub const COUNT_WORD: usize = MOST_OPERATORS as usize;
 
-const SPARE_WORDS: usize = 3;
+pub const PREFIX_WORD: usize = COUNT_WORD + 1;
 
-pub const SHEET_WORDS: usize = MOST_OPERATORS as usize + 1 + SPARE_WORDS;
+const SPARE_WORDS: usize = 2;
+
+pub const SHEET_WORDS: usize = MOST_OPERATORS as usize + 2 + SPARE_WORDS;

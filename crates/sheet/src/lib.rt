@@ -1,14 +1,20 @@
-// Operator sheets: rules in bytes, the relation that they give, and the numbers 1 to 5 (docs/REFERENCE.md, section 4). A sheet is a lent list of words,
+// Operator sheets: kinds and rules in bytes, the relation that they give, and the numbers 1 to 5 (docs/REFERENCE.md, section 4). A sheet is a lent list of words,
 // whose layout is known here alone; all zero is the fresh one.
 ghost use mathlib.Core.Path.{_≡_};
-ghost use Rattle.sheet.specs.Layout.{operatorsOf};
-ghost use Rattle.sheet.specs.Relation.{closesIn};
-ghost use Rattle.sheet.specs.Loading.{Loads, sizeNumber};
+ghost use Prim.Native.Nat.{_≤_};
+ghost use Rattle.expression.specs.Limits.{mostOperators};
+ghost use Rattle.sheet.specs.Layout.{operatorsOf, prefixIn, somePrefix, fresh};
+ghost use mathlib.Core.Bool.{_&&_};
+ghost use lib.Dec.{ltb};
+ghost use Rattle.sheet.specs.Relation.{bitOf, closesIn};
+ghost use Rattle.sheet.specs.Kinds.{kindChanges};
+ghost use Rattle.sheet.specs.Loading.{Loads, Relates, sizeNumber};
 use expression::limits;
 use expression::refusal;
 use layout::SHEET_WORDS;
 
 mod chains;
+mod kinds;
 pub mod layout;
 mod rules;
 mod verdict;
@@ -34,42 +40,95 @@ pub fn closes_before(sheet: &[u32; SHEET_WORDS], a: u8, b: u8) -> bool
     words::has(sheet[a as usize], b as usize)
 }
 
-// Numbers 1 and 2, or 0: the checks that need no look at the rules.
+// Operator c is a prefix operator; false where it is none of 32.
+pub fn is_prefix(sheet: &[u32; SHEET_WORDS], c: u8) -> bool
+    ensures { λ r. ⌜ r ≡ prefixIn (now (sheet .entry)) c ⌝ }
+{
+    if limits::MOST_OPERATORS <= c {
+        return false;
+    }
+    words::has(sheet[layout::PREFIX_WORD], c as usize)
+}
+
+// The operators whose kinds the two sheets do not agree on, as a set.
+pub fn kind_changes(old: &[u32; SHEET_WORDS], new: &[u32; SHEET_WORDS]) -> u32
+    ensures { λ r. ⌜ r ≡ kindChanges (operatorsOf (now (old .entry))) (operatorsOf (now (new .entry))) ⌝ }
+{
+    kinds::changes(old, new)
+}
+
+// Operator c is in the set; false where it is none of 32.
+pub fn is_in(set: u32, c: u8) -> bool
+    ensures { λ r. ⌜ r ≡ (ltb c mostOperators && bitOf set c) ⌝ }
+{
+    if limits::MOST_OPERATORS <= c {
+        return false;
+    }
+    words::has(set, c as usize)
+}
+
+// Some operator may be a prefix operator: where this is false, none is.
+pub fn some_prefix(sheet: &[u32; SHEET_WORDS]) -> bool
+    ensures { λ r. ⌜ r ≡ somePrefix (now (sheet .entry)) ⌝ }
+{
+    sheet[layout::PREFIX_WORD] != 0
+}
+
+// Numbers 1 and 2, or 0: the checks that need no look at the bytes. The kinds come first, a byte for each operator.
 fn size_number(n: u32, length: usize) -> u8
     ensures { λ r. ⌜ r ≡ sizeNumber n length ⌝ }
 {
     if (limits::MOST_OPERATORS as u32) < n {
         return refusal::OVERSIZE;
     }
-    if limits::MOST_RULE_BYTES < length {
+    let kinds = n as usize;
+    if length < kinds {
+        return refusal::TORN;
+    }
+    if limits::MOST_RULE_BYTES < length - kinds {
         return refusal::OVERSIZE;
     }
-    if length % limits::BYTES_OF_RULE != 0 {
+    if (length - kinds) % limits::BYTES_OF_RULE != 0 {
         return refusal::TORN;
     }
     refusal::ACCEPTED
 }
 
-// The sheet of n operators and the rules: its number. The lent sheet is written only where it is accepted.
-pub fn load(sheet: &mut [u32; SHEET_WORDS], n: u32, rules: &[u8]) -> u8
-    ensures { λ r. ⌜ Loads (now (sheet .entry)) n (now (rules .entry)) r (now (sheet .exit)) ⌝ }
+// The numbers 3, 4 and 5, or 0, of n operators and the rules. In an empty sheet, their relation.
+fn relate_rules(n: u8, prefixes: u32, rules: &[u8], made: &mut [u32; SHEET_WORDS]) -> u8
+    requires { ⌜ (n ≤ mostOperators) × (now made ≡ fresh) ⌝ }
+    ensures { λ r. ⌜ Relates n prefixes (now (rules .entry)) r (now (made .exit)) ⌝ }
 {
-    let size = size_number(n, rules.len());
+    let mut ahead = [0u32; rules::MARK_WORDS];
+    let mut back = [0u32; rules::MARK_WORDS];
+    let strange = rules::read(n, rules, &mut ahead, &mut back);
+    let mut yields = [0u32; SHEET_WORDS];
+    chains::relate(n as usize, rules::LEFT, &ahead, made);
+    chains::relate(n as usize, rules::RIGHT, &back, &mut yields);
+    verdict::rules_number(strange, n as usize, prefixes, made, &yields)
+}
+
+// The sheet of n operators with their kinds and the rules: its number. The lent sheet is written only where it is accepted.
+pub fn load(sheet: &mut [u32; SHEET_WORDS], n: u32, bytes: &[u8]) -> u8
+    ensures { λ r. ⌜ Loads (now (sheet .entry)) n (now (bytes .entry)) r (now (sheet .exit)) ⌝ }
+{
+    let size = size_number(n, bytes.len());
     if size != refusal::ACCEPTED {
         return size;
     }
-    let mut ahead = [0u32; rules::MARK_WORDS];
-    let mut back = [0u32; rules::MARK_WORDS];
-    let strange = rules::read(n as u8, rules, &mut ahead, &mut back);
+    let count = n as usize;
+    let kinds = &bytes[0..count];
+    if kinds::any_strange(kinds) {
+        return refusal::STRANGER;
+    }
+    let prefixes = kinds::prefixes(kinds);
     let mut made = [0u32; SHEET_WORDS];
-    let mut yields = [0u32; SHEET_WORDS];
-    chains::relate(n as usize, rules::LEFT, &ahead, &mut made);
-    chains::relate(n as usize, rules::RIGHT, &back, &mut yields);
-    let number = verdict::rules_number(strange, n as usize, &made, &yields);
+    let number = relate_rules(n as u8, prefixes, &bytes[count..bytes.len()], &mut made);
     if number != refusal::ACCEPTED {
         return number;
     }
     made[layout::COUNT_WORD] = n;
+    made[layout::PREFIX_WORD] = prefixes;
     *sheet = made;
     refusal::ACCEPTED
 }

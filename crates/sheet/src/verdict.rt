@@ -1,9 +1,9 @@
-// The tests of a sheet's relations: safe, total, level. Each is n or n * n operations on words.
+// The tests of a sheet's relations: safe, total, level. Each is n or n * n operations on words. Of two operators the right one is no prefix operator.
 ghost use mathlib.Core.Path.{_≡_};
 ghost use Prim.Native.Nat.{_≤_, _<_};
 ghost use Rattle.expression.specs.Limits.{mostOperators};
-ghost use Rattle.expression.specs.Token.{operators};
 ghost use Rattle.disambiguation.specs.Verdict.{safe, total, level};
+ghost use Rattle.sheet.specs.Layout.{operatorsBy};
 ghost use Rattle.sheet.specs.Relation.{closesIn, turned};
 ghost use Rattle.sheet.specs.Loading.{rulesNumber};
 ghost use Rattle.sheet.specs.Tests.{levelPair, levelFor};
@@ -12,13 +12,18 @@ use crate::words;
 use expression::refusal;
 
 // No pair is excluded both ways.
-fn is_safe(n: usize, closes: &[u32; SHEET_WORDS], yields: &[u32; SHEET_WORDS]) -> bool
+fn is_safe(
+    n: usize,
+    prefixes: u32,
+    closes: &[u32; SHEET_WORDS],
+    yields: &[u32; SHEET_WORDS],
+) -> bool
     requires { ⌜ n ≤ mostOperators ⌝ }
-    ensures { λ r. ⌜ r ≡ safe (operators n) (turned (closesIn (now (yields .entry)))) (closesIn (now (closes .entry))) ⌝ }
+    ensures { λ r. ⌜ r ≡ safe (operatorsBy n prefixes) (turned (closesIn (now (yields .entry)))) (closesIn (now (closes .entry))) ⌝ }
 {
     let mut a = 0;
     while a < n {
-        if !words::apart(n, closes[a], yields[a]) {
+        if !words::apart(n, words::without(closes[a], prefixes), yields[a]) {
             return false;
         }
         a += 1;
@@ -27,13 +32,18 @@ fn is_safe(n: usize, closes: &[u32; SHEET_WORDS], yields: &[u32; SHEET_WORDS]) -
 }
 
 // Every pair is excluded one way at least.
-fn is_total(n: usize, closes: &[u32; SHEET_WORDS], yields: &[u32; SHEET_WORDS]) -> bool
+fn is_total(
+    n: usize,
+    prefixes: u32,
+    closes: &[u32; SHEET_WORDS],
+    yields: &[u32; SHEET_WORDS],
+) -> bool
     requires { ⌜ n ≤ mostOperators ⌝ }
-    ensures { λ r. ⌜ r ≡ total (operators n) (turned (closesIn (now (yields .entry)))) (closesIn (now (closes .entry))) ⌝ }
+    ensures { λ r. ⌜ r ≡ total (operatorsBy n prefixes) (turned (closesIn (now (yields .entry)))) (closesIn (now (closes .entry))) ⌝ }
 {
     let mut a = 0;
     while a < n {
-        if !words::cover(n, closes[a], yields[a]) {
+        if !words::cover(n, closes[a] | prefixes, yields[a]) {
             return false;
         }
         a += 1;
@@ -41,25 +51,28 @@ fn is_total(n: usize, closes: &[u32; SHEET_WORDS], yields: &[u32; SHEET_WORDS]) 
     true
 }
 
-// What one of a and b closes before, the other does too: b's if a closes before b, else a's.
-fn pair_level(n: usize, relation: &[u32; SHEET_WORDS], a: usize, b: usize) -> bool
+// What one of a and b closes before, the other does too: b's if a closes before b, else a's. A prefix operator b stands right of none.
+fn pair_level(n: usize, prefixes: u32, relation: &[u32; SHEET_WORDS], a: usize, b: usize) -> bool
     requires { ⌜ (n ≤ mostOperators) × (a < n) × (b < n) ⌝ }
-    ensures { λ r. ⌜ r ≡ levelPair n (closesIn (now (relation .entry))) a b ⌝ }
+    ensures { λ r. ⌜ r ≡ levelPair (operatorsBy n prefixes) (closesIn (now (relation .entry))) a b ⌝ }
 {
-    if words::has(relation[a], b) {
-        return words::inside(n, relation[b], relation[a]);
+    if words::has(prefixes, b) {
+        return true;
     }
-    words::inside(n, relation[a], relation[b])
+    if words::has(relation[a], b) {
+        return words::inside(n, words::without(relation[b], prefixes), relation[a]);
+    }
+    words::inside(n, words::without(relation[a], prefixes), relation[b])
 }
 
 // The same for a and each b.
-fn row_level(n: usize, relation: &[u32; SHEET_WORDS], a: usize) -> bool
+fn row_level(n: usize, prefixes: u32, relation: &[u32; SHEET_WORDS], a: usize) -> bool
     requires { ⌜ (n ≤ mostOperators) × (a < n) ⌝ }
-    ensures { λ r. ⌜ r ≡ levelFor n (closesIn (now (relation .entry))) a ⌝ }
+    ensures { λ r. ⌜ r ≡ levelFor (operatorsBy n prefixes) (closesIn (now (relation .entry))) a ⌝ }
 {
     let mut b = 0;
     while b < n {
-        if !pair_level(n, relation, a, b) {
+        if !pair_level(n, prefixes, relation, a, b) {
             return false;
         }
         b += 1;
@@ -68,13 +81,13 @@ fn row_level(n: usize, relation: &[u32; SHEET_WORDS], a: usize) -> bool
 }
 
 // The same for each a.
-fn is_level(n: usize, relation: &[u32; SHEET_WORDS]) -> bool
+fn is_level(n: usize, prefixes: u32, relation: &[u32; SHEET_WORDS]) -> bool
     requires { ⌜ n ≤ mostOperators ⌝ }
-    ensures { λ r. ⌜ r ≡ level (operators n) (closesIn (now (relation .entry))) ⌝ }
+    ensures { λ r. ⌜ r ≡ level (operatorsBy n prefixes) (closesIn (now (relation .entry))) ⌝ }
 {
     let mut a = 0;
     while a < n {
-        if !row_level(n, relation, a) {
+        if !row_level(n, prefixes, relation, a) {
             return false;
         }
         a += 1;
@@ -86,22 +99,23 @@ fn is_level(n: usize, relation: &[u32; SHEET_WORDS]) -> bool
 pub fn rules_number(
     strange: bool,
     n: usize,
+    prefixes: u32,
     closes: &[u32; SHEET_WORDS],
     yields: &[u32; SHEET_WORDS],
 ) -> u8
     requires { ⌜ n ≤ mostOperators ⌝ }
-    ensures { λ r. ⌜ r ≡ rulesNumber strange (operators n) (turned (closesIn (now (yields .entry)))) (closesIn (now (closes .entry))) ⌝ }
+    ensures { λ r. ⌜ r ≡ rulesNumber strange (operatorsBy n prefixes) (turned (closesIn (now (yields .entry)))) (closesIn (now (closes .entry))) ⌝ }
 {
     if strange {
         return refusal::STRANGER;
     }
-    if !is_safe(n, closes, yields) {
+    if !is_safe(n, prefixes, closes, yields) {
         return refusal::DEAD;
     }
-    if !is_total(n, closes, yields) {
+    if !is_total(n, prefixes, closes, yields) {
         return refusal::DOUBLE;
     }
-    if !is_level(n, closes) {
+    if !is_level(n, prefixes, closes) {
         return refusal::DOUBLE;
     }
     refusal::ACCEPTED

@@ -5,6 +5,7 @@ ghost use Rattle.expression.specs.Limits.{mostOperators};
 ghost use Rattle.disambiguation.specs.Verdict.{within};
 ghost use Rattle.sheet.specs.Relation.{bitOf};
 ghost use Rattle.sheet.specs.Tests.{noneInBoth, eachInOne};
+ghost use Rattle.sheet.specs.Kinds.{withBit, without};
 ghost use Rattle.sheet.specs.Chaining.{joined};
 
 // The set of all below n.
@@ -45,6 +46,24 @@ pub fn inside(n: usize, x: u32, y: u32) -> bool
     ensures { λ r. ⌜ r ≡ within n (bitOf x) (bitOf y) ⌝ }
 {
     x & !y & mask(n) == 0
+}
+
+// The set, with operator c put in if told so.
+pub fn with(x: u32, c: usize, told: bool) -> u32
+    requires { ⌜ c < mostOperators ⌝ }
+    ensures { λ r. ⌜ r ≡ withBit x c told ⌝ }
+{
+    if told {
+        return x | (1 << c);
+    }
+    x
+}
+
+// The first set without the second.
+pub fn without(x: u32, y: u32) -> u32
+    ensures { λ r. ⌜ r ≡ without x y ⌝ }
+{
+    x & !y
 }
 
 // The first set, with the second put in if c is in the first.

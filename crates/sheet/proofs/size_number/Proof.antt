@@ -11,4 +11,5 @@ size-number-spec =
     (λ c. search size-ways)
     (λ c. search size-ways)
     (λ c. search size-ways)
+    (λ c. search size-ways)
     (λ c. search size-ways))

@@ -3,6 +3,7 @@ use mathlib.Core.Path.{_≡_}
 use mathlib.Core.Bool.{true}
 use Prim.Native.Nat.{_-_, _≤_}
 use Rattle.disambiguation.specs.Below.{allBelow}
+use Rattle.sheet.specs.Layout.{operatorsBy}
 use Rattle.sheet.specs.Relation.{closesIn}
 use Rattle.sheet.specs.Tests.{levelFor}
 use native.Mathlib.Omega.{arith}
@@ -11,10 +12,10 @@ use Rattle.sheet.proofs.verdict.is_level.Statement.{statement}
 use Rattle.sheet.proofs.verdict.is_level.Tie as tie
 
 abbrev Inv-loop : tie.InvT-loop
-Inv-loop n relation a₀ a = (a ≤ n) × (allBelow a (levelFor n (closesIn relation)) ≡ true)
+Inv-loop n prefixes relation a₀ a = (a ≤ n) × (allBelow a (levelFor (operatorsBy n prefixes) (closesIn relation)) ≡ true)
 
 abbrev μ-loop : tie.MeasureT-loop
-μ-loop n relation a₀ a = n - a
+μ-loop n prefixes relation a₀ a = n - a
 
 pub is-level-spec : {M : Type 1} → statement M
 is-level-spec =

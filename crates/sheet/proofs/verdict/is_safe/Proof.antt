@@ -3,6 +3,7 @@ use mathlib.Core.Path.{_≡_}
 use mathlib.Core.Bool.{true}
 use Prim.Native.Nat.{_-_, _≤_}
 use Rattle.disambiguation.specs.Below.{allBelow}
+use Rattle.sheet.specs.Layout.{operatorsBy}
 use Rattle.sheet.specs.Relation.{closesIn, turned}
 use Rattle.sheet.specs.Tests.{safeFor}
 use native.Mathlib.Omega.{arith}
@@ -11,10 +12,10 @@ use Rattle.sheet.proofs.verdict.is_safe.Statement.{statement}
 use Rattle.sheet.proofs.verdict.is_safe.Tie as tie
 
 abbrev Inv-loop : tie.InvT-loop
-Inv-loop n closes yields a₀ a = (a ≤ n) × (allBelow a (safeFor n (turned (closesIn yields)) (closesIn closes)) ≡ true)
+Inv-loop n prefixes closes yields a₀ a = (a ≤ n) × (allBelow a (safeFor (operatorsBy n prefixes) (turned (closesIn yields)) (closesIn closes)) ≡ true)
 
 abbrev μ-loop : tie.MeasureT-loop
-μ-loop n closes yields a₀ a = n - a
+μ-loop n prefixes closes yields a₀ a = n - a
 
 pub is-safe-spec : {M : Type 1} → statement M
 is-safe-spec =
@@ -23,13 +24,14 @@ is-safe-spec =
     Inv-loop
     μ-loop
     (λ c. (omega arith, search safe-ways))
-    (λ c. omega arith)
-    (λ c. omega arith)
-    (λ c. omega arith)
-    (λ c. omega arith)
+    (λ c. search safe-ways)
+    (λ c. search safe-ways)
     (λ c κs. search safe-ways)
     (λ c. search safe-ways)
-    (λ c. omega arith)
-    (λ c. omega arith)
+    (λ c. search safe-ways)
+    (λ c κs. search safe-ways)
+    (λ c. search safe-ways)
+    (λ c. search safe-ways)
+    (λ c. search safe-ways)
     (λ c. (omega arith, search safe-ways))
     (λ c. search safe-ways))

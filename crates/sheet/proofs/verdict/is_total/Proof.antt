@@ -3,6 +3,7 @@ use mathlib.Core.Path.{_≡_}
 use mathlib.Core.Bool.{true}
 use Prim.Native.Nat.{_-_, _≤_}
 use Rattle.disambiguation.specs.Below.{allBelow}
+use Rattle.sheet.specs.Layout.{operatorsBy}
 use Rattle.sheet.specs.Relation.{closesIn, turned}
 use Rattle.sheet.specs.Tests.{totalFor}
 use native.Mathlib.Omega.{arith}
@@ -11,10 +12,10 @@ use Rattle.sheet.proofs.verdict.is_total.Statement.{statement}
 use Rattle.sheet.proofs.verdict.is_total.Tie as tie
 
 abbrev Inv-loop : tie.InvT-loop
-Inv-loop n closes yields a₀ a = (a ≤ n) × (allBelow a (totalFor n (turned (closesIn yields)) (closesIn closes)) ≡ true)
+Inv-loop n prefixes closes yields a₀ a = (a ≤ n) × (allBelow a (totalFor (operatorsBy n prefixes) (turned (closesIn yields)) (closesIn closes)) ≡ true)
 
 abbrev μ-loop : tie.MeasureT-loop
-μ-loop n closes yields a₀ a = n - a
+μ-loop n prefixes closes yields a₀ a = n - a
 
 pub is-total-spec : {M : Type 1} → statement M
 is-total-spec =
@@ -23,13 +24,13 @@ is-total-spec =
     Inv-loop
     μ-loop
     (λ c. (omega arith, search total-ways))
-    (λ c. omega arith)
-    (λ c. omega arith)
-    (λ c. omega arith)
-    (λ c. omega arith)
+    (λ c. search total-ways)
+    (λ c. search total-ways)
+    (λ c. search total-ways)
+    (λ c. search total-ways)
     (λ c κs. search total-ways)
     (λ c. search total-ways)
-    (λ c. omega arith)
-    (λ c. omega arith)
+    (λ c. search total-ways)
+    (λ c. search total-ways)
     (λ c. (omega arith, search total-ways))
     (λ c. search total-ways))

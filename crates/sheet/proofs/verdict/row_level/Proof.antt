@@ -3,6 +3,7 @@ use mathlib.Core.Path.{_≡_}
 use mathlib.Core.Bool.{true}
 use Prim.Native.Nat.{_-_, _≤_}
 use Rattle.disambiguation.specs.Below.{allBelow}
+use Rattle.sheet.specs.Layout.{operatorsBy}
 use Rattle.sheet.specs.Relation.{closesIn}
 use Rattle.sheet.specs.Tests.{levelPair}
 use native.Mathlib.Omega.{arith}
@@ -11,10 +12,10 @@ use Rattle.sheet.proofs.verdict.row_level.Statement.{statement}
 use Rattle.sheet.proofs.verdict.row_level.Tie as tie
 
 abbrev Inv-loop : tie.InvT-loop
-Inv-loop n relation a b₀ b = (b ≤ n) × (allBelow b (levelPair n (closesIn relation) a) ≡ true)
+Inv-loop n prefixes relation a b₀ b = (b ≤ n) × (allBelow b (levelPair (operatorsBy n prefixes) (closesIn relation) a) ≡ true)
 
 abbrev μ-loop : tie.MeasureT-loop
-μ-loop n relation a b₀ b = n - b
+μ-loop n prefixes relation a b₀ b = n - b
 
 pub row-level-spec : {M : Type 1} → statement M
 row-level-spec =
