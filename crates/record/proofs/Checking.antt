@@ -2,9 +2,9 @@
 use Prim.Native.Nat.{ℕ, _+_, _≤_, _<_}
 use native.Mathlib.Numerals.{add-one}
 use native.Mathlib.Omega.{arith}
-use mathlib.Core.Path.{_≡_, ap, sym, _∙_}
+use mathlib.Core.Path.{_≡_, refl, ap, sym, _∙_}
 use mathlib.Core.Bool.{Bool, false, not}
-use mathlib.Core.List.{List}
+use mathlib.Core.List.{List, []}
 use lib.Dec.{eqb, ltb, leb}
 use lib.ListN.{length, getD, drop, drop-of-length-le}
 use lib.Seq.{drop-cons}
@@ -17,45 +17,46 @@ use Rattle.expression.specs.Limits.{mostOperators, mostRecordBytes}
 use Rattle.expression.specs.Token.{opening, closing, firstReading, Operators, operators, class}
 use Rattle.expression.specs.Checks.{strangeInRecord}
 use Rattle.expression.proofs.Looking.{Looked, looked-none, looked-more, looked-all}
-use Rattle.expression.proofs.Tests.{at-most-one}
+use Rattle.expression.proofs.Tests.{at-most-one, any-same}
 use Rattle.expression.proofs.Cond.{by-cond}
-use Rattle.expression.proofs.Classes.{class-reading}
+use Rattle.expression.proofs.Classes.{class-reading, by-count}
 use Rattle.record.specs.Checks.{strangerInRecord, rowLength}
 
 -- a stranger, by the tests of its byte
 module _ (n byte : ℕ) where
-  pub low : byte < mostOperators → leb n byte ≡ strangeInRecord (class (operators n) byte)
+  pub low : byte < mostOperators → leb n byte ≡ strangeInRecord (class (operators n []) byte)
   unfolding class
   low h =
       rw (lt-ltb byte mostOperators h)
       (by-cond (λ k. leb n byte ≡ strangeInRecord k) (ltb byte n) (λ g. lt-leb n byte (ltb-true byte n g)) (λ g. le-leb n byte (ltb-false byte n g)))
 
-  pub middle : mostOperators ≤ byte → byte < firstReading → not (eqb byte opening) ≡ strangeInRecord (class (operators n) byte)
+  pub middle : mostOperators ≤ byte → byte < firstReading → not (eqb byte opening) ≡ strangeInRecord (class (operators n []) byte)
   unfolding class
   middle h g =
       rw (le-ltb byte mostOperators h)
       (by-cond (λ k. not (eqb byte opening) ≡ strangeInRecord k) (eqb byte opening) (λ e. rw e)
       (λ e. by-cond (λ k. not (eqb byte opening) ≡ strangeInRecord k) (eqb byte closing) (λ _. rw e) (λ _. rw (lt-ltb byte firstReading g, e))))
 
-  pub high : Fits w8 byte → firstReading ≤ byte → false ≡ strangeInRecord (class (operators n) byte)
-  high f h = sym (ap strangeInRecord (class-reading (operators n) byte h (omega arith)))
+  pub high : Fits w8 byte → firstReading ≤ byte → false ≡ strangeInRecord (class (operators n []) byte)
+  high f h = sym (ap strangeInRecord (class-reading (operators n []) byte h (omega arith)))
 
 pub ruleset is-strange-ways = (low, middle, high, needs)
 
 abbrev pub strange : ℕ → ℕ → Bool
-strange n c = strangeInRecord (class (operators n) c)
+strange n c = strangeInRecord (class (operators n []) c)
 
-pub looked-through : (n : ℕ) (bytes : List ℕ) {at : ℕ} {found : Bool} → Looked (strange n) bytes found at → length bytes ≤ at → found ≡ strangerInRecord (operators n) bytes
+pub looked-through : (n : ℕ) (bytes : List ℕ) {at : ℕ} {found : Bool} → Looked (strange n) bytes found at → length bytes ≤ at → found ≡ strangerInRecord (operators n []) bytes
 unfolding strangerInRecord
 looked-through n bytes l h = looked-all (strange n) bytes l h
 
 pub ruleset strange-ways = (looked-none, looked-more, looked-through, needs)
 
 -- strangers are told by the count of operators alone
-pub by-count : (ops : Operators) (bytes : List ℕ) {n : ℕ} {r : Bool} → n ≡ ops .count → r ≡ strangerInRecord (operators n) bytes → r ≡ strangerInRecord ops bytes
-by-count ops bytes e q = q ∙ ap (λ m. strangerInRecord (operators m) bytes) e
+pub stranger-by-count : (ops : Operators) (bytes : List ℕ) {n : ℕ} {r : Bool} → n ≡ ops .count → r ≡ strangerInRecord (operators n []) bytes → r ≡ strangerInRecord ops bytes
+unfolding strangerInRecord
+stranger-by-count ops bytes e q = q ∙ ap (λ m. strangerInRecord (operators m []) bytes) e ∙ any-same _ _ (by-count strangeInRecord refl ops []) bytes
 
-pub ruleset stranger-ways = (by-count, needs)
+pub ruleset stranger-ways = (stranger-by-count, needs)
 
 -- the tokens of the row
 pub opens-one : (byte : ℕ) → byte ≡ opening → 1 ≡ oneIf (eqb byte opening)

@@ -1,6 +1,6 @@
 -- What each way through `judge` gives. Assumes nothing.
 use Prim.Native.Nat.{ℕ, _≤_, _<_}
-use native.Mathlib.Nat.{zero-add}
+use native.Mathlib.Nat.{zero-add, add-zero}
 use native.Mathlib.Omega.{arith}
 use mathlib.Core.Path.{_≡_, sym, _∙_}
 use mathlib.Core.Bool.{Bool, true, false}
@@ -11,21 +11,21 @@ use borrow.Author.Needs.{needs}
 use borrow.Author.Tests.{ne-eqb}
 use Rattle.expression.specs.Limits.{mostTokens, mostRecordBytes}
 use Rattle.expression.specs.Refusal.{accepted, oversize, stranger, noTree}
-use Rattle.expression.specs.Token.{class}
+use Rattle.expression.specs.Token.{opening, class}
 use Rattle.expression.specs.Tree.{Tree}
 use Rattle.expression.specs.Decode.{treeOf}
 use Rattle.expression.specs.Checks.{recordNumber}
 use Rattle.sheet.specs.Layout.{operatorsOf}
 use Rattle.record.specs.Held.{front}
 use Rattle.record.specs.Checks.{strangerInRecord, rowLength}
-use Rattle.record.specs.Counts.{tallyEnd, tallyCount, Counts}
+use Rattle.record.specs.Counts.{conflictsIn, tallyEnd, tallyCount, Counts}
 use Rattle.record.specs.Answers.{judgement}
 use Rattle.record.specs.declared.Judgement.{Judgement}
 use Rattle.record.proofs.Trees.{whole}
 use Rattle.record.proofs.Standing.{read-back}
 use Rattle.record.proofs.Numbering as numbering
 use Rattle.record.proofs.Holding.{front-copied}
-use Rattle.record.proofs.Counting.{not-counted}
+use Rattle.record.proofs.Counting.{not-counted, alone}
 
 module _ (sheet bytes : List ℕ) where
   refused : (number : ℕ) → number ≡ recordNumber (operatorsOf sheet) bytes → (number ≡ accepted → ⊥) → record { number = number; count = 0 } ≡ judgement sheet bytes
@@ -40,8 +40,8 @@ module _ (sheet bytes : List ℕ) where
     strange q e = e ∙ refused stranger (numbering.strange (operatorsOf sheet) bytes fits tested q) (λ z. omega arith)
 
     module _ (q : s ≡ false) (held : List ℕ) (v : ℕ) (rest : List ℕ) (copied : held ≡ take (length bytes) bytes ++ rest)
-        (h : Counts sheet (front (length bytes) held) 0 0 v) where
-      on-bytes : Counts sheet bytes 0 0 v
+        (h : Counts sheet (front (length bytes) held) 0 opening opening 0 v) where
+      on-bytes : Counts sheet bytes 0 opening opening 0 v
       on-bytes = rw (front-copied bytes held rest copied) at h
 
       none : ((t : Tree) → treeOf (class (operatorsOf sheet)) bytes ≡ some t → ⊥) → record { number = noTree; count = 0 } ≡ judgement sheet bytes
@@ -67,7 +67,7 @@ module _ (sheet bytes : List ℕ) where
         judged l =
             let (t, read) = the-tree in
             let known = numbering.read-number (operatorsOf sheet) bytes fits tested q t read row l in
-            let c : tallyCount v ≡ _ = on-bytes .counted t (length bytes) (whole (operatorsOf sheet) bytes t read) .1 ∙ zero-add _ in
+            let c : tallyCount v ≡ _ = on-bytes .counted t (length bytes) (whole (operatorsOf sheet) bytes t read) .1 ∙ zero-add _ ∙ alone sheet t ∙ add-zero (conflictsIn sheet t) in
             rw (sym known, read, c)
 
 pub ruleset judge-ways = (too-long, strange, walk-refused, ends-early, row-too-long, judged, needs)

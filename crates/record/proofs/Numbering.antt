@@ -10,7 +10,7 @@ use borrow.Author.Needs.{needs}
 use borrow.Author.Tests.{lt-ltb, le-ltb}
 use Rattle.expression.specs.Limits.{mostTokens, mostRecordBytes}
 use Rattle.expression.specs.Refusal.{accepted, oversize, stranger, noTree}
-use Rattle.expression.specs.Token.{Operators, operators, class}
+use Rattle.expression.specs.Token.{Operators, class}
 use Rattle.expression.specs.Tree.{Tree}
 use Rattle.expression.specs.Decode.{treeOf}
 use Rattle.expression.specs.Checks.{isNone, recordNumber}
@@ -18,7 +18,7 @@ use Rattle.expression.proofs.Classes.{brackets}
 use Rattle.expression.proofs.Lengths.{row-length-of-record}
 use Rattle.record.specs.Checks.{strangerInRecord, rowLength}
 use Rattle.record.specs.Listing.{oneTree, listedIn}
-use Rattle.record.proofs.ListedTrees.{listed-by-count, one-listed, read-listed}
+use Rattle.record.proofs.ListedTrees.{one-listed, read-listed}
 
 module _ (ops : Operators) (bytes : List ℕ) where
   pub too-long : mostRecordBytes < length bytes → oversize ≡ recordNumber ops bytes
@@ -54,13 +54,13 @@ module _ (ops : Operators) (bytes : List ℕ) where
       read-number l = ap (λ b. cond b oversize accepted) (sym (le-ltb mostTokens v l)) ∙ by-row
 
     -- by the count of trees
-    module _ {n c : ℕ} (under : n ≡ ops .count) (counted : c ≡ listedIn (operators n) bytes) where
+    module _ {c : ℕ} (counted : c ≡ listedIn ops bytes) where
       pub not-one : (c ≡ oneTree → ⊥) → noTree ≡ recordNumber ops bytes
-      not-one h = none-number (λ t e. h (listed-by-count ops bytes under counted ∙ read-listed ops bytes t e))
+      not-one h = none-number (λ t e. h (counted ∙ read-listed ops bytes t e))
 
       module _ (is : c ≡ oneTree) where
         the-tree : (t : Tree) × (treeOf (class ops) bytes ≡ some t)
-        the-tree = one-listed ops bytes (sym (listed-by-count ops bytes under counted) ∙ is)
+        the-tree = one-listed ops bytes (sym counted ∙ is)
 
         pub row-too-long : {v : ℕ} → v ≡ rowLength bytes → mostTokens < v → oversize ≡ recordNumber ops bytes
         row-too-long r l = let (t, read) = the-tree in long-number t read r l

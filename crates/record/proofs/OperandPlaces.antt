@@ -3,20 +3,17 @@ use Prim.Native.Nat.{ℕ, _-_, _*_, _≤_, _<_}
 use native.Mathlib.Omega.{arith}
 use native.Mathlib.Decide.{ℕ-discrete}
 use mathlib.Core.Path.{_≡_, refl, ap, sym, subst, _∙_}
-use mathlib.Core.Bool.{Bool, true, false, true≢false}
+use mathlib.Core.Bool.{Bool, true, false, cond, true≢false}
 use mathlib.Core.Option.{some}
-use mathlib.Core.List.{List, [], _∷_, _++_}
-use mathlib.Core.Logic.{⊎-elim}
+use mathlib.Core.List.{List, [], _++_}
 use lib.ListN.{length, take, drop}
 use lib.Seq.{take-at}
 use borrow.Author.Needs.{needs}
 use borrow.Author.Tests.{ne-eqb}
-use types.Run.{OneOf}
-use denote.Enum.Declared.{tagOf}
 use Rattle.expression.specs.Limits.{mostTokens, mostRecordBytes}
 use Rattle.expression.specs.Refusal.{accepted, noTree}
 use Rattle.expression.specs.Token.{Operators, class}
-use Rattle.expression.specs.Tree.{Tree, reading, bracket, binary, recordOf}
+use Rattle.expression.specs.Tree.{Tree, reading, bracket, binary, prefix, recordOf}
 use Rattle.expression.specs.Decode.{treeOf}
 use Rattle.expression.specs.Checks.{rowTokens, recordNumber}
 use Rattle.expression.specs.Operand.{operandRecord, operandPart}
@@ -33,11 +30,10 @@ use Rattle.record.specs.Operands.{OperandAt}
 use Rattle.record.specs.declared.Node.{Node}
 use Rattle.record.specs.declared.Node.the-variants as node
 use Rattle.record.specs.declared.operands.Part.{Part}
-use Rattle.record.proofs.Node as nodes
-use Rattle.record.proofs.Nodes.{within-as}
+use Rattle.record.proofs.Nodes.{NoBracket, NoOperator, NoPrefix, none-of, no-operator-here, within-as}
 use Rattle.record.proofs.Holding.{front-copied}
-use Rattle.record.proofs.Trees.{topOf, top-node, ends-within, a-bracket}
-use Rattle.record.proofs.Standing.{read-back, bracket-at, operands-in, widened, joined-in}
+use Rattle.record.proofs.Trees.{topOf, top-node, ends-within, a-bracket, a-prefix}
+use Rattle.record.proofs.Standing.{read-back, bracket-at, prefix-at, operands-in, widened, joined-in}
 use Rattle.record.proofs.Accepted.{Accepted, accepted-tree}
 use Rattle.record.proofs.Reaching.{not-reached}
 
@@ -99,34 +95,68 @@ module _ (ops : Operators) (right : Bool) (bytes : List ℕ) where
     found : x ≡ nodeAt ops bytes 0
     found = seen ∙ ap (λ b. nodeAt ops b 0) same
 
-    pub no-operand : {p : Part} → OneOf (0 ∷ 2 ∷ 3 ∷ []) (tagOf nodes.the-type x) → OneOf (0 ∷ 1 ∷ 3 ∷ []) (tagOf nodes.the-type x) → p ≡ record { from = 0; to = 0 }
-        → OperandAt ops right bytes p
-    no-operand p q = nowhere (λ t a. let top : x ≡ topOf t = found ∙ top-node ops bytes 0 t (a .stands) in none t (rw top at p) (rw top at q))
+    pub no-operand : {p : Part} → NoBracket x → NoPrefix x → NoOperator x → p ≡ record { from = 0; to = 0 } → OperandAt ops right bytes p
+    no-operand p s q = nowhere (λ t a. let top : x ≡ topOf t = found ∙ top-node ops bytes 0 t (a .stands) in none t (rw top at p) (rw top at s) (rw top at q))
       where
-        none : (t : Tree) → OneOf (0 ∷ 2 ∷ 3 ∷ []) (tagOf nodes.the-type (topOf t)) → OneOf (0 ∷ 1 ∷ 3 ∷ []) (tagOf nodes.the-type (topOf t))
-            → operandRecord right t ≡ []
-        none (reading b) p q = refl
-        none (bracket u) p q = absurd (⊎-elim (λ w. omega arith) (⊎-elim (λ w. omega arith) (λ w. omega arith)) p)
-        none (binary o l r) p q = absurd (⊎-elim (λ w. omega arith) (⊎-elim (λ w. omega arith) (λ w. omega arith)) q)
+        none : (t : Tree) → NoBracket (topOf t) → NoPrefix (topOf t) → NoOperator (topOf t) → operandRecord right t ≡ []
+        none (reading b) p s q = refl
+        none (bracket u) p s q = none-of 0 2 3 4 1 (λ e. omega arith) (λ e. omega arith) (λ e. omega arith) (λ e. omega arith) p
+        none (binary o l r) p s q = no-operator-here o q
+        none (prefix o u) p s q = none-of 0 1 2 4 3 (λ e. omega arith) (λ e. omega arith) (λ e. omega arith) (λ e. omega arith) s
 
-    module _ (is : x ≡ node.Bracket) where
-      pub bracket-right : {p : Part} → right ≡ true → p ≡ record { from = 0; to = 0 } → OperandAt ops right bytes p
-      bracket-right r = nowhere (λ t a. ap (operandRecord right) (a-bracket ops bytes 0 found is t (a .stands) .1) ∙ rw r)
+    -- a node with one tree: a bracket or a prefix operator
+    record OneTree : Type 0 where
+      wrap : Tree → Tree
+      only : (t : Tree) → TreeAt ops bytes 0 t (length bytes) → (u : Tree) × (t ≡ wrap u) × TreeAt ops bytes 1 u (length bytes)
+      made : (u : Tree) → TreeAt ops bytes 1 u (length bytes) → TreeAt ops bytes 0 (wrap u) (length bytes)
+      part : (u : Tree) → operandRecord right (wrap u) ≡ cond right [] (recordOf u)
+
+    of-bracket : x ≡ node.Bracket → OneTree
+    of-bracket is = record { wrap = bracket; only = λ t k. a-bracket ops bytes 0 found is t k; made = λ u k. bracket-at ops bytes 0 found is u k; part = λ u. refl }
+
+    of-prefix : {p : ℕ} → x ≡ node.Prefix p → OneTree
+    of-prefix {p} is = record { wrap = prefix p; only = λ t k. a-prefix ops bytes 0 found is t k; made = λ u k. prefix-at ops bytes 0 found is u k; part = λ u. refl }
+
+    module _ (one : OneTree) where
+      only-right : {p : Part} → right ≡ true → p ≡ record { from = 0; to = 0 } → OperandAt ops right bytes p
+      only-right r = nowhere (λ t a. let (u, e, y) = one .only t (a .stands) in ap (operandRecord right) e ∙ one .part u ∙ rw r)
 
       module _ (w : ℕ) (walked : Reaches ops (front (length bytes) held) 1 w) where
         inside : Reaches ops bytes 1 w
         inside = rw same at walked
 
-        pub bracket-cut : {p : Part} → (w ≡ length bytes * base → ⊥) → p ≡ record { from = 0; to = 0 } → OperandAt ops right bytes p
-        bracket-cut n = nowhere (λ t a. let u = a-bracket ops bytes 0 found is t (a .stands) in absurd (n (inside .reached (u .0) (length bytes) (u .2))))
+        only-cut : {p : Part} → (w ≡ length bytes * base → ⊥) → p ≡ record { from = 0; to = 0 } → OperandAt ops right bytes p
+        only-cut n = nowhere (λ t a. let (u, e, y) = one .only t (a .stands) in absurd (n (inside .reached u (length bytes) y)))
 
-        pub bracket-left : {v : ℕ} → length bytes ≤ mostRecordBytes → v ≡ rowLength bytes → v ≤ mostTokens → right ≡ false → w ≡ length bytes * base
+        only-left : {v : ℕ} → length bytes ≤ mostRecordBytes → v ≡ rowLength bytes → v ≤ mostTokens → right ≡ false → w ≡ length bytes * base
             → OperandAt ops right bytes (record { from = 1; to = length bytes })
-        bracket-left fits row row-fits r e =
+        only-left fits row row-fits r e =
             let (u, y) = inside .found (λ z. omega arith) in
             let end : reachedEnd w ≡ length bytes = omega arith in
             let a : TreeAt ops bytes 1 u (length bytes) = rw end at y in
-            standing fits row row-fits (bracket u) u 1 (length bytes) (bracket-at ops bytes 0 found is u a) a (rw r) (λ f. refl) (λ f. refl)
+            standing fits row row-fits (one .wrap u) u 1 (length bytes) (one .made u a) a (one .part u ∙ ap (λ (b : Bool). cond b [] (recordOf u)) r) (λ f. refl) (λ f. refl)
+
+    module _ (is : x ≡ node.Bracket) where
+      pub bracket-right : {p : Part} → right ≡ true → p ≡ record { from = 0; to = 0 } → OperandAt ops right bytes p
+      bracket-right = only-right (of-bracket is)
+
+      pub bracket-cut : {p : Part} (w : ℕ) → Reaches ops (front (length bytes) held) 1 w → (w ≡ length bytes * base → ⊥) → p ≡ record { from = 0; to = 0 } → OperandAt ops right bytes p
+      bracket-cut w walked = only-cut (of-bracket is) w walked
+
+      pub bracket-left : {v : ℕ} (w : ℕ) → Reaches ops (front (length bytes) held) 1 w → length bytes ≤ mostRecordBytes → v ≡ rowLength bytes → v ≤ mostTokens → right ≡ false
+          → w ≡ length bytes * base → OperandAt ops right bytes (record { from = 1; to = length bytes })
+      bracket-left w walked = only-left (of-bracket is) w walked
+
+    module _ {o : ℕ} (is : x ≡ node.Prefix o) where
+      pub prefix-right : {p : Part} → right ≡ true → p ≡ record { from = 0; to = 0 } → OperandAt ops right bytes p
+      prefix-right = only-right (of-prefix is)
+
+      pub prefix-cut : {p : Part} (w : ℕ) → Reaches ops (front (length bytes) held) 1 w → (w ≡ length bytes * base → ⊥) → p ≡ record { from = 0; to = 0 } → OperandAt ops right bytes p
+      prefix-cut w walked = only-cut (of-prefix is) w walked
+
+      pub prefix-left : {v : ℕ} (w : ℕ) → Reaches ops (front (length bytes) held) 1 w → length bytes ≤ mostRecordBytes → v ≡ rowLength bytes → v ≤ mostTokens → right ≡ false
+          → w ≡ length bytes * base → OperandAt ops right bytes (record { from = 1; to = length bytes })
+      prefix-left w walked = only-left (of-prefix is) w walked
 
     pub some-bytes : {o : ℕ} → x ≡ node.Operator o → 1 ≤ length bytes
     some-bytes is = let d = within-as ops bytes 0 found is refl in omega arith
@@ -176,6 +206,9 @@ pub ruleset operand-part-ways = (
   bracket-right,
   bracket-cut,
   bracket-left,
+  prefix-right,
+  prefix-cut,
+  prefix-left,
   some-bytes,
   left-cut,
   right-cut,

@@ -2,23 +2,20 @@
 use Prim.Native.Nat.{ℕ, _+_, _-_, _*_, _≤_, _<_}
 use native.Mathlib.Omega.{arith}
 use mathlib.Core.Path.{_≡_, refl, ap, sym, _∙_}
-use mathlib.Core.List.{List, [], _∷_}
+use mathlib.Core.List.{List}
 use borrow.Author.Needs.{needs}
-use types.Run.{OneOf}
-use denote.Enum.Declared.{tagOf}
 use Rattle.expression.specs.Refusal.{noTree}
 use Rattle.expression.specs.Token.{Operators}
-use Rattle.expression.specs.Tree.{Tree, reading, bracket, binary}
+use Rattle.expression.specs.Tree.{Tree, reading, bracket, binary, prefix}
 use Rattle.record.specs.Held.{front, base}
 use Rattle.record.specs.Node.{nodeAt}
 use Rattle.record.specs.TreeAt.{TreeAt}
 use Rattle.record.specs.Reach.{reachedEnd, Reaches}
 use Rattle.record.specs.declared.Node.{Node}
 use Rattle.record.specs.declared.Node.the-variants as node
-use Rattle.record.proofs.Node as nodes
-use Rattle.record.proofs.Nodes.{is-other}
-use Rattle.record.proofs.Trees.{a-reading, a-bracket, an-operator, no-tree, none-past}
-use Rattle.record.proofs.Standing.{leaf-at, bracket-at, operator-at, onward, operands-in, joined-in}
+use Rattle.record.proofs.Nodes.{NoReading, NoBracket, NoOperator, NoPrefix, is-other}
+use Rattle.record.proofs.Trees.{a-reading, a-bracket, a-prefix, an-operator, no-tree, none-past}
+use Rattle.record.proofs.Standing.{leaf-at, bracket-at, prefix-at, operator-at, onward, operands-in, joined-in}
 
 -- an answer that reached no end has no tree
 pub not-reached : {A : Type 0} {ops : Operators} {bytes : List ℕ} {from to r : ℕ} (t : Tree) → r ≡ noTree → Reaches ops bytes from r → TreeAt ops bytes from t to → A
@@ -47,9 +44,15 @@ module _ (ops : Operators) (bytes : List ℕ) (from : ℕ) {x : Node} (found : x
         found = λ e. let (u, y) = h .found e in (bracket u, bracket-at ops bytes from found is u y);
       }
 
-  pub other : OneOf (1 ∷ 2 ∷ 3 ∷ []) (tagOf nodes.the-type x) → OneOf (0 ∷ 2 ∷ 3 ∷ []) (tagOf nodes.the-type x) → OneOf (0 ∷ 1 ∷ 3 ∷ []) (tagOf nodes.the-type x)
-      → Reaches ops bytes from noTree
-  other p q r = none-here (λ t to k. no-tree ops bytes from found (is-other x p q r) t k)
+  pub a-prefixed : {p r : ℕ} → x ≡ node.Prefix p → Reaches ops bytes (from + 1) r → Reaches ops bytes from r
+  a-prefixed {p} is h =
+      record {
+        reached = λ t to k. let u = a-prefix ops bytes from found is t k in h .reached (u .0) to (u .2);
+        found = λ e. let (u, y) = h .found e in (prefix p u, prefix-at ops bytes from found is u y);
+      }
+
+  pub other : NoReading x → NoBracket x → NoPrefix x → NoOperator x → Reaches ops bytes from noTree
+  other p q s r = none-here (λ t to k. no-tree ops bytes from found (is-other x p q s r) t k)
 
   -- a left operand that is a reading, two places on: no call is made for it
   pub a-leaf-infix : {o a r : ℕ} {y : Node} → x ≡ node.Operator o → y ≡ nodeAt ops bytes (from + 1) → y ≡ node.Reading a → Reaches ops bytes (from + 2) r → Reaches ops bytes from r
@@ -90,4 +93,4 @@ pub mid-falls : (from : ℕ) {ops : Operators} {bytes : List ℕ} {l size t : �
     → size - reachedEnd l < t
 mid-falls from {ops} {bytes} h some low e = let (t, x) = h .found some in omega (arith, onward ops bytes (from + 1) t x)
 
-pub ruleset end-at-ways = (past-end, a-leaf, a-bracketed, other, a-leaf-infix, left-refused, an-infix, needs)
+pub ruleset end-at-ways = (past-end, a-leaf, a-bracketed, a-prefixed, other, a-leaf-infix, left-refused, an-infix, needs)

@@ -7,8 +7,8 @@ use mathlib.Core.Option.{some}
 use mathlib.Core.List.{List, _∷_, _++_, append-assoc, append-nil}
 use lib.ListN.{length, getD, take, drop, length-take, length-append, take-append-drop}
 use lib.Seq.{drop-cons, drop-length, drop-append-le, take-at}
-use Rattle.expression.specs.Token.{Class, Infix, Opening, Closing, Reading, Meaningless, opening, Operators, class}
-use Rattle.expression.specs.Tree.{Tree, reading, bracket, binary, recordOf}
+use Rattle.expression.specs.Token.{Class, Infix, Prefix, Opening, Closing, Reading, Meaningless, opening, Operators, class}
+use Rattle.expression.specs.Tree.{Tree, reading, bracket, binary, prefix, recordOf}
 use Rattle.expression.specs.Decode.{treeOf}
 use Rattle.expression.proofs.Classes.{brackets}
 use Rattle.expression.proofs.RecordsAndTrees.{treeOf-record}
@@ -24,6 +24,7 @@ use Rattle.record.proofs.Trees.{record-positive, ends-within, an-operat
 -- the class and the byte of a node
 of-reading : (k : Class) (c : ℕ) {a : ℕ} → nodeOf k c ≡ node.Reading a → (k ≡ Reading) × (c ≡ a)
 of-reading Infix c e = let z : _≡_ {A = ℕ} 0 1 = cc in absurd (omega arith)
+of-reading Prefix c e = let z : _≡_ {A = ℕ} 0 1 = cc in absurd (omega arith)
 of-reading Opening c e = let z : _≡_ {A = ℕ} 0 1 = cc in absurd (omega arith)
 of-reading Closing c e = let z : _≡_ {A = ℕ} 0 1 = cc in absurd (omega arith)
 of-reading Reading c e = (refl, cc)
@@ -31,6 +32,7 @@ of-reading Meaningless c e = let z : _≡_ {A = ℕ} 0 1 = cc in absurd (omega a
 
 of-bracket : (k : Class) (c : ℕ) → nodeOf k c ≡ node.Bracket → k ≡ Opening
 of-bracket Infix c e = let z : _≡_ {A = ℕ} 0 1 = cc in absurd (omega arith)
+of-bracket Prefix c e = let z : _≡_ {A = ℕ} 0 1 = cc in absurd (omega arith)
 of-bracket Opening c e = refl
 of-bracket Closing c e = let z : _≡_ {A = ℕ} 0 1 = cc in absurd (omega arith)
 of-bracket Reading c e = let z : _≡_ {A = ℕ} 0 1 = cc in absurd (omega arith)
@@ -38,10 +40,19 @@ of-bracket Meaningless c e = let z : _≡_ {A = ℕ} 0 1 = cc in absurd (omega a
 
 of-operator : (k : Class) (c : ℕ) {o : ℕ} → nodeOf k c ≡ node.Operator o → (k ≡ Infix) × (c ≡ o)
 of-operator Infix c e = (refl, cc)
+of-operator Prefix c e = let z : _≡_ {A = ℕ} 0 1 = cc in absurd (omega arith)
 of-operator Opening c e = let z : _≡_ {A = ℕ} 0 1 = cc in absurd (omega arith)
 of-operator Closing c e = let z : _≡_ {A = ℕ} 0 1 = cc in absurd (omega arith)
 of-operator Reading c e = let z : _≡_ {A = ℕ} 0 1 = cc in absurd (omega arith)
 of-operator Meaningless c e = let z : _≡_ {A = ℕ} 0 1 = cc in absurd (omega arith)
+
+of-prefix : (k : Class) (c : ℕ) {p : ℕ} → nodeOf k c ≡ node.Prefix p → (k ≡ Prefix) × (c ≡ p)
+of-prefix Infix c e = let z : _≡_ {A = ℕ} 0 1 = cc in absurd (omega arith)
+of-prefix Prefix c e = (refl, cc)
+of-prefix Opening c e = let z : _≡_ {A = ℕ} 0 1 = cc in absurd (omega arith)
+of-prefix Closing c e = let z : _≡_ {A = ℕ} 0 1 = cc in absurd (omega arith)
+of-prefix Reading c e = let z : _≡_ {A = ℕ} 0 1 = cc in absurd (omega arith)
+of-prefix Meaningless c e = let z : _≡_ {A = ℕ} 0 1 = cc in absurd (omega arith)
 
 -- The tree that a node and the trees behind it make.
 module _ (ops : Operators) (bytes : List ℕ) (from : ℕ) {x : Node} (found : x ≡ nodeAt ops bytes from) where
@@ -69,6 +80,16 @@ module _ (ops : Operators) (bytes : List ℕ) (from : ℕ) {x : Node} (found : x
         over = h .over;
         ends = omega (arith, h .ends);
         stands = here d ∙ ap (λ c. c ∷ drop (from + 1) bytes) e ∙ ap (λ rest. opening ∷ rest) (h .stands);
+      }
+
+  pub prefix-at : {p : ℕ} → x ≡ node.Prefix p → (u : Tree) {to : ℕ} → TreeAt ops bytes (from + 1) u to → TreeAt ops bytes from (prefix p u) to
+  prefix-at {p} is u {to} h =
+      let d = within-as ops bytes from found is refl in
+      let (k, e) = of-prefix (class ops (getD bytes from 0)) (getD bytes from 0) (byte-node d is) in
+      record {
+        over = (ap (class ops) (sym e) ∙ k, h .over);
+        ends = omega (arith, h .ends);
+        stands = here d ∙ ap (λ c. c ∷ drop (from + 1) bytes) e ∙ ap (λ rest. p ∷ rest) (h .stands);
       }
 
   pub operator-at : {o : ℕ} → x ≡ node.Operator o → (l r : Tree) {mid to : ℕ} → TreeAt ops bytes (from + 1) l mid → TreeAt ops bytes mid r to

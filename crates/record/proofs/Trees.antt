@@ -7,14 +7,13 @@ use mathlib.Core.Option.{some}
 use mathlib.Core.List.{List, _∷_, _++_, append-assoc, append-nil}
 use lib.ListN.{length, getD, drop, length-drop, length-append}
 use lib.Seq.{getD-drop, drop-drop, drop-append-seam, drop-length}
-use Rattle.expression.specs.Refusal.{accepted}
 use Rattle.expression.specs.Token.{opening, Operators, class}
-use Rattle.expression.specs.Tree.{Tree, reading, bracket, binary, recordOf}
+use Rattle.expression.specs.Tree.{Tree, reading, bracket, binary, prefix, recordOf}
 use Rattle.expression.specs.Decode.{treeOf}
 use Rattle.expression.proofs.Classes.{brackets}
 use Rattle.expression.proofs.RecordsAndTrees.{record-treeOf}
 use Rattle.record.specs.Held.{front}
-use Rattle.record.specs.Node.{nodeOf, nodeAt, nodeNumber, nodeByte}
+use Rattle.record.specs.Node.{nodeOf, nodeAt}
 use Rattle.record.specs.TreeAt.{TreeAt}
 use Rattle.record.specs.declared.Node.{Node}
 use Rattle.record.specs.declared.Node.the-variants as node
@@ -26,11 +25,13 @@ abbrev pub topOf : Tree → Node
 topOf (reading a) = node.Reading a
 topOf (bracket t) = node.Bracket
 topOf (binary o l r) = node.Operator o
+topOf (prefix p t) = node.Prefix p
 
 pub record-positive : (t : Tree) → 1 ≤ length (recordOf t)
 record-positive (reading a) = omega arith
 record-positive (bracket t) = omega arith
 record-positive (binary o l r) = omega arith
+record-positive (prefix p t) = omega arith
 
 module _ (ops : Operators) (bytes : List ℕ) where
   -- a record that is read as a tree holds it from its start to its end
@@ -59,6 +60,7 @@ module _ (ops : Operators) (bytes : List ℕ) where
     top-node (reading a) x = head-node a _ (x .stands) ∙ ap (λ k. nodeOf k a) (x .over)
     top-node (bracket t) x = head-node opening _ (x .stands) ∙ ap (λ k. nodeOf k opening) (brackets ops .opens)
     top-node (binary o l r) x = head-node o _ (x .stands) ∙ ap (λ k. nodeOf k o) (x .over .0)
+    top-node (prefix p t) x = head-node p _ (x .stands) ∙ ap (λ k. nodeOf k p) (x .over .0)
 
     pub ends-within : (t : Tree) (to : ℕ) → TreeAt ops bytes from t to → to ≤ length bytes
     ends-within t to x =
@@ -71,6 +73,15 @@ module _ (ops : Operators) (bytes : List ℕ) where
           over = x .over;
           ends = omega (arith, x .ends);
           stands = tail-after opening _ (x .stands);
+        }
+
+    -- the operand of a prefix operator
+    pub in-prefix : (p : ℕ) (t : Tree) (to : ℕ) → TreeAt ops bytes from (prefix p t) to → TreeAt ops bytes (from + 1) t to
+    in-prefix p t to x =
+        record {
+          over = x .over .1;
+          ends = omega (arith, x .ends);
+          stands = tail-after p _ (x .stands);
         }
 
     -- the operands of an operator
@@ -102,6 +113,7 @@ module _ (ops : Operators) (bytes : List ℕ) (from : ℕ) {x : Node} (found : x
       go (reading b) h q = let z : b ≡ a = cc in (ap reading z, h .ends)
       go (bracket t) h q = let z : _≡_ {A = ℕ} 0 1 = cc in absurd (omega arith)
       go (binary o l r) h q = let z : _≡_ {A = ℕ} 0 1 = cc in absurd (omega arith)
+      go (prefix p u) h q = let z : _≡_ {A = ℕ} 0 1 = cc in absurd (omega arith)
 
   pub a-bracket : x ≡ node.Bracket → (t : Tree) {to : ℕ} → TreeAt ops bytes from t to → (u : Tree) × (t ≡ bracket u) × TreeAt ops bytes (from + 1) u to
   a-bracket e t {to} h = go t h (top-is t h e)
@@ -110,6 +122,16 @@ module _ (ops : Operators) (bytes : List ℕ) (from : ℕ) {x : Node} (found : x
       go (reading b) h q = let z : _≡_ {A = ℕ} 0 1 = cc in absurd (omega arith)
       go (bracket u) h q = (u, refl, in-bracket ops bytes from u to h)
       go (binary o l r) h q = let z : _≡_ {A = ℕ} 0 1 = cc in absurd (omega arith)
+      go (prefix p u) h q = let z : _≡_ {A = ℕ} 0 1 = cc in absurd (omega arith)
+
+  pub a-prefix : {p : ℕ} → x ≡ node.Prefix p → (t : Tree) {to : ℕ} → TreeAt ops bytes from t to → (u : Tree) × (t ≡ prefix p u) × TreeAt ops bytes (from + 1) u to
+  a-prefix {p} e t {to} h = go t h (top-is t h e)
+    where
+      go : (t : Tree) → TreeAt ops bytes from t to → topOf t ≡ node.Prefix p → (u : Tree) × (t ≡ prefix p u) × TreeAt ops bytes (from + 1) u to
+      go (reading b) h q = let z : _≡_ {A = ℕ} 0 1 = cc in absurd (omega arith)
+      go (bracket u) h q = let z : _≡_ {A = ℕ} 0 1 = cc in absurd (omega arith)
+      go (binary o l r) h q = let z : _≡_ {A = ℕ} 0 1 = cc in absurd (omega arith)
+      go (prefix o u) h q = let z : o ≡ p = cc in (u, ap (λ v. prefix v u) z, in-prefix ops bytes from o u to h)
 
   pub an-operator : {o : ℕ} → x ≡ node.Operator o → (t : Tree) {to : ℕ} → TreeAt ops bytes from t to
       → (l : Tree) × (r : Tree) × (mid : ℕ) × (t ≡ binary o l r) × TreeAt ops bytes (from + 1) l mid × TreeAt ops bytes mid r to
@@ -122,6 +144,7 @@ module _ (ops : Operators) (bytes : List ℕ) (from : ℕ) {x : Node} (found : x
       go (binary p l r) h q =
           let z : p ≡ o = cc in
           (l, r, seam ops bytes from p l r to h, ap (λ p. binary p l r) z, left-at ops bytes from p l r to h, right-at ops bytes from p l r to h)
+      go (prefix p u) h q = let z : _≡_ {A = ℕ} 0 1 = cc in absurd (omega arith)
 
   pub no-tree : {A : Type 0} → x ≡ node.Other → (t : Tree) {to : ℕ} → TreeAt ops bytes from t to → A
   no-tree {A} e t h = go t (top-is t h e)
@@ -130,21 +153,7 @@ module _ (ops : Operators) (bytes : List ℕ) (from : ℕ) {x : Node} (found : x
       go (reading b) q = let z : _≡_ {A = ℕ} 0 1 = cc in absurd (omega arith)
       go (bracket u) q = let z : _≡_ {A = ℕ} 0 1 = cc in absurd (omega arith)
       go (binary p l r) q = let z : _≡_ {A = ℕ} 0 1 = cc in absurd (omega arith)
-
--- Where a tree stands, the node has the number of no refusal, and its byte is the first of the tree's record.
-pub tree-node : (ops : Operators) (bytes : List ℕ) (from : ℕ) (t : Tree) {to : ℕ} → TreeAt ops bytes from t to
-    → (nodeNumber (nodeAt ops bytes from) ≡ accepted) × (nodeByte (nodeAt ops bytes from) ≡ getD (recordOf t) 0 0)
-tree-node ops bytes from t x = let e = top-node ops bytes from t x in (ap nodeNumber e ∙ number t, ap nodeByte e ∙ byte t)
-  where
-    number : (t : Tree) → nodeNumber (topOf t) ≡ accepted
-    number (reading a) = refl
-    number (bracket t) = refl
-    number (binary o l r) = refl
-
-    byte : (t : Tree) → nodeByte (topOf t) ≡ getD (recordOf t) 0 0
-    byte (reading a) = refl
-    byte (bracket t) = refl
-    byte (binary o l r) = refl
+      go (prefix p u) q = let z : _≡_ {A = ℕ} 0 1 = cc in absurd (omega arith)
 
 -- past the end of the record no tree stands
 pub none-past : (ops : Operators) (size : ℕ) (held : List ℕ) (from : ℕ) → size ≤ from → (t : Tree) {to : ℕ} → TreeAt ops (front size held) from t to → ⊥

@@ -9,12 +9,10 @@ use lib.Seq.{sets}
 use borrow.Author.Needs.{needs}
 use mir.Syntax.{w64}
 use mir.Val.{Fits}
-use types.Run.{OneOf}
-use denote.Enum.Declared.{tagOf}
 use Rattle.expression.specs.Refusal.{noTree}
 use Rattle.expression.specs.Limits.{mostTokens, mostRecordBytes}
 use Rattle.expression.specs.Token.{opening, closing, Operators}
-use Rattle.expression.specs.Tree.{Tree, reading, bracket, binary, yield}
+use Rattle.expression.specs.Tree.{Tree, reading, bracket, binary, prefix, yield}
 use Rattle.expression.proofs.Stores.{sets-append}
 use Rattle.record.specs.Held.{front, base}
 use Rattle.record.specs.Node.{nodeAt}
@@ -22,11 +20,10 @@ use Rattle.record.specs.TreeAt.{TreeAt}
 use Rattle.record.specs.Rows.{writtenEnd, writtenLast, Writes}
 use Rattle.record.specs.declared.Node.{Node}
 use Rattle.record.specs.declared.Node.the-variants as node
-use Rattle.record.proofs.Node as nodes
-use Rattle.record.proofs.Nodes.{is-other}
+use Rattle.record.proofs.Nodes.{NoReading, NoBracket, NoOperator, NoPrefix, is-other}
 use Rattle.record.proofs.Holding.{front-fits}
-use Rattle.record.proofs.Trees.{record-positive, ends-within, a-reading, a-bracket, an-operator, no-tree, none-past}
-use Rattle.record.proofs.Standing.{leaf-at, bracket-at, operator-at, onward, operands-in, joined-in}
+use Rattle.record.proofs.Trees.{record-positive, ends-within, a-reading, a-bracket, a-prefix, an-operator, no-tree, none-past}
+use Rattle.record.proofs.Standing.{leaf-at, bracket-at, prefix-at, operator-at, onward, operands-in, joined-in}
 
 pub set-bracket : (d v : List ℕ) (i : ℕ) → set (sets (set d i opening) (i + 1) v) (i + 1 + length v) closing ≡ sets d i (opening ∷ v ++ (closing ∷ []))
 set-bracket d v i =
@@ -39,6 +36,7 @@ pub yield-positive : (t : Tree) → 1 ≤ length (yield t)
 yield-positive (reading a) = omega arith
 yield-positive (bracket t) = omega arith
 yield-positive (binary o l r) = rw length-append (omega arith)
+yield-positive (prefix p t) = omega arith
 
 bracket-tokens : (t u : Tree) → t ≡ bracket u → length (yield t) ≡ suc (length (yield u) + 1)
 bracket-tokens t u e = ap (λ v. length (yield v)) e ∙ ap suc (length-append (yield u) (closing ∷ []))
@@ -68,9 +66,21 @@ pub full : (ops : Operators) (bytes : List ℕ) (from : ℕ) (before : List ℕ)
 full ops bytes from before at h = none-here before before (λ t to x room. omega (arith, yield-positive t))
 
 module _ (ops : Operators) (bytes : List ℕ) (from : ℕ) {x : Node} (found : x ≡ nodeAt ops bytes from) (before : List ℕ) (at : ℕ) where
-  pub other : OneOf (1 ∷ 2 ∷ 3 ∷ []) (tagOf nodes.the-type x) → OneOf (0 ∷ 2 ∷ 3 ∷ []) (tagOf nodes.the-type x) → OneOf (0 ∷ 1 ∷ 3 ∷ []) (tagOf nodes.the-type x)
-      → Writes ops bytes from before at before noTree
-  other p q r = none-here before before (λ t to h room. no-tree ops bytes from found (is-other x p q r) t h)
+  pub other : NoReading x → NoBracket x → NoPrefix x → NoOperator x → Writes ops bytes from before at before noTree
+  other p q s r = none-here before before (λ t to h room. no-tree ops bytes from found (is-other x p q s r) t h)
+
+  pub a-prefixed : {p r : ℕ} (after : List ℕ) → x ≡ node.Prefix p → Writes ops bytes (from + 1) (set before at p) (at + 1) after r → Writes ops bytes from before at after r
+  a-prefixed {p} after is h =
+      record {
+        wrote = λ t to k room.
+            let (u, e, y) = a-prefix ops bytes from found is t k in
+            let m = ap (λ v. length (yield v)) e in
+            let (a, b, c) = h .wrote u to y (omega arith) in
+            (a, b ∙ omega arith, c ∙ ap (λ j. sets (set before at p) j (yield u)) (add-one at) ∙ ap (λ v. sets before at (yield v)) (sym e));
+        found = λ e.
+            let (u, y, room) = h .found e in
+            (prefix p u, prefix-at ops bytes from found is u y, omega arith);
+      }
 
   pub a-leaf : {a : ℕ} → x ≡ node.Reading a → at < mostTokens → Writes ops bytes from before at (set before at a) ((from + 1) * base + (at + 1))
   a-leaf {a} is low =
@@ -198,4 +208,4 @@ module _ (from : ℕ) {ops : Operators} {bytes before after : List ℕ} {at w : 
   pub closed-fits : (w ≡ noTree → ⊥) → length bytes ≤ mostRecordBytes → Fits w64 (w + 1)
   closed-fits some most = let (t, x, _) = h .found some in omega (arith, ends-within ops bytes (from + 1) t (writtenEnd w) x)
 
-pub ruleset write-row-ways = (past-end, full, other, a-leaf, inner-refused, inner-full, a-bracketed, left-refused, left-full, an-infix, leaf-full, a-leaf-infix, front-fits, closed-fits, needs)
+pub ruleset write-row-ways = (past-end, full, other, a-leaf, a-prefixed, inner-refused, inner-full, a-bracketed, left-refused, left-full, an-infix, leaf-full, a-leaf-infix, front-fits, closed-fits, needs)

@@ -5,7 +5,7 @@ use mathlib.Core.Option.{Option, none, some}
 use mathlib.Core.List.{List}
 use lib.Dec.{eqb, ltb}
 use lib.ListN.{length}
-use Rattle.expression.specs.Token.{Class, Infix, Opening, Closing, Reading, Meaningless, Operators, class}
+use Rattle.expression.specs.Token.{Class, Infix, Prefix, Opening, Closing, Reading, Meaningless, Operators, class}
 use Rattle.expression.specs.Tree.{Tree}
 use Rattle.expression.specs.Decode.{treesOf}
 
@@ -21,6 +21,7 @@ oneTree = 2
 -- the same with one byte more before them, by its class
 abbrev pub withByte : Class → ℕ → ℕ
 withByte Infix m = cond (ltb m 3) 0 (m - 1)
+withByte Prefix m = cond (ltb m 2) 0 m
 withByte Opening m = cond (ltb m 2) 0 m
 withByte Closing m = 0
 withByte Reading m = cond (eqb m 0) 0 (m + 1)

@@ -4,14 +4,14 @@ use mathlib.Core.Bool.{cond}
 use mathlib.Core.List.{List}
 use lib.Dec.{ltb}
 use lib.ListN.{length, getD}
-use Rattle.expression.specs.Refusal.{accepted, noTree}
-use Rattle.expression.specs.Token.{Class, Infix, Opening, Closing, Reading, Meaningless, opening, Operators, class}
+use Rattle.expression.specs.Token.{Class, Infix, Prefix, Opening, Closing, Reading, Meaningless, Operators, class}
 use Rattle.record.specs.declared.Node.{Node}
 use Rattle.record.specs.declared.Node.the-variants as node
 
 -- the node of a byte, by its class
 abbrev pub nodeOf : Class → ℕ → Node
 nodeOf Infix c = node.Operator c
+nodeOf Prefix c = node.Prefix c
 nodeOf Opening c = node.Bracket
 nodeOf Closing c = node.Other
 nodeOf Reading c = node.Reading c
@@ -20,17 +20,3 @@ nodeOf Meaningless c = node.Other
 -- the node at a place, where the sheet used has these operators; past the end there is none
 abbrev pub nodeAt : Operators → List ℕ → ℕ → Node
 nodeAt ops bytes at = cond (ltb at (length bytes)) (nodeOf (class ops (getD bytes at 0)) (getD bytes at 0)) node.Other
-
--- the number of a node: a tree begins there, or the bytes are no tree,
-abbrev pub nodeNumber : Node → ℕ
-nodeNumber (node.Reading a) = accepted
-nodeNumber node.Bracket = accepted
-nodeNumber (node.Operator o) = accepted
-nodeNumber node.Other = noTree
-
--- and its byte; 0 where there is none
-abbrev pub nodeByte : Node → ℕ
-nodeByte (node.Reading a) = a
-nodeByte node.Bracket = opening
-nodeByte (node.Operator o) = o
-nodeByte node.Other = 0

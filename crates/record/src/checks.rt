@@ -6,6 +6,7 @@ ghost use lib.ListN.{length};
 ghost use Rattle.expression.specs.Lists.{oneIf};
 ghost use Rattle.expression.specs.Limits.{mostRecordBytes};
 ghost use Rattle.expression.specs.Token.{opening, operators, class};
+ghost use mathlib.Core.List.{[]};
 ghost use Rattle.expression.specs.Checks.{strangeInRecord};
 ghost use Rattle.sheet.specs.Layout.{operatorsOf};
 ghost use Rattle.record.specs.Checks.{strangerInRecord, rowLength};
@@ -14,7 +15,7 @@ use sheet::layout::SHEET_WORDS;
 
 // The byte stands in no record: it has no meaning under n operators, or closes a bracket.
 fn is_strange(n: u8, byte: u8) -> bool
-    ensures { λ r. ⌜ r ≡ strangeInRecord (class (operators n) byte) ⌝ }
+    ensures { λ r. ⌜ r ≡ strangeInRecord (class (operators n []) byte) ⌝ }
 {
     if byte < token::OPENING {
         return n <= byte;
@@ -27,7 +28,7 @@ fn is_strange(n: u8, byte: u8) -> bool
 
 // Some byte is a stranger. The loop has no branch, so that bytes can be tested side by side.
 fn any_strange(n: u8, bytes: &[u8]) -> bool
-    ensures { λ r. ⌜ r ≡ strangerInRecord (operators n) (now (bytes .entry)) ⌝ }
+    ensures { λ r. ⌜ r ≡ strangerInRecord (operators n []) (now (bytes .entry)) ⌝ }
 {
     let mut strange = false;
     let mut at = 0;

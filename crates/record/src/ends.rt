@@ -32,6 +32,9 @@ pub fn end_at(
     if let Node::Bracket = node {
         return end_at(sheet, held, size, at + 1);
     }
+    if let Node::Prefix(_) = node {
+        return end_at(sheet, held, size, at + 1);
+    }
     let Node::Operator(_) = node else {
         return NO_TREE;
     };

@@ -11,18 +11,19 @@ use expression::token;
 use sheet::layout::SHEET_WORDS;
 
 mod checks;
-mod conflicts;
+pub mod conflicts;
 mod ends;
 pub mod held;
 mod listing;
 pub mod operands;
 mod rows;
 
-// What stands at a place of a record. Other: no byte, or one that begins no tree under the sheet's operators.
+// What stands at a place of a record; an Operator is infix. Other: no byte, or one that begins no tree under the sheet's operators.
 pub enum Node {
     Reading(u8),
     Bracket,
     Operator(u8),
+    Prefix(u8),
     Other,
 }
 
@@ -35,10 +36,13 @@ pub fn node_at(sheet: &[u32; SHEET_WORDS], bytes: &[u8], at: usize) -> Node
     }
     let byte = bytes[at];
     if byte < token::OPENING {
-        if byte < sheet::operator_count(sheet) {
-            return Node::Operator(byte);
+        if sheet::operator_count(sheet) <= byte {
+            return Node::Other;
         }
-        return Node::Other;
+        if sheet::is_prefix(sheet, byte) {
+            return Node::Prefix(byte);
+        }
+        return Node::Operator(byte);
     }
     if byte == token::OPENING {
         return Node::Bracket;
@@ -59,7 +63,7 @@ pub fn record_number(sheet: &[u32; SHEET_WORDS], bytes: &[u8]) -> u8
     if checks::has_stranger(sheet, bytes) {
         return refusal::STRANGER;
     }
-    if listing::trees_listed(sheet::operator_count(sheet), bytes) != listing::ONE_TREE {
+    if listing::trees_listed(sheet, bytes) != listing::ONE_TREE {
         return refusal::NO_TREE;
     }
     if limits::MOST_TOKENS < checks::row_length(bytes) {
@@ -149,7 +153,15 @@ pub fn judge(sheet: &[u32; SHEET_WORDS], bytes: &[u8]) -> Judgement
     }
     let mut held = [0u8; limits::MOST_RECORD_BYTES];
     bytes::copy(bytes, &mut held);
-    let tally = conflicts::count_at(sheet, &held, bytes.len(), 0, 0);
+    let tally = conflicts::count_at(
+        sheet,
+        &held,
+        bytes.len(),
+        0,
+        token::OPENING,
+        token::OPENING,
+        0,
+    );
     if tally == held::NO_TREE {
         return unjudged(refusal::NO_TREE);
     }

@@ -25,7 +25,7 @@ fn nowhere() -> Part
     Part { from: 0, to: 0 }
 }
 
-// The place of the left or of the right operand. A bracket's tree counts as its left; nowhere where there is none, and where
+// The place of the left or of the right operand. A node's only tree counts as its left; nowhere where there is none, and where
 // the record is refused: each operand is walked to its end once, and a stranger is no tree.
 pub fn operand_part(sheet: &[u32; SHEET_WORDS], bytes: &[u8], right: bool) -> Part
     ensures { λ r. ⌜ OperandAt (operatorsOf (now (sheet .entry))) right (now (bytes .entry)) r ⌝ }
@@ -41,6 +41,15 @@ pub fn operand_part(sheet: &[u32; SHEET_WORDS], bytes: &[u8], right: bool) -> Pa
     let size = bytes.len();
     let node = node_in(sheet, &held, size, 0);
     if let Node::Bracket = node {
+        if right {
+            return nowhere();
+        }
+        if ends::end_at(sheet, &held, size, 1) != size * BASE {
+            return nowhere();
+        }
+        return Part { from: 1, to: size };
+    }
+    if let Node::Prefix(_) = node {
         if right {
             return nowhere();
         }

@@ -51,6 +51,10 @@ pub fn write_row(
         out[last] = token::CLOSING;
         return inner + 1;
     }
+    if let Node::Prefix(p) = node {
+        out[to] = p;
+        return write_row(sheet, held, size, at + 1, out, to + 1);
+    }
     let Node::Operator(o) = node else {
         return NO_TREE;
     };

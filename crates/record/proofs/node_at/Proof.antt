@@ -11,6 +11,8 @@ node-at-spec =
     (λ c. search node-at-ways)
     (λ c κs. search node-at-ways)
     (λ c. search node-at-ways)
+    (λ c κs. search node-at-ways)
+    (λ c. search node-at-ways)
     (λ c. search node-at-ways)
     (λ c. search node-at-ways)
     (λ c. search node-at-ways)

@@ -11,7 +11,6 @@ record-number-spec =
     (λ c κs. search record-number-ways)
     (λ c. search record-number-ways)
     (λ c κs. search record-number-ways)
-    (λ c κs. search record-number-ways)
     (λ c. search record-number-ways)
     (λ c κs. search record-number-ways)
     (λ c. search record-number-ways)

@@ -4,12 +4,12 @@ use native.Mathlib.Omega.{arith}
 use borrow.Author.Needs.{needs}
 use borrow.Fn.Kinds.{In}
 use borrow.Fn.PlainCycle.{Measures, is, falls, and}
-use Rattle.record.proofs.Counting.{mid-falls, second-low, count-at-ways}
+use Rattle.record.proofs.Counting.{mid-falls, left-small, count-at-ways}
 use Rattle.record.proofs.conflicts.count_at.Reads as count-at
 use Rattle.record.proofs.conflicts.count_at.Kinds as count-at-kinds
 use Rattle.record.proofs.conflicts.+count_at.Lts-count_at as count-at-lts
-use Rattle.record.proofs.conflicts.on_left.Reads as on-left
-use Rattle.record.proofs.conflicts.on_right.Reads as on-right
+use Rattle.record.proofs.conflicts.on_edge.Reads as on-edge
+use Rattle.record.proofs.conflicts.on_top.Reads as on-top
 use Rattle.record.proofs.held.node_in.Reads as node-in
 use Rattle.record.proofs.conflicts.+count_at.{statement}
 use Rattle.record.proofs.conflicts.+count_at.Tie.{close}
@@ -30,10 +30,10 @@ pub +count-at-spec : {M : Type 1} → statement M
       node-in.Learnt,
       count-at-below t,
       count-at.Post,
-      on-right.Asked,
-      on-right.Learnt,
-      on-left.Asked,
-      on-left.Learnt,
+      on-edge.Asked,
+      on-edge.Learnt,
+      on-top.Asked,
+      on-top.Learnt,
     ) (count-at-at t) count-at.Post
     (λ c. search count-at-ways)
     (λ c κs. omega arith)
@@ -47,24 +47,25 @@ pub +count-at-spec : {M : Type 1} → statement M
     (λ c κs. (omega arith, (omega arith, omega arith)))
     (λ c. search count-at-ways)
     (λ c. search count-at-ways)
-    (λ c. search count-at-ways)
-    (λ c. omega arith)
-    (λ c κs. omega arith)
-    (λ c. search count-at-ways)
-    (λ c. omega arith)
     (λ c κs. omega arith)
     (λ c. omega arith)
     (λ c. omega arith)
     (λ c κs. (omega arith, (omega arith, omega arith)))
     (λ c. search count-at-ways)
+    (λ c. search count-at-ways)
+    (λ c. search count-at-ways)
+    (λ c κs. omega arith)
     (λ c. omega arith)
     (λ c κs. omega arith)
+    (λ c. search count-at-ways)
+    (λ c. omega arith)
+    (λ c. omega arith)
+    (λ c κs. (omega arith, (omega arith, omega arith)))
+    (λ c. search count-at-ways)
     (λ c. omega arith)
     (λ c. omega arith)
     (λ c. omega arith)
     (λ c κs. (omega arith, (omega arith, omega arith)))
     (λ c. search count-at-ways)
-    (λ c κs. omega arith)
-    (λ c. omega arith)
-    (λ c κs. (search (mid-falls, needs), (omega arith, search (second-low, needs))))
+    (λ c κs. (search (mid-falls, needs), (omega arith, search (left-small, needs))))
     (λ c. search count-at-ways)

@@ -5,10 +5,10 @@ use Rattle.record.proofs.listing.trees_listed.Statement.{statement}
 use Rattle.record.proofs.listing.trees_listed.Tie as tie
 
 abbrev Inv-loop : tie.InvT-loop
-Inv-loop n bytes listed₀ at₀ listed at = Counted n bytes listed at
+Inv-loop sheet bytes listed₀ at₀ listed at = Counted sheet bytes listed at
 
 abbrev μ-loop : tie.MeasureT-loop
-μ-loop n bytes listed₀ at₀ listed at = at
+μ-loop sheet bytes listed₀ at₀ listed at = at
 
 pub trees-listed-spec : {M : Type 1} → statement M
 trees-listed-spec =
