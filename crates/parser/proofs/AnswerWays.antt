@@ -77,11 +77,11 @@ module _ (sheet row out : List ℕ) where
         }
 
     -- the whole part is the record, and what lies past it is as before
-    pub build-done : {part : List ℕ} → m ≤ length out → part ≡ built (closesIn sheet) row → AnswersBuild sheet row out (part ++ drop (m - 0) out) (record { number = 0; length = m })
+    pub build-done : {part : List ℕ} → m ≤ length out → part ≡ built (operatorsOf sheet) (closesIn sheet) row → AnswersBuild sheet row out (part ++ drop (m - 0) out) (record { number = 0; length = m })
     unfolding rowNumber buildNumber
     build-done h same =
-        let long : length (built (closesIn sheet) row) ≡ m = built-length-accepted (closesIn sheet) (operatorsOf sheet) row (sym e ∙ f) ∙ sym b in
-        let ends : m - 0 ≡ length (built (closesIn sheet) row) = omega (arith, long) in
+        let long : length (built (operatorsOf sheet) (closesIn sheet) row) ≡ m = built-length-accepted (closesIn sheet) (operatorsOf sheet) row (sym e ∙ f) ∙ sym b in
+        let ends : m - 0 ≡ length (built (operatorsOf sheet) (closesIn sheet) row) = omega (arith, long) in
         record {
           numbered = sym (first-roomy (rowChecks (operatorsOf sheet) row) (recordBytes row) (length out) (sym e ∙ f) (row-numbered (operatorsOf sheet) row) (omega arith));
           measured = sym long;
@@ -91,7 +91,7 @@ module _ (sheet row out : List ℕ) where
   pub few-tokens : {number : ℕ} → number ≡ rowNumber (operatorsOf sheet) row → number ≡ 0 → length row ≤ mostTokens
   few-tokens e f = row-accepted (operatorsOf sheet) row .0 (sym e ∙ f) .0
 
-  pub can-build : {number : ℕ} → number ≡ rowNumber (operatorsOf sheet) row → number ≡ 0 → Buildable (closesIn sheet) row
+  pub can-build : {number : ℕ} → number ≡ rowNumber (operatorsOf sheet) row → number ≡ 0 → Buildable (operatorsOf sheet) (closesIn sheet) row
   can-build e f = accepted-buildable (closesIn sheet) (operatorsOf sheet) row (sym e ∙ f)
 
 pub room-for-record : (row out : List ℕ) {m : ℕ} → m ≡ recordBytes row → m ≤ length out → length (take (m - 0) out) ≡ recordBytes row

@@ -10,13 +10,14 @@ use lib.ListN.{length, getD, take, drop}
 use lib.Seq.{take-suc, take-all, split-at}
 use borrow.Author.Needs.{needs}
 use Rattle.expression.specs.Limits.{mostTokens}
+use Rattle.expression.specs.Token.{Operators, class}
 use Rattle.expression.specs.Tree.{Tree, recordOf}
 use Rattle.expression.specs.Checks.{recordBytes}
 use Rattle.disambiguation.specs.LeftToRight.{bottom, State, due, have, stuck, finish, run, stateAfter, parse, made}
 use Rattle.disambiguation.proofs.LeftToRight.{run-append}
 use Rattle.parser.specs.Build.{recordIn, built}
 use Rattle.parser.specs.Notes.{notesOf, notesAt, laidOut, Inside}
-use Rattle.parser.specs.Reading.{classOf, next, Goes, Noted, Takeable, Takes, Buildable, Reads}
+use Rattle.parser.specs.Reading.{next, Goes, Noted, Takeable, Takes, Buildable, Reads}
 use Rattle.parser.specs.declared.build.Front.{Front}
 use Rattle.parser.proofs.Shares.{share-small}
 use Rattle.parser.proofs.NoteLaws.{length-notesOf}
@@ -25,28 +26,28 @@ use Rattle.parser.proofs.Laying.{enough-words, words-inside, words-laid
 use Rattle.parser.proofs.OperandWays.{count-is}
 
 -- ---- the machine on a row that it makes a tree of
-module _ (closes : ℕ → ℕ → Bool) where
+module _ (ops : Operators) (closes : ℕ → ℕ → Bool) where
   abbrev after : List ℕ → State
-  after = stateAfter closes classOf
+  after = stateAfter closes (class ops)
 
-  run-stuck : (tokens : List ℕ) → run closes classOf tokens stuck ≡ stuck
+  run-stuck : (tokens : List ℕ) → run closes (class ops) tokens stuck ≡ stuck
   run-stuck [] = refl
   run-stuck (c ∷ tokens) = run-stuck tokens
 
-  goes-on : (m : State) (rest : List ℕ) (t : Tree) → finish (run closes classOf rest m) ≡ some t → Goes m
+  goes-on : (m : State) (rest : List ℕ) (t : Tree) → finish (run closes (class ops) rest m) ≡ some t → Goes m
   goes-on (due s) rest t e = tt
   goes-on (have s u) rest t e = tt
   goes-on stuck rest t e = let none-is-some = ap finish (sym (run-stuck rest)) ∙ e in let clash : _≡_ {A = ℕ} 0 1 = cc in omega arith
 
-  made-finishes : (row : List ℕ) (t : Tree) → made closes row ≡ some t → finish (after row) ≡ some t
+  made-finishes : (row : List ℕ) (t : Tree) → made ops closes row ≡ some t → finish (after row) ≡ some t
   unfolding made parse
   made-finishes row t e = e
 
 -- ---- read_row
-module _ (closes : ℕ → ℕ → Bool) (row words₀ : List ℕ) where
+module _ (ops : Operators) (closes : ℕ → ℕ → Bool) (row words₀ : List ℕ) where
   -- the tokens before i are taken
   pub record Reading (words : List ℕ) (f : Front) (i : ℕ) : Type 0 where
-    pub stands : Noted words f (after closes (take i row))
+    pub stands : Noted ops words f (after ops closes (take i row))
     pub first-inside : f .first ≤ f .count
     pub few : f .count ≤ i
     pub inside : i ≤ length row
@@ -62,18 +63,18 @@ module _ (closes : ℕ → ℕ → Bool) (row words₀ : List ℕ) where
         same-length = refl;
       }
 
-  one-more : (i : ℕ) → i < length row → after closes (take (i + 1) row) ≡ next closes (getD row i 0) (after closes (take i row))
-  one-more i h = ap (after closes) (ap (λ k. take k row) (add-one i) ∙ take-suc row i 0 h) ∙ run-append closes classOf (take i row) (getD row i 0 ∷ []) (due bottom)
+  one-more : (i : ℕ) → i < length row → after ops closes (take (i + 1) row) ≡ next ops closes (getD row i 0) (after ops closes (take i row))
+  one-more i h = ap (after ops closes) (ap (λ k. take k row) (add-one i) ∙ take-suc row i 0 h) ∙ run-append closes (class ops) (take i row) (getD row i 0 ∷ []) (due bottom)
 
-  goes : (i : ℕ) → i < length row → Buildable closes row → Goes (next closes (getD row i 0) (after closes (take i row)))
+  goes : (i : ℕ) → i < length row → Buildable ops closes row → Goes (next ops closes (getD row i 0) (after ops closes (take i row)))
   goes i h b =
-      goes-on closes (next closes (getD row i 0) (after closes (take i row))) (drop (suc i) row) (b .tree)
-      (sym (ap (λ r. finish (after closes r)) (split-at row i 0 h) ∙ ap finish (run-append closes classOf (take i row) (getD row i 0 ∷ drop (suc i) row) (due bottom)))
-      ∙ made-finishes closes row (b .tree) (b .makes))
+      goes-on ops closes (next ops closes (getD row i 0) (after ops closes (take i row))) (drop (suc i) row) (b .tree)
+      (sym (ap (λ r. finish (after ops closes r)) (split-at row i 0 h) ∙ ap finish (run-append closes (class ops) (take i row) (getD row i 0 ∷ drop (suc i) row) (due bottom)))
+      ∙ made-finishes ops closes row (b .tree) (b .makes))
 
   module _ {words : List ℕ} {f : Front} {i : ℕ} (r : Reading words f i) where
-    pub token-takeable : i < length row → Buildable closes row → Takeable closes (getD row i 0) words f
-    token-takeable h b = record { state = after closes (take i row); stands = r .stands; goes = goes i h b }
+    pub token-takeable : i < length row → Buildable ops closes row → Takeable ops closes (getD row i 0) words f
+    token-takeable h b = record { state = after ops closes (take i row); stands = r .stands; goes = goes i h b }
 
     pub token-room : i < length row → length row ≤ length words₀ → f .count < length words
     token-room h l = omega (arith, r .few, r .same-length)
@@ -84,21 +85,21 @@ module _ (closes : ℕ → ℕ → Bool) (row words₀ : List ℕ) where
     pub token-first : f .first ≤ f .count
     token-first = r .first-inside
 
-    pub reading-more : {words′ : List ℕ} {g : Front} → i < length row → Buildable closes row → Takes closes (getD row i 0) words f words′ g → Reading words′ g (i + 1)
+    pub reading-more : {words′ : List ℕ} {g : Front} → i < length row → Buildable ops closes row → Takes ops closes (getD row i 0) words f words′ g → Reading words′ g (i + 1)
     reading-more {words′} {g} h b t =
         record {
-          stands = subst (λ m. Noted words′ g m) (sym (one-more i h)) (t .taken (after closes (take i row)) (r .stands) (goes i h b));
+          stands = subst (λ m. Noted ops words′ g m) (sym (one-more i h)) (t .taken (after ops closes (take i row)) (r .stands) (goes i h b));
           first-inside = t .first-inside;
           few = omega (arith, t .counted, r .few, share-small (getD row i 0));
           inside = omega arith;
           same-length = t .same-length ∙ r .same-length;
         }
 
-    pub reading-done : length row ≤ i → Reads closes row words
+    pub reading-done : length row ≤ i → Reads ops closes row words
     reading-done h =
-        let noted : (t : Tree) → made closes row ≡ some t → take (f .count) words ≡ notesOf 0 t =
-        λ t e. r .stands .noted ∙ ap (λ x. notesAt (after closes x)) (take-all i row h) ∙ finished-notes (after closes row) t (made-finishes closes row t e) in
-        let long : (t : Tree) → made closes row ≡ some t → f .count ≡ length (recordOf t) =
+        let noted : (t : Tree) → made ops closes row ≡ some t → take (f .count) words ≡ notesOf 0 t =
+        λ t e. r .stands .noted ∙ ap (λ x. notesAt (after ops closes x)) (take-all i row h) ∙ finished-notes (after ops closes row) t (made-finishes ops closes row t e) in
+        let long : (t : Tree) → made ops closes row ≡ some t → f .count ≡ length (recordOf t) =
         λ t e. count-is (r .stands) ∙ ap length (sym (r .stands .noted) ∙ noted t e) ∙ length-notesOf 0 t in
         record {
           noted = λ t e. ap (λ n. take n words) (sym (long t e)) ∙ noted t e;
@@ -108,11 +109,11 @@ module _ (closes : ℕ → ℕ → Bool) (row words₀ : List ℕ) where
 pub ruleset read-ways = (reading-starts, token-takeable, token-room, words-same, token-first, reading-more, reading-done, needs)
 
 -- ---- build_into
-module _ (closes : ℕ → ℕ → Bool) (row out : List ℕ) (b : Buildable closes row) (size : length out ≡ recordBytes row) where
+module _ (ops : Operators) (closes : ℕ → ℕ → Bool) (row out : List ℕ) (b : Buildable ops closes row) (size : length out ≡ recordBytes row) where
   fills : length (recordOf (b .tree)) ≡ length out
   fills = b .measured ∙ sym size
 
-  module _ {words : List ℕ} (r : Reads closes row words) where
+  module _ {words : List ℕ} (r : Reads ops closes row words) where
     noted : take (length (recordOf (b .tree))) words ≡ notesOf 0 (b .tree)
     noted = r .noted (b .tree) (b .makes)
 
@@ -123,13 +124,13 @@ module _ (closes : ℕ → ℕ → Bool) (row out : List ℕ) (b : Buildable clo
     out-few = omega (arith, few, fills)
 
     pub out-enough : length out ≤ length words
-    out-enough = enough-words (b .tree) (b .over) few words (length (recordOf (b .tree))) noted out fills
+    out-enough = enough-words ops (b .tree) (b .over) few words (length (recordOf (b .tree))) noted out fills
 
     pub out-inside : Inside (length out) (take (length out) words) 0
-    out-inside = words-inside (b .tree) (b .over) few words (length (recordOf (b .tree))) noted out fills
+    out-inside = words-inside ops (b .tree) (b .over) few words (length (recordOf (b .tree))) noted out fills
 
-    pub out-built : {out′ : List ℕ} → out′ ≡ laidOut (take (length out) words) 0 out → out′ ≡ built closes row
+    pub out-built : {out′ : List ℕ} → out′ ≡ laidOut (take (length out) words) 0 out → out′ ≡ built ops closes row
     unfolding built
-    out-built e = e ∙ words-laid (b .tree) (b .over) few words (length (recordOf (b .tree))) noted out fills ∙ sym (ap recordIn (b .makes))
+    out-built e = e ∙ words-laid ops (b .tree) (b .over) few words (length (recordOf (b .tree))) noted out fills ∙ sym (ap recordIn (b .makes))
 
 pub ruleset build-ways = (out-few, out-enough, out-inside, out-built, needs)

@@ -10,12 +10,12 @@ use lib.Seq.{take-suc-set}
 use borrow.Author.Tests.{lt-ltb, le-ltb, ne-eqb, not-true, not-false}
 use borrow.Author.Needs.{needs}
 use Rattle.expression.specs.Limits.{mostOperators}
-use Rattle.expression.specs.Token.{opening, closing}
-use Rattle.disambiguation.specs.LeftToRight.{after, Stack, bottom, opened, waiting, remains}
+use Rattle.expression.specs.Token.{opening, closing, Operators}
+use Rattle.disambiguation.specs.LeftToRight.{after, ahead, operatorOf, Stack, bottom, opened, waiting, remains}
 use Rattle.disambiguation.proofs.BelowLaws.{and-true}
 use Rattle.parser.specs.Notes.{byteIn, backIn}
 use Rattle.parser.specs.Reading.{closedBy, ends, Waits, SomeWait, Closes, Adds}
-use Rattle.parser.proofs.Closing.{length-waiting, waits-length, top-note}
+use Rattle.parser.proofs.Closing.{length-waiting, length-led, waits-length, top-note}
 
 -- ---- closes_at
 module _ (closes : ℕ → ℕ → Bool) (c a : ℕ) where
@@ -34,14 +34,14 @@ module _ (closes : ℕ → ℕ → Bool) (c a : ℕ) where
 pub ruleset closes-at-ways = (bracket-stays, all-close, closes-by, needs)
 
 -- ---- close
-module _ (closes : ℕ → ℕ → Bool) (c : ℕ) (words : List ℕ) (from : ℕ) where
+module _ (ops : Operators) (closes : ℕ → ℕ → Bool) (c : ℕ) (words : List ℕ) (from : ℕ) where
   -- some has closed, and what is left of what waits now is what is to be left
   pub record Closing (first : ℕ) : Type 0 where
-    pub some-wait : SomeWait words first
-    pub left : (s : Stack) → Waits words from s → (u : Stack) × Waits words first u × (remains (closedBy closes c) u ≡ remains (closedBy closes c) s)
+    pub some-wait : SomeWait ops words first
+    pub left : (s : Stack) → Waits ops words from s → (u : Stack) × Waits ops words first u × (remains (closedBy closes c) u ≡ remains (closedBy closes c) s)
     pub lower : first ≤ from
 
-  pub closing-starts : SomeWait words from → Closing from
+  pub closing-starts : SomeWait ops words from → Closing from
   closing-starts w = record { some-wait = w; left = λ u v. (u, v, refl); lower = omega arith }
 
   module _ {first : ℕ} (k : Closing first) where
@@ -53,16 +53,16 @@ module _ (closes : ℕ → ℕ → Bool) (c : ℕ) (words : List ℕ) (from : �
       abbrev word : ℕ
       word = getD words (first - 1) 0
 
-      lower-stack : ends closes c byte ≡ true → (s : Stack) → Waits words first s
-          → (u : Stack) × Waits words (first - 1 - backIn word) u × (backIn word < first) × (remains (closedBy closes c) u ≡ remains (closedBy closes c) s)
+      lower-stack : ends closes c byte ≡ true → (s : Stack) → Waits ops words first s
+          → (u : Stack) × Waits ops words (first - 1 - backIn word) u × (backIn word < first) × (remains (closedBy closes c) u ≡ remains (closedBy closes c) s)
       unfolding ends
-      lower-stack e bottom w = absurd (top-note words first positive bottom w)
+      lower-stack e bottom w = absurd (top-note ops words first positive bottom w)
       lower-stack e (opened s) w =
-          let is : byte ≡ opening = is-byte ∙ top-note words first positive (opened s) w in
+          let is : byte ≡ opening = is-byte ∙ top-note ops words first positive (opened s) w in
           absurd (true≢false (sym (and-true (ltb byte mostOperators) (closedBy closes c byte) e .0) ∙ le-ltb byte mostOperators (omega arith)))
-      lower-stack e (waiting (after l o) s) w =
-          let (is, small, low, below) = top-note words first positive (waiting (after l o) s) w in
-          let closed : closedBy closes c o ≡ true = ap (closedBy closes c) (sym (is-byte ∙ is)) ∙ and-true (ltb byte mostOperators) (closedBy closes c byte) e .1 in
+      lower-stack e (waiting f s) w =
+          let (is, small, low, below) = top-note ops words first positive (waiting f s) w in
+          let closed : closedBy closes c (operatorOf f) ≡ true = ap (closedBy closes c) (sym (is-byte ∙ is)) ∙ and-true (ltb byte mostOperators) (closedBy closes c byte) e .1 in
           (s, below, low, sym (rw closed refl))
 
       pub back-inside : {r : ℕ} → not b ≡ false → r ≡ backIn word → r ≤ first - 1
@@ -85,17 +85,17 @@ module _ (closes : ℕ → ℕ → Bool) (c : ℕ) (words : List ℕ) (from : �
             lower = omega (arith, k .lower);
           })
 
-      stays : ends closes c byte ≡ false → (s : Stack) → Waits words first s → remains (closedBy closes c) s ≡ s
+      stays : ends closes c byte ≡ false → (s : Stack) → Waits ops words first s → remains (closedBy closes c) s ≡ s
       unfolding ends
       stays e bottom w = refl
       stays e (opened s) w = refl
-      stays e (waiting (after l o) s) w =
-          let (is, small, low, below) = top-note words first positive (waiting (after l o) s) w in
-          let e′ : (ltb o mostOperators && closedBy closes c o) ≡ false = ap (λ x. ltb x mostOperators && closedBy closes c x) (sym (is-byte ∙ is)) ∙ e in
-          let open-still : closedBy closes c o ≡ false = rw (lt-ltb o mostOperators small) at e′ in
+      stays e (waiting f s) w =
+          let (is, small, low, below) = top-note ops words first positive (waiting f s) w in
+          let e′ : (ltb (operatorOf f) mostOperators && closedBy closes c (operatorOf f)) ≡ false = ap (λ x. ltb x mostOperators && closedBy closes c x) (sym (is-byte ∙ is)) ∙ e in
+          let open-still : closedBy closes c (operatorOf f) ≡ false = rw (lt-ltb (operatorOf f) mostOperators small) at e′ in
           rw open-still refl
 
-      pub closing-stops : not b ≡ true → Closes closes c words from first
+      pub closing-stops : not b ≡ true → Closes ops closes c words from first
       closing-stops e =
           record {
             left = λ s w.
@@ -104,12 +104,13 @@ module _ (closes : ℕ → ℕ → Bool) (c : ℕ) (words : List ℕ) (from : �
             lower = k .lower;
           }
 
-    empty : (s : Stack) → Waits words first s → first ≤ 0 → remains (closedBy closes c) s ≡ s
+    empty : (s : Stack) → Waits ops words first s → first ≤ 0 → remains (closedBy closes c) s ≡ s
     empty bottom w h = refl
     empty (opened s) w h = refl
-    empty (waiting (after l o) s) w h = absurd (omega (arith, waits-length words first w, length-waiting l o s))
+    empty (waiting (after l o) s) w h = absurd (omega (arith, waits-length ops words first w, length-waiting l o s))
+    empty (waiting (ahead p) s) w h = absurd (omega (arith, waits-length ops words first w, length-led p s))
 
-    pub closing-ends : first ≤ 0 → Closes closes c words from first
+    pub closing-ends : first ≤ 0 → Closes ops closes c words from first
     closing-ends h =
         record {
           left = λ s w.

@@ -27,7 +27,7 @@ module _ (s : List ℕ) (ops : Operators) (rules : List Rule) (in-force : InForc
   conflict-free-tree {t = t} b = record { over = b .over; yields = b .yields-row; free = count-by-relation s ops rules in-force t (b .over) ∙ b .free }
 
   -- A built row is its record.
-  pub built-conflict-free : (row : List ℕ) → Row ops row → (t : Tree) × ConflictFreeTree ops rules row t × (built (closesIn s) row ≡ recordOf t)
+  pub built-conflict-free : (row : List ℕ) → Row ops row → (t : Tree) × ConflictFreeTree ops rules row t × (built ops (closesIn s) row ≡ recordOf t)
   built-conflict-free row r =
       let (t, b) = built-tree (closesIn s) ops row r in
       (t, conflict-free-tree b, b .recorded)
@@ -35,38 +35,38 @@ module _ (s : List ℕ) (ops : Operators) (rules : List Rule) (in-force : InForc
   pub one-tree : (row : List ℕ) (t u : Tree) → ConflictFreeTree ops rules row t → ConflictFreeTree ops rules row u → t ≡ u
   one-tree = only-one ops rules (accepted-passes ops rules (in-force .accepts))
 
-  pub built-is : (row : List ℕ) (t : Tree) → ConflictFreeTree ops rules row t → built (closesIn s) row ≡ recordOf t
+  pub built-is : (row : List ℕ) (t : Tree) → ConflictFreeTree ops rules row t → built ops (closesIn s) row ≡ recordOf t
   built-is row t c =
       let r = row-exactly-if-yielded ops row .1 (t, c .over, c .yields) in
       let (u, d, e) = built-conflict-free row r in
       e ∙ ap recordOf (one-tree row u t d c)
 
   -- Of the trees over the sheet's operators: what is built of a tree's row is its repair,
-  pub built-repairs : (t : Tree) → Over (class ops) t → built (closesIn s) (yield t) ≡ recordOf (repair (R rules) t)
-  built-repairs t h = built-is (yield t) (repair (R rules) t) (repair-is ops rules (accepted-passes ops rules (in-force .accepts)) t h)
+  pub built-repairs : (t : Tree) → Over (class ops) t → built ops (closesIn s) (yield t) ≡ recordOf (repair ops (R rules) t)
+  built-repairs t h = built-is (yield t) (repair ops (R rules) t) (repair-is ops rules (accepted-passes ops rules (in-force .accepts)) t h)
 
   -- which has the record's length;
-  pub built-keeps-length : (t : Tree) → Over (class ops) t → length (built (closesIn s) (yield t)) ≡ length (recordOf t)
+  pub built-keeps-length : (t : Tree) → Over (class ops) t → length (built ops (closesIn s) (yield t)) ≡ length (recordOf t)
   built-keeps-length t h =
       let c = repair-is ops rules (accepted-passes ops rules (in-force .accepts)) t h in
-      ap length (built-repairs t h) ∙ same-row-same-length (class ops) (brackets ops) (repair (R rules) t) t (c .over) h (c .yields)
+      ap length (built-repairs t h) ∙ same-row-same-length (class ops) (brackets ops) (repair ops (R rules) t) t (c .over) h (c .yields)
 
   -- it is the record itself exactly if the tree has no conflict;
-  pub built-same-exactly-if : (t : Tree) → Over (class ops) t → (built (closesIn s) (yield t) ≡ recordOf t) ↔ (conflictCount rules t ≡ 0)
+  pub built-same-exactly-if : (t : Tree) → Over (class ops) t → (built ops (closesIn s) (yield t) ≡ recordOf t) ↔ (conflictCount rules t ≡ 0)
   built-same-exactly-if t h = (
     λ e.
         let c = repair-is ops rules (accepted-passes ops rules (in-force .accepts)) t h in
-        let same = record-injective (class ops) (brackets ops) (repair (R rules) t) t (c .over) h (sym (built-repairs t h) ∙ e) in
+        let same = record-injective (class ops) (brackets ops) (repair ops (R rules) t) t (c .over) h (sym (built-repairs t h) ∙ e) in
         ap (conflictCount rules) (sym same) ∙ c .free,
     λ e. built-is (yield t) t (record { over = h; yields = refl; free = e }),
   )
 
   -- and two trees repair to the same bytes exactly if their rows are the same.
-  pub built-equal-exactly-if : (t u : Tree) → Over (class ops) t → Over (class ops) u → (built (closesIn s) (yield t) ≡ built (closesIn s) (yield u)) ↔ (yield t ≡ yield u)
+  pub built-equal-exactly-if : (t u : Tree) → Over (class ops) t → Over (class ops) u → (built ops (closesIn s) (yield t) ≡ built ops (closesIn s) (yield u)) ↔ (yield t ≡ yield u)
   built-equal-exactly-if t u ht hu = (
     λ e.
         let (v, c, p) = built-conflict-free (yield t) (row-exactly-if-yielded ops (yield t) .1 (t, ht, refl)) in
         let (w, d, q) = built-conflict-free (yield u) (row-exactly-if-yielded ops (yield u) .1 (u, hu, refl)) in
         sym (c .yields) ∙ ap yield (record-injective (class ops) (brackets ops) v w (c .over) (d .over) (sym p ∙ e ∙ q)) ∙ d .yields,
-    λ e. ap (built (closesIn s)) e,
+    λ e. ap (built ops (closesIn s)) e,
   )

@@ -1,6 +1,6 @@
 -- What `take_operand` gives, and what that is to the machine. Assumes nothing.
 use mathlib.Core.Path.{_≡_, refl, sym, ap, subst, _∙_}
-use mathlib.Core.Bool.{Bool}
+use mathlib.Core.Bool.{Bool, true, cond}
 use mathlib.Core.List.{List, [], _∷_, _++_}
 use Prim.Native.Nat.{ℕ, suc, _+_, _<_, _≤_}
 use native.Mathlib.Omega.{arith}
@@ -8,22 +8,24 @@ use lib.ListN.{length, take}
 use lib.Seq.{length-take-le, take-take, take-at}
 use borrow.Author.Needs.{needs}
 use Rattle.expression.specs.Limits.{mostOperators}
-use Rattle.expression.specs.Token.{Reading, opening, closing}
+use Rattle.expression.specs.Token.{Class, Infix, Prefix, Opening, Closing, Reading, Meaningless, opening, closing, Operators, class}
 use Rattle.expression.specs.Tree.{Tree, reading}
-use Rattle.expression.proofs.Classes.{by-class, class-reading}
-use Rattle.disambiguation.specs.LeftToRight.{Stack, opened, State, due, have, stuck, whereDue, whereRead, everyOperator}
+use Rattle.expression.proofs.Classes.{infix-byte, brackets}
+use Rattle.disambiguation.specs.LeftToRight.{ahead, Stack, opened, waiting, State, due, have, stuck, whereDue, whereRead}
+use Rattle.sheet.specs.Layout.{operatorsOf, prefixIn}
+use Rattle.sheet.proofs.Laws.{class-in}
 use Rattle.parser.specs.Notes.{note, notesOf, notesBelow, notesAt}
-use Rattle.parser.specs.Reading.{classOf, next, Goes, Waits, Noted, Takes, Adds, StartsOperand}
+use Rattle.parser.specs.Reading.{next, Goes, Waits, Noted, Takes, Adds, StartsOperand}
 use Rattle.parser.specs.declared.build.Front.{Front}
 use Rattle.parser.proofs.Shares.{share-byte}
 use Rattle.parser.proofs.Closing.{length-notesAt}
 
-module _ {words : List ℕ} {f : Front} where
-  pub count-is : {m : State} → Noted words f m → f .count ≡ length (notesAt m)
+module _ {ops : Operators} {words : List ℕ} {f : Front} where
+  pub count-is : {m : State} → Noted ops words f m → f .count ≡ length (notesAt m)
   count-is n = sym (length-take-le (f .count) words (omega (arith, n .size, n .inside))) ∙ ap length (n .noted)
 
   -- where an operand was read, what waits stands before it
-  pub waits-before : {s : Stack} {t : Tree} → Noted words f (have s t) → Waits words (f .first) s
+  pub waits-before : {s : Stack} {t : Tree} → Noted ops words f (have s t) → Waits ops words (f .first) s
   waits-before {s} {t} n =
       let long = count-is n ∙ length-notesAt s t in
       record {
@@ -43,15 +45,14 @@ starts-operand c words f {words′} e a = record { adds = subst (λ w. Adds w wo
 pub ruleset operand-ways = (starts-operand, needs)
 
 -- ---- what it is to the machine
-module _ (closes : ℕ → ℕ → Bool) (c : ℕ) {words words′ : List ℕ} {f g : Front} (no-operator : mostOperators ≤ c) (no-closing : c ≡ closing → ⊥)
-    (room : f .count < length words) (starts : StartsOperand c words f words′ g) where
+module _ (ops : Operators) (closes : ℕ → ℕ → Bool) (c : ℕ) {words words′ : List ℕ} {f g : Front} (room : f .count < length words) (starts : StartsOperand c words f words′ g) where
   -- the words with the note of c
-  with-note : (s : Stack) → Noted words f (due s) → take (g .count) words′ ≡ notesBelow s ++ note c 1 0 ∷ []
+  with-note : (s : Stack) → Noted ops words f (due s) → take (g .count) words′ ≡ notesBelow s ++ note c 1 0 ∷ []
   with-note s n =
       let e : g .count ≡ suc (f .count) = omega (arith, starts .counted) in
       ap (λ k. take k words′) e ∙ starts .adds .added ∙ ap (λ l. l ++ note c 1 0 ∷ []) (n .noted)
 
-  opens : (s : Stack) → c ≡ opening → Noted words f (due s) → Noted words′ g (due (opened s))
+  opens : (s : Stack) → c ≡ opening → Noted ops words f (due s) → Noted ops words′ g (due (opened s))
   opens s e n =
       record {
         noted = with-note s n ∙ ap (λ b. notesBelow s ++ note b 1 0 ∷ []) e;
@@ -61,7 +62,17 @@ module _ (closes : ℕ → ℕ → Bool) (c : ℕ) {words words′ : List ℕ} {
         inside = omega (arith, starts .adds .same-length, starts .counted);
       }
 
-  reads-one : (s : Stack) → classOf c ≡ Reading → Noted words f (due s) → Noted words′ g (have s (reading c))
+  leads : (s : Stack) → class ops c ≡ Prefix → Noted ops words f (due s) → Noted ops words′ g (due (waiting (ahead c) s))
+  leads s e n =
+      record {
+        noted = with-note s n;
+        begins = tt;
+        over = (e, n .over);
+        size = omega (arith, starts .adds .same-length, n .size);
+        inside = omega (arith, starts .adds .same-length, starts .counted);
+      }
+
+  reads-one : (s : Stack) → class ops c ≡ Reading → Noted ops words f (due s) → Noted ops words′ g (have s (reading c))
   reads-one s e n =
       record {
         noted = with-note s n;
@@ -71,28 +82,50 @@ module _ (closes : ℕ → ℕ → Bool) (c : ℕ) {words words′ : List ℕ} {
         inside = omega (arith, starts .adds .same-length, starts .counted);
       }
 
-  where-due : (s : Stack) → Noted words f (due s) → Goes (whereDue (classOf c) c s) → Noted words′ g (whereDue (classOf c) c s)
-  where-due s n =
-      by-class everyOperator (λ k. Goes (whereDue k c s) → Noted words′ g (whereDue k c s)) c (λ h _ _. absurd (omega arith)) (λ e _. opens s e n) (λ e _. absurd (no-closing e))
-      (λ h h′ _. reads-one s (class-reading everyOperator c h h′) n) (λ h. absurd h)
+  -- where an operand is due, by the class of c, which is no infix operator and no closing bracket
+  where-due : (k : Class) → class ops c ≡ k → (c ≡ closing → ⊥) → (s : Stack) → Noted ops words f (due s) → Goes (whereDue k c s) → Noted ops words′ g (whereDue k c s)
+  where-due Infix e not-closing s n h = absurd h
+  where-due Prefix e not-closing s n h = leads s e n
+  where-due Opening e not-closing s n h = opens s (brackets ops .opening-only c e) n
+  where-due Closing e not-closing s n h = absurd h
+  where-due Reading e not-closing s n h = reads-one s e n
+  where-due Meaningless e not-closing s n h = absurd h
 
-  where-read : (s : Stack) (t : Tree) → Goes (whereRead closes (classOf c) c s t) → ⊥
-  where-read s t =
-      by-class everyOperator (λ k. Goes (whereRead closes k c s t) → ⊥) c (λ h _ _. omega arith) (λ _ h. h) (λ e _. no-closing e) (λ _ _ h. h) (λ h. h)
+  -- and none of these where one has been read
+  where-read : (k : Class) → class ops c ≡ k → (class ops c ≡ Infix → ⊥) → (c ≡ closing → ⊥) → (s : Stack) (t : Tree) → Goes (whereRead closes k c s t) → ⊥
+  where-read Infix e no-infix not-closing s t h = no-infix e
+  where-read Prefix e no-infix not-closing s t h = h
+  where-read Opening e no-infix not-closing s t h = h
+  where-read Closing e no-infix not-closing s t h = not-closing (brackets ops .closing-only c e)
+  where-read Reading e no-infix not-closing s t h = h
+  where-read Meaningless e no-infix not-closing s t h = h
 
-  operand-goes : (m : State) → Noted words f m → Goes (next closes c m) → Noted words′ g (next closes c m)
-  operand-goes (due s) n h = where-due s n h
-  operand-goes (have s t) n h = absurd (where-read s t h)
-  operand-goes stuck n h = absurd h
-
-  pub operand-taken : Takes closes c words f words′ g
-  operand-taken =
+  taken-as-operand : (class ops c ≡ Infix → ⊥) → (c ≡ closing → ⊥) → Takes ops closes c words f words′ g
+  taken-as-operand no-infix not-closing =
       record {
         taken = operand-goes;
-        counted = omega (arith, starts .counted, share-byte c no-closing);
+        counted = omega (arith, starts .counted, share-byte c not-closing);
         first-inside = omega (arith, starts .counted, starts .first-is);
         same-length = starts .adds .same-length;
       }
+    where
+      operand-goes : (m : State) → Noted ops words f m → Goes (next ops closes c m) → Noted ops words′ g (next ops closes c m)
+      operand-goes (due s) n h = where-due (class ops c) refl not-closing s n h
+      operand-goes (have s t) n h = absurd (where-read (class ops c) refl no-infix not-closing s t h)
+      operand-goes stuck n h = absurd h
+
+  -- a token from 20 on that is no closing bracket
+  pub operand-taken : mostOperators ≤ c → (c ≡ closing → ⊥) → Takes ops closes c words f words′ g
+  operand-taken h not-closing = taken-as-operand (λ e. omega (arith, infix-byte ops c e .0)) not-closing
+
+-- a prefix operator
+module _ (sheet : List ℕ) (closes : ℕ → ℕ → Bool) (c : ℕ) {words words′ : List ℕ} {f g : Front} {p : Bool} where
+  pub prefix-taken : f .count < length words → StartsOperand c words f words′ g → c < mostOperators → p ≡ prefixIn sheet c → p ≡ true
+      → Takes (operatorsOf sheet) closes c words f words′ g
+  prefix-taken room starts low kind z =
+      taken-as-operand (operatorsOf sheet) closes c room starts
+      (λ e. let prefix-too = sym e ∙ class-in sheet c low (infix-byte (operatorsOf sheet) c e .1) ∙ ap (λ q. cond q Prefix Infix) (sym kind ∙ z) in let clash : _≡_ {A = ℕ} 0 1 = cc in omega arith)
+      (λ e. omega arith)
 
 pub operand-same : (c : ℕ) (words : List ℕ) (f : Front) {words′ : List ℕ} {g : Front} → StartsOperand c words f words′ g → length words′ ≡ length words
 operand-same c words f s = s .adds .same-length

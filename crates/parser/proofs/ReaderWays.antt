@@ -18,13 +18,14 @@ use Rattle.expression.specs.Token.{Class, Operators, class}
 use Rattle.expression.specs.Token as token
 use Rattle.expression.specs.RowTest.{Progress, due, done, wrong, whereDue, whereDone, complete, advance, scan}
 use Rattle.expression.proofs.Strangers.{scan-wrong}
-use Rattle.parser.specs.Rows.{tokenOf, tokenAt, isOperator, isClosing, Passes, Refuses, ReadsOperand, ReadsExpression}
+use Rattle.parser.specs.Rows.{tokenOf, tokenAt, isOperator, isPrefix, isClosing, Passes, Refuses, ReadsOperand, ReadsExpression}
 use Rattle.parser.specs.declared.row.Token.{Token}
-use Rattle.parser.specs.declared.row.Token.the-variants.{Operator, Opening, Closing, Reading, Other, End}
+use Rattle.parser.specs.declared.row.Token.the-variants.{Operator, Prefix, Opening, Closing, Reading, Other, End}
 
 -- the class that a token is of; none past the row's end
 abbrev pub Is : Token → Class → Type 0
 Is Operator x = x ≡ token.Infix
+Is Prefix x = x ≡ token.Prefix
 Is Opening x = x ≡ token.Opening
 Is Closing x = x ≡ token.Closing
 Is Reading x = x ≡ token.Reading
@@ -33,6 +34,7 @@ Is End x = ⊥
 
 is-class : (x : Class) → Is (tokenOf x) x
 is-class token.Infix = refl
+is-class token.Prefix = refl
 is-class token.Opening = refl
 is-class token.Closing = refl
 is-class token.Reading = refl
@@ -45,6 +47,7 @@ module _ (ops : Operators) (row : List ℕ) where
 
   abbrev pub There : ℕ → Token → Type 0
   There at Operator = Found at Operator
+  There at Prefix = Found at Prefix
   There at Opening = Found at Opening
   There at Closing = Found at Closing
   There at Reading = Found at Reading
@@ -53,6 +56,7 @@ module _ (ops : Operators) (row : List ℕ) where
 
   found-there : (at : ℕ) (t : Token) → Found at t → There at t
   found-there at Operator f = f
+  found-there at Prefix f = f
   found-there at Opening f = f
   found-there at Closing f = f
   found-there at Reading f = f
@@ -85,6 +89,7 @@ module _ (ops : Operators) (row : List ℕ) where
   -- inside a bracket, a row goes on with an operator or a closing bracket
   open-ends : (at : ℕ) (t : Token) → There at t → isOperator t ≡ false → isClosing t ≡ false → (d : ℕ) → complete (scan (class ops) (done (suc d)) (drop at row)) ≡ false
   open-ends at Operator f o c d = absurd (true≢false o)
+  open-ends at Prefix f o c d = goes-wrong at Prefix f (done (suc d)) (ap (λ x. whereDone x (suc d)) (f .1))
   open-ends at Opening f o c d = goes-wrong at Opening f (done (suc d)) (ap (λ x. whereDone x (suc d)) (f .1))
   open-ends at Closing f o c d = absurd (true≢false c)
   open-ends at Reading f o c d = goes-wrong at Reading f (done (suc d)) (ap (λ x. whereDone x (suc d)) (f .1))
@@ -94,6 +99,7 @@ module _ (ops : Operators) (row : List ℕ) where
   -- outside of brackets it ends, or goes on with an operator
   pub row-ends : (at : ℕ) (t : Token) → There at t → isOperator t ≡ false → at < length row → complete (scan (class ops) (done 0) (drop at row)) ≡ false
   row-ends at Operator f o h = absurd (true≢false o)
+  row-ends at Prefix f o h = goes-wrong at Prefix f (done 0) (ap (λ x. whereDone x 0) (f .1))
   row-ends at Opening f o h = goes-wrong at Opening f (done 0) (ap (λ x. whereDone x 0) (f .1))
   row-ends at Closing f o h = goes-wrong at Closing f (done 0) (ap (λ x. whereDone x 0) (f .1))
   row-ends at Reading f o h = goes-wrong at Reading f (done 0) (ap (λ x. whereDone x 0) (f .1))
@@ -102,6 +108,7 @@ module _ (ops : Operators) (row : List ℕ) where
 
   closing-there : (at : ℕ) (t : Token) → There at t → isClosing t ≡ true → Found at Closing
   closing-there at Operator f c = absurd (false≢true c)
+  closing-there at Prefix f c = absurd (false≢true c)
   closing-there at Opening f c = absurd (false≢true c)
   closing-there at Closing f c = f
   closing-there at Reading f c = absurd (false≢true c)
@@ -110,11 +117,21 @@ module _ (ops : Operators) (row : List ℕ) where
 
   operator-there : (at : ℕ) (t : Token) → There at t → isOperator t ≡ true → Found at Operator
   operator-there at Operator f c = f
+  operator-there at Prefix f c = absurd (false≢true c)
   operator-there at Opening f c = absurd (false≢true c)
   operator-there at Closing f c = absurd (false≢true c)
   operator-there at Reading f c = absurd (false≢true c)
   operator-there at Other f c = absurd (false≢true c)
   operator-there at End f c = absurd (false≢true c)
+
+  prefix-there : (at : ℕ) (t : Token) → There at t → isPrefix t ≡ true → Found at Prefix
+  prefix-there at Operator f c = absurd (false≢true c)
+  prefix-there at Prefix f c = f
+  prefix-there at Opening f c = absurd (false≢true c)
+  prefix-there at Closing f c = absurd (false≢true c)
+  prefix-there at Reading f c = absurd (false≢true c)
+  prefix-there at Other f c = absurd (false≢true c)
+  prefix-there at End f c = absurd (false≢true c)
 
   module _ (at : ℕ) where
     no-operand : Refuses ops row at → ReadsOperand ops row at 0
@@ -131,6 +148,10 @@ module _ (ops : Operators) (row : List ℕ) where
 
       pub operand-operator : t ≡ Operator → ReadsOperand ops row at 0
       operand-operator f = let g = there-is at e f in no-operand (λ d. goes-wrong at Operator g (due d) (ap (λ x. whereDue x d) (g .1)))
+
+      -- none such is asked for
+      pub operand-none : isPrefix (tokenAt ops row at) ≡ false → t ≡ Prefix → ReadsOperand ops row at 0
+      operand-none n f = absurd (true≢false (ap isPrefix (sym f ∙ e) ∙ n))
 
       pub operand-closing : t ≡ Closing → ReadsOperand ops row at 0
       operand-closing f = let g = there-is at e f in no-operand (λ d. goes-wrong at Closing g (due d) (ap (λ x. whereDue x d) (g .1)))
@@ -175,6 +196,30 @@ module _ (ops : Operators) (row : List ℕ) where
       pub opening-falls : {m : ℕ} → 2 * (length row - at) ≡ m → t ≡ Opening → 2 * (length row - (at + 1)) + 1 < m
       opening-falls q f = let g = there-is at e f in omega (arith, g .0)
 
+    -- past a prefix operator
+    module _ {b : Bool} (c : b ≡ isPrefix (tokenAt ops row at)) (v : b ≡ true) where
+      led : (at < length row) × ((d : ℕ) → scan (class ops) (due d) (drop at row) ≡ scan (class ops) (due d) (drop (at + 1) row))
+      led =
+          let g = prefix-there at (tokenAt ops row at) (there at) (sym c ∙ v) in
+          (g .0, λ d. scan-found at Prefix g (due d) ∙ ap (λ x. scan (class ops) (whereDue x d) (drop (at + 1) row)) (g .1))
+
+      pub expression-led : {next : ℕ} → ReadsExpression ops row (at + 1) next → ReadsExpression ops row at next
+      expression-led h =
+          record {
+            refuses = λ q d. ap complete (led .1 d) ∙ h .refuses q d;
+            passes = λ q. let p = h .passes q in (omega (arith, p .0), p .1, λ d. led .1 d ∙ p .2 d);
+            stops = h .stops;
+          }
+
+      pub prefix-fits : length row ≤ mostTokens → Fits w64 (at + 1)
+      prefix-fits l = omega (arith, led .0)
+
+      pub prefix-falls : {m : ℕ} → 2 * (length row - at) + 1 ≡ m → 2 * (length row - (at + 1)) + 1 < m
+      prefix-falls q = omega (arith, led .0)
+
+    pub not-prefix : {b : Bool} → b ≡ isPrefix (tokenAt ops row at) → b ≡ false → isPrefix (tokenAt ops row at) ≡ false
+    not-prefix c v = sym c ∙ v
+
     -- after an operand
     module _ {next : ℕ} (h : ReadsOperand ops row at next) where
       pub expression-refused : next ≡ 0 → ReadsExpression ops row at 0
@@ -213,6 +258,11 @@ module _ (ops : Operators) (row : List ℕ) where
 pub ruleset reader-ways = (
   operand-reading,
   operand-operator,
+  operand-none,
+  expression-led,
+  prefix-fits,
+  prefix-falls,
+  not-prefix,
   operand-closing,
   operand-other,
   operand-end,

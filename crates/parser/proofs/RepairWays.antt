@@ -101,23 +101,23 @@ module _ (sheet bytes out row : List ℕ) {row′ : List ℕ} {y : Answer} (room
     pub repair-room : length bytes ≤ length out → length (take (length bytes - 0) out) ≡ recordBytes (take (y .length - 0) row′)
     repair-room h = length-take-le (length bytes - 0) out (omega arith) ∙ omega (arith, ap recordBytes laid, known .same-length)
 
-    pub repair-buildable : Buildable (closesIn sheet) (take (y .length - 0) row′)
+    pub repair-buildable : Buildable (operatorsOf sheet) (closesIn sheet) (take (y .length - 0) row′)
     repair-buildable = rw laid (row-buildable (closesIn sheet) (operatorsOf sheet) (rowHere (operatorsOf sheet) bytes) (known .is-row))
 
     pub repair-part : y .length ≤ length row′
     repair-part = omega (arith, tokens-are, known .fits, room, ap length filled, length-append (rowHere (operatorsOf sheet) bytes) (drop (length (rowHere (operatorsOf sheet) bytes)) row))
 
-    pub repair-done : {part : List ℕ} → length bytes ≤ length out → part ≡ built (closesIn sheet) (take (y .length - 0) row′)
+    pub repair-done : {part : List ℕ} → length bytes ≤ length out → part ≡ built (operatorsOf sheet) (closesIn sheet) (take (y .length - 0) row′)
         → AnswersRepair sheet bytes out (part ++ drop (length bytes - 0) out) (record { number = 0; length = length bytes })
     unfolding recordNumber repairNumber
     repair-done h same =
-        let long : length (built (closesIn sheet) (rowHere (operatorsOf sheet) bytes)) ≡ length bytes =
+        let long : length (built (operatorsOf sheet) (closesIn sheet) (rowHere (operatorsOf sheet) bytes)) ≡ length bytes =
         built-length (closesIn sheet) (operatorsOf sheet) (rowHere (operatorsOf sheet) bytes) (known .is-row) ∙ known .same-length in
-        let ends : length bytes - 0 ≡ length (built (closesIn sheet) (rowHere (operatorsOf sheet) bytes)) = omega (arith, long) in
+        let ends : length bytes - 0 ≡ length (built (operatorsOf sheet) (closesIn sheet) (rowHere (operatorsOf sheet) bytes)) = omega (arith, long) in
         record {
           numbered = sym (first-roomy (recordChecks (operatorsOf sheet) bytes) (length bytes) (length out) (sym number-is ∙ zero) (record-numbered (operatorsOf sheet) bytes) h);
           measured = sym long;
-          output = ap₂ _++_ (same ∙ ap (built (closesIn sheet)) laid) (ap (λ x. drop x out) ends);
+          output = ap₂ _++_ (same ∙ ap (built (operatorsOf sheet) (closesIn sheet)) laid) (ap (λ x. drop x out) ends);
         }
 
 pub ruleset repair-ways = (repair-refused, repair-short, repair-few, repair-room, repair-buildable, repair-part, repair-done, needs)

@@ -1,7 +1,7 @@
 -- What each way through the checks of a row gives, from what is known on it. Assumes nothing.
-use mathlib.Core.Path.{_≡_, sym, ap, _∙_}
+use mathlib.Core.Path.{_≡_, refl, sym, ap, _∙_}
 use mathlib.Core.Bool.{Bool, true, false, not, _&&_, _||_, cond, and-false}
-use mathlib.Core.List.{List}
+use mathlib.Core.List.{List, []}
 use Prim.Native.Nat.{ℕ, _-_, _<_, _≤_}
 use native.Mathlib.Omega.{arith}
 use mir.Val.{Fits}
@@ -15,18 +15,20 @@ use Rattle.expression.specs.Limits.{mostOperators, mostTokens}
 use Rattle.expression.specs.Token.{opening, closing, firstReading, lastReading, Operators, operators, class}
 use Rattle.expression.specs.RowTest.{done, complete, scan, isRow}
 use Rattle.expression.specs.Checks.{strangeInRow, rowNumber}
+use Rattle.expression.proofs.Classes.{by-count}
+use Rattle.expression.proofs.Tests.{any-same}
 use Rattle.expression.proofs.Looking.{Looked, looked-none, looked-more, looked-all}
 use Rattle.parser.specs.Rows.{tokenAt, ReadsExpression, strangerInRow}
 use Rattle.parser.proofs.ReaderWays.{there, row-ends}
 
 -- ---- is_strange
 module _ (n c : ℕ) where
-  pub strange-test : Fits w8 c → (leb n c && ltb c mostOperators || ltb closing c && ltb c firstReading) ≡ strangeInRow (class (operators n) c)
+  pub strange-test : Fits w8 c → (leb n c && ltb c mostOperators || ltb closing c && ltb c firstReading) ≡ strangeInRow (class (operators n []) c)
   unfolding class
   strange-test f = go (decLt c mostOperators) (decLt c n) (ℕ-discrete c opening) (ℕ-discrete c closing) (decLt c firstReading)
     where
       go : Dec (c < mostOperators) → Dec (c < n) → Dec (c ≡ opening) → Dec (c ≡ closing) → Dec (c < firstReading)
-          → (leb n c && ltb c mostOperators || ltb closing c && ltb c firstReading) ≡ strangeInRow (class (operators n) c)
+          → (leb n c && ltb c mostOperators || ltb closing c && ltb c firstReading) ≡ strangeInRow (class (operators n []) c)
       go (yes h) (yes g) o s r = simp (lt-leb n c g, le-ltb closing c (omega arith), lt-ltb c mostOperators h, lt-ltb c n g)
       go (yes h) (no g) o s r = simp (le-leb n c (omega arith), lt-ltb c mostOperators h, le-ltb c n (omega arith))
       go (no h) g (yes e) s r = rw e (ap (λ x. x || false) (and-false (leb n opening)))
@@ -40,19 +42,20 @@ pub ruleset strange-ways = (strange-test, needs)
 
 -- ---- any_strange, has_stranger
 abbrev pub strange : ℕ → ℕ → Bool
-strange n c = strangeInRow (class (operators n) c)
+strange n c = strangeInRow (class (operators n []) c)
 
-pub looked-strange : (n : ℕ) (row : List ℕ) {at : ℕ} {b : Bool} → Looked (strange n) row b at → length row ≤ at → b ≡ strangerInRow (operators n) row
+pub looked-strange : (n : ℕ) (row : List ℕ) {at : ℕ} {b : Bool} → Looked (strange n) row b at → length row ≤ at → b ≡ strangerInRow (operators n []) row
 unfolding strangerInRow
 looked-strange n row l h = looked-all (strange n) row l h
 
 pub ruleset any-strange-ways = (looked-none, looked-more, looked-strange, needs)
 
 -- strangers are told by the count of operators alone
-pub by-count : (ops : Operators) (row : List ℕ) {n : ℕ} {r : Bool} → n ≡ ops .count → r ≡ strangerInRow (operators n) row → r ≡ strangerInRow ops row
-by-count ops row e q = q ∙ ap (λ m. strangerInRow (operators m) row) e
+pub stranger-by-count : (ops : Operators) (row : List ℕ) {n : ℕ} {r : Bool} → n ≡ ops .count → r ≡ strangerInRow (operators n []) row → r ≡ strangerInRow ops row
+unfolding strangerInRow
+stranger-by-count ops row e q = q ∙ ap (λ m. strangerInRow (operators m []) row) e ∙ any-same _ _ (by-count strangeInRow refl ops []) row
 
-pub ruleset stranger-ways = (by-count, needs)
+pub ruleset stranger-ways = (stranger-by-count, needs)
 
 -- ---- row_number
 module _ (ops : Operators) (row : List ℕ) where

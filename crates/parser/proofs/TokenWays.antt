@@ -1,6 +1,6 @@
 -- What each way through `token_of` and `token_at` gives, from what is known on it. Assumes nothing.
 use mathlib.Core.Path.{_≡_, sym, ap, _∙_}
-use mathlib.Core.Bool.{Bool}
+use mathlib.Core.Bool.{Bool, true, false, cond}
 use mathlib.Core.List.{List}
 use Prim.Native.Nat.{ℕ, _<_, _≤_}
 use native.Mathlib.Omega.{arith}
@@ -10,9 +10,12 @@ use lib.ListN.{length, getD}
 use borrow.Author.Tests.{lt-ltb, le-ltb, ne-eqb}
 use borrow.Author.Needs.{needs}
 use Rattle.expression.specs.Limits.{mostOperators}
-use Rattle.expression.specs.Token.{opening, closing, firstReading, lastReading, Operators, class}
-use Rattle.parser.specs.Rows.{tokenOf, tokenAt, isOperator, isClosing}
+use Rattle.expression.specs.Token.{Infix, Prefix, opening, closing, firstReading, lastReading, Operators, class}
+use Rattle.sheet.specs.Layout.{operatorsOf, prefixIn}
+use Rattle.sheet.proofs.Laws.{class-in}
+use Rattle.parser.specs.Rows.{tokenOf, tokenAt, isOperator, isPrefix, isClosing}
 use Rattle.parser.specs.declared.row.Token.{Token}
+use Rattle.parser.specs.declared.row.Token.the-variants as token
 use Rattle.parser.specs.declared.row.Token.the-variants.{Operator, Opening, Closing, Reading, Other, End}
 
 module _ (ops : Operators) (c : ℕ) where
@@ -20,10 +23,6 @@ module _ (ops : Operators) (c : ℕ) where
   unfolding class
   is-reading f h =
       simp (le-ltb c mostOperators (omega arith), ne-eqb c opening (λ e. omega arith), ne-eqb c closing (λ e. omega arith), le-ltb c firstReading h, le-ltb lastReading c (omega arith))
-
-  pub is-operator : {n : ℕ} → c < mostOperators → n ≡ ops .count → c < n → Operator ≡ tokenOf (class ops c)
-  unfolding class
-  is-operator h e g = simp (lt-ltb c mostOperators h, lt-ltb c (ops .count) (omega arith))
 
   pub is-no-operator : {n : ℕ} → c < mostOperators → n ≡ ops .count → n ≤ c → Other ≡ tokenOf (class ops c)
   unfolding class
@@ -41,7 +40,18 @@ module _ (ops : Operators) (c : ℕ) where
   unfolding class
   is-other h g o s = simp (le-ltb c mostOperators g, ne-eqb c opening o, ne-eqb c closing s, lt-ltb c firstReading h)
 
-pub ruleset token-of-ways = (is-reading, is-operator, is-no-operator, is-opening, is-closing, is-other, needs)
+-- an operator of a sheet, infix or prefix
+module _ (sheet : List ℕ) (c : ℕ) {n : ℕ} {p : Bool} (h : c < mostOperators) (e : n ≡ operatorsOf sheet .count) (g : c < n) (kind : p ≡ prefixIn sheet c) where
+  of-kind : class (operatorsOf sheet) c ≡ cond p Prefix Infix
+  of-kind = class-in sheet c h (omega arith) ∙ ap (λ q. cond q Prefix Infix) (sym kind)
+
+  pub is-prefix : p ≡ true → token.Prefix ≡ tokenOf (class (operatorsOf sheet) c)
+  is-prefix z = sym (ap tokenOf (of-kind ∙ ap (λ q. cond q Prefix Infix) z))
+
+  pub is-operator : p ≡ false → Operator ≡ tokenOf (class (operatorsOf sheet) c)
+  is-operator z = sym (ap tokenOf (of-kind ∙ ap (λ q. cond q Prefix Infix) z))
+
+pub ruleset token-of-ways = (is-reading, is-prefix, is-operator, is-no-operator, is-opening, is-closing, is-other, needs)
 
 module _ (ops : Operators) (row : List ℕ) (at : ℕ) where
   pub is-end : length row ≤ at → End ≡ tokenAt ops row at
@@ -54,13 +64,18 @@ module _ (ops : Operators) (row : List ℕ) (at : ℕ) where
 
 pub ruleset token-at-ways = (is-end, is-token, needs)
 
--- ---- operator_at, closing_at
+-- ---- operator_at, prefix_at, closing_at
 pub operator-told : {t u v : Token} {b : Bool} → t ≡ u → t ≡ v → isOperator v ≡ b → b ≡ isOperator u
 operator-told e f g = sym g ∙ ap isOperator (sym f ∙ e)
+
+pub prefix-told : {t u v : Token} {b : Bool} → t ≡ u → t ≡ v → isPrefix v ≡ b → b ≡ isPrefix u
+prefix-told e f g = sym g ∙ ap isPrefix (sym f ∙ e)
 
 pub closing-told : {t u v : Token} {b : Bool} → t ≡ u → t ≡ v → isClosing v ≡ b → b ≡ isClosing u
 closing-told e f g = sym g ∙ ap isClosing (sym f ∙ e)
 
 pub ruleset operator-at-ways = (operator-told, needs)
+
+pub ruleset prefix-at-ways = (prefix-told, needs)
 
 pub ruleset closing-at-ways = (closing-told, needs)

@@ -18,11 +18,11 @@ module _ (sheet : List ℕ) where
   -- a row is answered by the record that is built of it,
   pub record AnswersBuild (tokens before after : List ℕ) (r : Answer) : Type 0 where
     pub numbered : r .number ≡ buildNumber (operatorsOf sheet) tokens (length before)
-    pub measured : r .length ≡ lengthAfter (r .number) (built (closesIn sheet) tokens)
-    pub output : after ≡ outputAfter (r .number) (built (closesIn sheet) tokens) before
+    pub measured : r .length ≡ lengthAfter (r .number) (built (operatorsOf sheet) (closesIn sheet) tokens)
+    pub output : after ≡ outputAfter (r .number) (built (operatorsOf sheet) (closesIn sheet) tokens) before
 
   -- and a record by the one that is built of its row
   pub record AnswersRepair (bytes before after : List ℕ) (r : Answer) : Type 0 where
     pub numbered : r .number ≡ repairNumber (operatorsOf sheet) bytes (length before)
-    pub measured : r .length ≡ lengthAfter (r .number) (built (closesIn sheet) (rowOf (treeOf (class (operatorsOf sheet)) bytes)))
-    pub output : after ≡ outputAfter (r .number) (built (closesIn sheet) (rowOf (treeOf (class (operatorsOf sheet)) bytes))) before
+    pub measured : r .length ≡ lengthAfter (r .number) (built (operatorsOf sheet) (closesIn sheet) (rowOf (treeOf (class (operatorsOf sheet)) bytes)))
+    pub output : after ≡ outputAfter (r .number) (built (operatorsOf sheet) (closesIn sheet) (rowOf (treeOf (class (operatorsOf sheet)) bytes))) before

@@ -26,4 +26,4 @@ module _ (sheet : List ℕ) (ops : Operators) where
     pub beginnings : (beginning rest : List ℕ) → Row ops beginning
         → (t : Tree) × ConflictFreeTree ops rules beginning t × (finish (state beginning) ≡ some t) × (state (beginning ++ rest) ≡ onwards rest (state beginning))
     -- What is built of a row is the record of the tree that the machine makes of it.
-    pub written : (row : List ℕ) → Row ops row → (t : Tree) × (finish (state row) ≡ some t) × (built (closesIn sheet) row ≡ recordOf t)
+    pub written : (row : List ℕ) → Row ops row → (t : Tree) × (finish (state row) ≡ some t) × (built ops (closesIn sheet) row ≡ recordOf t)

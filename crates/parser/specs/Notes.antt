@@ -5,11 +5,11 @@ use Prim.Native.Nat.{ℕ, suc, _+_, _*_, _-_, _/_, _%_, _<_}
 use mathlib.Core.List.{List, [], _∷_, _++_}
 use lib.ListN.{length, set}
 use Rattle.expression.specs.Token.{opening}
-use Rattle.expression.specs.Tree.{Tree, reading, bracket, binary, recordOf}
-use Rattle.disambiguation.specs.LeftToRight.{after, Stack, bottom, opened, waiting, State, due, have, stuck}
+use Rattle.expression.specs.Tree.{Tree, reading, bracket, binary, prefix, recordOf}
+use Rattle.disambiguation.specs.LeftToRight.{after, ahead, Stack, bottom, opened, waiting, State, due, have, stuck}
 
--- A token's word: its byte; the places by which the record grows with it, its own and those left free before it, and none for an operator, which has a free one;
--- and the tokens that it goes back over, those of an operator's left operand.
+-- A token's word: its byte; the places by which the record grows with it, its own and those left free before it, and none for an infix operator, which has a free one;
+-- and the tokens that it goes back over, those of an infix operator's left operand.
 unfoldable pub note : ℕ → ℕ → ℕ → ℕ
 note byte places back = byte + 0x100 * (places + 0x100 * back)
 
@@ -31,12 +31,14 @@ abbrev pub notesOf : ℕ → Tree → List ℕ
 notesOf free (reading a) = note a (suc free) 0 ∷ []
 notesOf free (bracket t) = note opening (suc free) 0 ∷ notesOf 0 t
 notesOf free (binary o l r) = notesOf (suc free) l ++ note o 0 (length (recordOf l)) ∷ notesOf 0 r
+notesOf free (prefix p t) = note p (suc free) 0 ∷ notesOf 0 t
 
--- The notes of what waits: brackets that are open, and operators with their left operands.
+-- The notes of what waits: brackets that are open, infix operators with their left operands, prefix operators.
 abbrev pub notesBelow : Stack → List ℕ
 notesBelow bottom = []
 notesBelow (opened s) = notesBelow s ++ note opening 1 0 ∷ []
 notesBelow (waiting (after l o) s) = notesBelow s ++ notesOf 1 l ++ note o 0 (length (recordOf l)) ∷ []
+notesBelow (waiting (ahead p) s) = notesBelow s ++ note p 1 0 ∷ []
 
 -- The notes of a state of the machine.
 abbrev pub notesAt : State → List ℕ

@@ -8,10 +8,10 @@ use lib.Dec.{eqb, ltb}
 use lib.ListN.{length, getD, take, set}
 use Rattle.expression.specs.Lists.{oneIf}
 use Rattle.expression.specs.Limits.{mostOperators, mostTokens}
-use Rattle.expression.specs.Token.{Class, Infix, closing, class}
+use Rattle.expression.specs.Token.{Infix, Prefix, closing, Operators, class}
 use Rattle.expression.specs.Tree.{Tree, recordOf, Over}
 use Rattle.expression.specs.Checks.{recordBytes}
-use Rattle.disambiguation.specs.LeftToRight.{after, Stack, bottom, opened, waiting, State, due, have, stuck, remains, everything, before, step, everyOperator, made}
+use Rattle.disambiguation.specs.LeftToRight.{after, ahead, Stack, bottom, opened, waiting, State, due, have, stuck, remains, everything, before, step, made}
 use Rattle.parser.specs.Notes.{note, raised, notesOf, notesBelow, notesAt}
 use Rattle.parser.specs.declared.build.Front.{Front}
 
@@ -19,12 +19,9 @@ use Rattle.parser.specs.declared.build.Front.{Front}
 unfoldable pub share : ℕ → ℕ
 share c = oneIf (not (eqb c closing))
 
--- the class of a token, and one token more
-abbrev pub classOf : ℕ → Class
-classOf = class everyOperator
-
-abbrev pub next : (ℕ → ℕ → Bool) → ℕ → State → State
-next closes = step closes classOf
+-- one token more, over a sheet's operators
+abbrev pub next : Operators → (ℕ → ℕ → Bool) → ℕ → State → State
+next ops closes = step closes (class ops)
 
 -- The machine goes on.
 abbrev pub Goes : State → Type 0
@@ -33,15 +30,16 @@ Goes (have s t) = Unit {0}
 Goes stuck = ⊥
 
 -- What waits and what has been read is over the operators.
-abbrev pub OverBelow : Stack → Type 0
-OverBelow bottom = Unit {0}
-OverBelow (opened s) = OverBelow s
-OverBelow (waiting (after l o) s) = (classOf o ≡ Infix) × Over classOf l × OverBelow s
+abbrev pub OverBelow : Operators → Stack → Type 0
+OverBelow ops bottom = Unit {0}
+OverBelow ops (opened s) = OverBelow ops s
+OverBelow ops (waiting (after l o) s) = (class ops o ≡ Infix) × Over (class ops) l × OverBelow ops s
+OverBelow ops (waiting (ahead p) s) = (class ops p ≡ Prefix) × OverBelow ops s
 
-abbrev pub OverAt : State → Type 0
-OverAt (due s) = OverBelow s
-OverAt (have s t) = OverBelow s × Over classOf t
-OverAt stuck = Unit {0}
+abbrev pub OverAt : Operators → State → Type 0
+OverAt ops (due s) = OverBelow ops s
+OverAt ops (have s t) = OverBelow ops s × Over (class ops) t
+OverAt ops stuck = Unit {0}
 
 -- the place where the operand that was read last begins
 abbrev pub Begins : State → ℕ → Type 0
@@ -58,38 +56,38 @@ unfoldable pub ends : (ℕ → ℕ → Bool) → ℕ → ℕ → Bool
 ends closes c a = ltb a mostOperators && closedBy closes c a
 
 -- The words before `first` are the notes of what waits.
-pub record Waits (words : List ℕ) (first : ℕ) (s : Stack) : Type 0 where
+pub record Waits (ops : Operators) (words : List ℕ) (first : ℕ) (s : Stack) : Type 0 where
   pub noted : take first words ≡ notesBelow s
-  pub over : OverBelow s
+  pub over : OverBelow ops s
   pub size : length words ≤ mostTokens
   pub inside : first ≤ length words
 
-pub record SomeWait (words : List ℕ) (first : ℕ) : Type 0 where
+pub record SomeWait (ops : Operators) (words : List ℕ) (first : ℕ) : Type 0 where
   pub stack : Stack
-  pub stands : Waits words first stack
+  pub stands : Waits ops words first stack
 
 -- The words before the count are the notes of the state.
-pub record Noted (words : List ℕ) (f : Front) (m : State) : Type 0 where
+pub record Noted (ops : Operators) (words : List ℕ) (f : Front) (m : State) : Type 0 where
   pub noted : take (f .count) words ≡ notesAt m
   pub begins : Begins m (f .first)
-  pub over : OverAt m
+  pub over : OverAt ops m
   pub size : length words ≤ mostTokens
   pub inside : f .count ≤ length words
 
-module _ (closes : ℕ → ℕ → Bool) (c : ℕ) where
+module _ (ops : Operators) (closes : ℕ → ℕ → Bool) (c : ℕ) where
   -- Where c came, the words before `first` are those of what still waits.
   pub record Closes (words : List ℕ) (from first : ℕ) : Type 0 where
-    pub left : (s : Stack) → Waits words from s → Waits words first (remains (closedBy closes c) s)
+    pub left : (s : Stack) → Waits ops words from s → Waits ops words first (remains (closedBy closes c) s)
     pub lower : first ≤ from
 
   -- The token c can be taken, and it has been taken.
   pub record Takeable (words : List ℕ) (f : Front) : Type 0 where
     pub state : State
-    pub stands : Noted words f state
-    pub goes : Goes (next closes c state)
+    pub stands : Noted ops words f state
+    pub goes : Goes (next ops closes c state)
 
   pub record Takes (words : List ℕ) (f : Front) (words′ : List ℕ) (g : Front) : Type 0 where
-    pub taken : (m : State) → Noted words f m → Goes (next closes c m) → Noted words′ g (next closes c m)
+    pub taken : (m : State) → Noted ops words f m → Goes (next ops closes c m) → Noted ops words′ g (next ops closes c m)
     pub counted : g .count ≡ f .count + share c
     pub first-inside : g .first ≤ g .count
     pub same-length : length words′ ≡ length words
@@ -116,13 +114,13 @@ pub record Frees (c : ℕ) (words : List ℕ) (count first : ℕ) (words′ : Li
   pub same-length : length words′ ≡ length words
 
 -- The machine makes a tree of the row, and its record has the bytes that are counted in the row.
-pub record Buildable (closes : ℕ → ℕ → Bool) (row : List ℕ) : Type 0 where
+pub record Buildable (ops : Operators) (closes : ℕ → ℕ → Bool) (row : List ℕ) : Type 0 where
   pub tree : Tree
-  pub makes : made closes row ≡ some tree
-  pub over : Over classOf tree
+  pub makes : made ops closes row ≡ some tree
+  pub over : Over (class ops) tree
   pub measured : length (recordOf tree) ≡ recordBytes row
 
 -- The words begin with the notes of the tree that is made of the row.
-pub record Reads (closes : ℕ → ℕ → Bool) (row words : List ℕ) : Type 0 where
-  pub noted : (t : Tree) → made closes row ≡ some t → take (length (recordOf t)) words ≡ notesOf 0 t
-  pub few : (t : Tree) → made closes row ≡ some t → length (recordOf t) ≤ mostTokens
+pub record Reads (ops : Operators) (closes : ℕ → ℕ → Bool) (row words : List ℕ) : Type 0 where
+  pub noted : (t : Tree) → made ops closes row ≡ some t → take (length (recordOf t)) words ≡ notesOf 0 t
+  pub few : (t : Tree) → made ops closes row ≡ some t → length (recordOf t) ≤ mostTokens

@@ -5,17 +5,18 @@ use mathlib.Core.Bool.{Bool, true, false, cond}
 use mathlib.Core.List.{List}
 use lib.Dec.{ltb}
 use lib.ListN.{length, getD, drop}
-use Rattle.expression.specs.Token.{Class, Infix, Operators, class}
+use Rattle.expression.specs.Token.{Class, Operators, class}
 use Rattle.expression.specs.Token as token
 use Rattle.expression.specs.Lists.{anyHolds}
 use Rattle.expression.specs.Checks.{strangeInRow}
 use Rattle.expression.specs.RowTest.{due, done, complete, scan}
 use Rattle.parser.specs.declared.row.Token.{Token}
-use Rattle.parser.specs.declared.row.Token.the-variants.{Operator, Opening, Closing, Reading, Other, End}
+use Rattle.parser.specs.declared.row.Token.the-variants.{Operator, Prefix, Opening, Closing, Reading, Other, End}
 
 -- the token of a class
 abbrev pub tokenOf : Class → Token
 tokenOf token.Infix = Operator
+tokenOf token.Prefix = Prefix
 tokenOf token.Opening = Opening
 tokenOf token.Closing = Closing
 tokenOf token.Reading = Reading
@@ -27,14 +28,25 @@ tokenAt ops row at = cond (ltb at (length row)) (tokenOf (class ops (getD row at
 
 abbrev pub isOperator : Token → Bool
 isOperator Operator = true
+isOperator Prefix = false
 isOperator Opening = false
 isOperator Closing = false
 isOperator Reading = false
 isOperator Other = false
 isOperator End = false
 
+abbrev pub isPrefix : Token → Bool
+isPrefix Operator = false
+isPrefix Prefix = true
+isPrefix Opening = false
+isPrefix Closing = false
+isPrefix Reading = false
+isPrefix Other = false
+isPrefix End = false
+
 abbrev pub isClosing : Token → Bool
 isClosing Operator = false
+isClosing Prefix = false
 isClosing Opening = false
 isClosing Closing = true
 isClosing Reading = false

@@ -11,6 +11,8 @@ ghost use lib.ListN.{length, take};
 ghost use Rattle.expression.specs.Limits.{mostOperators, mostTokens};
 ghost use Rattle.expression.specs.Token.{closing};
 ghost use Rattle.expression.specs.Checks.{recordBytes};
+ghost use mathlib.Core.Bool.{false};
+ghost use Rattle.sheet.specs.Layout.{operatorsOf, prefixIn};
 ghost use Rattle.sheet.specs.Relation.{closesIn};
 ghost use Rattle.parser.specs.Build.{built};
 ghost use Rattle.parser.specs.Notes.{laidOut, Inside};
@@ -37,8 +39,8 @@ fn closes_at(sheet: &[u32; SHEET_WORDS], c: u8, a: u8) -> bool
 
 // What closes where c comes joins the operand: the place where that then begins.
 fn close_waiting(sheet: &[u32; SHEET_WORDS], c: u8, words: &[u32], from: usize) -> usize
-    requires { ⌜ SomeWait (now words) from ⌝ }
-    ensures { λ r. ⌜ Closes (closesIn (now (sheet .entry))) c (now (words .entry)) from r ⌝ }
+    requires { ⌜ SomeWait (operatorsOf (now sheet)) (now words) from ⌝ }
+    ensures { λ r. ⌜ Closes (operatorsOf (now (sheet .entry))) (closesIn (now (sheet .entry))) c (now (words .entry)) from r ⌝ }
 {
     let mut first = from;
     while 0 < first {
@@ -59,7 +61,7 @@ fn add(w: u32, words: &mut [u32], count: usize)
     words[count] = w;
 }
 
-// A reading, or an opening bracket, begins an operand.
+// A reading, an opening bracket or a prefix operator begins an operand; the latter two wait.
 fn take_operand(c: u8, words: &mut [u32], from: Front) -> Front
     requires { ⌜ from .count < length (now words) ⌝ }
     ensures { λ r. ⌜ StartsOperand c (now (words .entry)) from (now (words .exit)) r ⌝ }
@@ -81,10 +83,10 @@ fn free_place(c: u8, words: &mut [u32], count: usize, first: usize)
     add(notes::note(c, 0, count - first), words, count);
 }
 
-// An operator comes: what closes before it is its left operand. It waits.
+// An infix operator comes: what closes before it is its left operand. It waits.
 fn take_operator(sheet: &[u32; SHEET_WORDS], c: u8, words: &mut [u32], from: Front) -> Front
-    requires { ⌜ (from .first ≤ from .count) × (from .count < length (now words)) × (c < mostOperators) × Takeable (closesIn (now sheet)) c (now words) from ⌝ }
-    ensures { λ r. ⌜ Takes (closesIn (now (sheet .entry))) c (now (words .entry)) from (now (words .exit)) r ⌝ }
+    requires { ⌜ (from .first ≤ from .count) × (from .count < length (now words)) × (c < mostOperators) × (prefixIn (now sheet) c ≡ false) × Takeable (operatorsOf (now sheet)) (closesIn (now sheet)) c (now words) from ⌝ }
+    ensures { λ r. ⌜ Takes (operatorsOf (now (sheet .entry))) (closesIn (now (sheet .entry))) c (now (words .entry)) from (now (words .exit)) r ⌝ }
 {
     let count = from.count;
     let first = close_waiting(sheet, c, words, from.first);
@@ -97,8 +99,8 @@ fn take_operator(sheet: &[u32; SHEET_WORDS], c: u8, words: &mut [u32], from: Fro
 
 // A closing bracket comes: all that waits back to its opening one closes, and the operand begins there.
 fn take_closing(sheet: &[u32; SHEET_WORDS], words: &[u32], from: Front) -> Front
-    requires { ⌜ (from .first ≤ from .count) × Takeable (closesIn (now sheet)) closing (now words) from ⌝ }
-    ensures { λ r. ⌜ Takes (closesIn (now (sheet .entry))) closing (now (words .entry)) from (now (words .entry)) r ⌝ }
+    requires { ⌜ (from .first ≤ from .count) × Takeable (operatorsOf (now sheet)) (closesIn (now sheet)) closing (now words) from ⌝ }
+    ensures { λ r. ⌜ Takes (operatorsOf (now (sheet .entry))) (closesIn (now (sheet .entry))) closing (now (words .entry)) from (now (words .entry)) r ⌝ }
 {
     let count = from.count;
     let inside = close_waiting(sheet, token::CLOSING, words, from.first);
@@ -110,10 +112,13 @@ fn take_closing(sheet: &[u32; SHEET_WORDS], words: &[u32], from: Front) -> Front
 
 // The next token from the left is taken.
 fn take_token(sheet: &[u32; SHEET_WORDS], c: u8, words: &mut [u32], from: Front) -> Front
-    requires { ⌜ (from .first ≤ from .count) × (from .count < length (now words)) × Takeable (closesIn (now sheet)) c (now words) from ⌝ }
-    ensures { λ r. ⌜ Takes (closesIn (now (sheet .entry))) c (now (words .entry)) from (now (words .exit)) r ⌝ }
+    requires { ⌜ (from .first ≤ from .count) × (from .count < length (now words)) × Takeable (operatorsOf (now sheet)) (closesIn (now sheet)) c (now words) from ⌝ }
+    ensures { λ r. ⌜ Takes (operatorsOf (now (sheet .entry))) (closesIn (now (sheet .entry))) c (now (words .entry)) from (now (words .exit)) r ⌝ }
 {
     if c < limits::MOST_OPERATORS {
+        if sheet::is_prefix(sheet, c) {
+            return take_operand(c, words, from);
+        }
         return take_operator(sheet, c, words, from);
     }
     if c == token::CLOSING {
@@ -124,8 +129,8 @@ fn take_token(sheet: &[u32; SHEET_WORDS], c: u8, words: &mut [u32], from: Front)
 
 // All tokens are taken, from the left. What waits at the end closes there, which changes no note.
 fn read_row(sheet: &[u32; SHEET_WORDS], row: &[u8], words: &mut [u32])
-    requires { ⌜ (length (now words) ≤ mostTokens) × (length (now row) ≤ length (now words)) × Buildable (closesIn (now sheet)) (now row) ⌝ }
-    ensures { λ _. ⌜ Reads (closesIn (now (sheet .entry))) (now (row .entry)) (now (words .exit)) ⌝ }
+    requires { ⌜ (length (now words) ≤ mostTokens) × (length (now row) ≤ length (now words)) × Buildable (operatorsOf (now sheet)) (closesIn (now sheet)) (now row) ⌝ }
+    ensures { λ _. ⌜ Reads (operatorsOf (now (sheet .entry))) (closesIn (now (sheet .entry))) (now (row .entry)) (now (words .exit)) ⌝ }
 {
     let mut front = Front { count: 0, first: 0 };
     let mut i = 0;
@@ -152,8 +157,8 @@ fn lay_out(words: &[u32], out: &mut [u8])
 
 // The record of the tree that is made of the row fills the output.
 pub fn build_into(sheet: &[u32; SHEET_WORDS], row: &[u8], out: &mut [u8])
-    requires { ⌜ (length (now row) ≤ mostTokens) × (length (now out) ≡ recordBytes (now row)) × Buildable (closesIn (now sheet)) (now row) ⌝ }
-    ensures { λ _. ⌜ now (out .exit) ≡ built (closesIn (now (sheet .entry))) (now (row .entry)) ⌝ }
+    requires { ⌜ (length (now row) ≤ mostTokens) × (length (now out) ≡ recordBytes (now row)) × Buildable (operatorsOf (now sheet)) (closesIn (now sheet)) (now row) ⌝ }
+    ensures { λ _. ⌜ now (out .exit) ≡ built (operatorsOf (now (sheet .entry))) (closesIn (now (sheet .entry))) (now (row .entry)) ⌝ }
 {
     let mut words = [0u32; MOST_TOKENS];
     read_row(sheet, row, &mut words);

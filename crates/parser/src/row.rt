@@ -4,7 +4,8 @@ use expression::refusal;
 use expression::token;
 use sheet::layout::SHEET_WORDS;
 ghost use mathlib.Core.Path.{_≡_};
-ghost use mathlib.Core.Bool.{Bool};
+ghost use mathlib.Core.Bool.{Bool, false};
+ghost use mathlib.Core.List.{[]};
 ghost use Prim.Native.Nat.{_≤_};
 ghost use lib.ListN.{length};
 ghost use Rattle.expression.specs.Limits.{mostTokens};
@@ -12,11 +13,12 @@ ghost use Rattle.expression.specs.Token.{operators, class};
 ghost use Rattle.expression.specs.Checks.{strangeInRow, rowNumber, recordBytes};
 ghost use Rattle.sheet.specs.Layout.{operatorsOf};
 ghost use Rattle.parser.specs.Reading.{share};
-ghost use Rattle.parser.specs.Rows.{tokenOf, tokenAt, isOperator, isClosing, ReadsOperand, ReadsExpression, strangerInRow};
+ghost use Rattle.parser.specs.Rows.{tokenOf, tokenAt, isOperator, isPrefix, isClosing, ReadsOperand, ReadsExpression, strangerInRow};
 
-// What a token is under a sheet's operators.
+// What a token is under a sheet's operators; an Operator is infix.
 pub enum Token {
     Operator,
+    Prefix,
     Opening,
     Closing,
     Reading,
@@ -32,10 +34,13 @@ fn token_of(sheet: &[u32; SHEET_WORDS], c: u8) -> Token
         return Token::Reading;
     }
     if c < limits::MOST_OPERATORS {
-        if c < sheet::operator_count(sheet) {
-            return Token::Operator;
+        if sheet::operator_count(sheet) <= c {
+            return Token::Other;
         }
-        return Token::Other;
+        if sheet::is_prefix(sheet, c) {
+            return Token::Prefix;
+        }
+        return Token::Operator;
     }
     if c == token::OPENING {
         return Token::Opening;
@@ -56,13 +61,30 @@ fn token_at(sheet: &[u32; SHEET_WORDS], row: &[u8], at: usize) -> Token
     token_of(sheet, row[at])
 }
 
-// An operator stands at a place.
+// An infix operator stands at a place.
 fn operator_at(sheet: &[u32; SHEET_WORDS], row: &[u8], at: usize) -> bool
     ensures { λ r. ⌜ r ≡ isOperator (tokenAt (operatorsOf (now (sheet .entry))) (now (row .entry)) at) ⌝ }
 {
     let t = token_at(sheet, row, at);
     match t {
         Token::Operator => true,
+        Token::Prefix => false,
+        Token::Opening => false,
+        Token::Closing => false,
+        Token::Reading => false,
+        Token::Other => false,
+        Token::End => false,
+    }
+}
+
+// A prefix operator stands at a place.
+fn prefix_at(sheet: &[u32; SHEET_WORDS], row: &[u8], at: usize) -> bool
+    ensures { λ r. ⌜ r ≡ isPrefix (tokenAt (operatorsOf (now (sheet .entry))) (now (row .entry)) at) ⌝ }
+{
+    let t = token_at(sheet, row, at);
+    match t {
+        Token::Operator => false,
+        Token::Prefix => true,
         Token::Opening => false,
         Token::Closing => false,
         Token::Reading => false,
@@ -78,6 +100,7 @@ fn closing_at(sheet: &[u32; SHEET_WORDS], row: &[u8], at: usize) -> bool
     let t = token_at(sheet, row, at);
     match t {
         Token::Operator => false,
+        Token::Prefix => false,
         Token::Opening => false,
         Token::Closing => true,
         Token::Reading => false,
@@ -89,12 +112,15 @@ fn closing_at(sheet: &[u32; SHEET_WORDS], row: &[u8], at: usize) -> bool
 // A reader's answer where it can read nothing: no place after something is 0.
 const NOWHERE: usize = 0;
 
-// The place after the expression that starts at `at`: an operand, then any number of operator and operand.
-// The row goes on by its one reference, so that the call for what follows an operator is a jump.
+// The place after the expression that starts at `at`: an operand, then any number of operator and operand. What follows a prefix
+// operator is an expression too. The row goes on by its one reference, so that the call for what follows an operator is a jump.
 fn expression_end<'a, 'b, 'c>(sheet: &'a [u32; SHEET_WORDS], row: &'b &'c [u8], at: usize) -> usize
     requires { ⌜ length (now (now row)) ≤ mostTokens ⌝ }
     ensures { λ r. ⌜ ReadsExpression (operatorsOf (now (sheet .entry))) (now (now (row .entry))) at r ⌝ }
 {
+    if prefix_at(sheet, *row, at) {
+        return expression_end(sheet, row, at + 1);
+    }
     let next = operand_end(sheet, row, at);
     if next == NOWHERE {
         return NOWHERE;
@@ -105,9 +131,10 @@ fn expression_end<'a, 'b, 'c>(sheet: &'a [u32; SHEET_WORDS], row: &'b &'c [u8], 
     next
 }
 
-// The place after the operand that starts at `at`: a reading, or an expression in brackets.
+// The place after the operand that starts at `at` with no prefix operator: a reading, or an expression in brackets.
 fn operand_end<'a, 'b, 'c>(sheet: &'a [u32; SHEET_WORDS], row: &'b &'c [u8], at: usize) -> usize
     requires { ⌜ length (now (now row)) ≤ mostTokens ⌝ }
+    requires { ⌜ isPrefix (tokenAt (operatorsOf (now sheet)) (now (now row)) at) ≡ false ⌝ }
     ensures { λ r. ⌜ ReadsOperand (operatorsOf (now (sheet .entry))) (now (now (row .entry))) at r ⌝ }
 {
     let t = token_at(sheet, *row, at);
@@ -123,6 +150,7 @@ fn operand_end<'a, 'b, 'c>(sheet: &'a [u32; SHEET_WORDS], row: &'b &'c [u8], at:
             }
             NOWHERE
         }
+        Token::Prefix => NOWHERE,
         Token::Operator => NOWHERE,
         Token::Closing => NOWHERE,
         Token::Other => NOWHERE,
@@ -132,7 +160,7 @@ fn operand_end<'a, 'b, 'c>(sheet: &'a [u32; SHEET_WORDS], row: &'b &'c [u8], at:
 
 // A byte without meaning, or an operator not below n; no branch tells.
 fn is_strange(n: u8, c: u8) -> bool
-    ensures { λ r. ⌜ r ≡ strangeInRow (class (operators n) c) ⌝ }
+    ensures { λ r. ⌜ r ≡ strangeInRow (class (operators n []) c) ⌝ }
 {
     let no_operator = (n <= c) & (c < limits::MOST_OPERATORS);
     let no_meaning = (token::CLOSING < c) & (c < token::FIRST_READING);
@@ -141,7 +169,7 @@ fn is_strange(n: u8, c: u8) -> bool
 
 // Some token is strange. The loop has no branch, so that tokens can be tested side by side.
 fn any_strange(n: u8, row: &[u8]) -> bool
-    ensures { λ r. ⌜ r ≡ strangerInRow (operators n) (now (row .entry)) ⌝ }
+    ensures { λ r. ⌜ r ≡ strangerInRow (operators n []) (now (row .entry)) ⌝ }
 {
     let mut strange = false;
     let mut at = 0;

@@ -8,6 +8,10 @@ take-token-spec =
     tie.close
     (tie.spec
     (λ c κs. search token-ways)
+    (λ c κs. search token-ways)
+    (λ c. search token-ways)
+    (λ c. search token-ways)
+    (λ c κs. search token-ways)
     (λ c. search token-ways)
     (λ c. search token-ways)
     (λ c κs. search token-ways)

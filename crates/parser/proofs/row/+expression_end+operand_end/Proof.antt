@@ -1,5 +1,5 @@
 -- `parser::row::expression_end` and `parser::row::operand_end` meet their contracts; the tokens left fall. Assumes nothing.
-use Rattle.parser.proofs.ReaderWays.{reader-ways}
+use Rattle.parser.proofs.ReaderWays.{operator-falls, reader-ways}
 use Prim.Native.Nat.{ℕ, _<_, _*_, _-_, _+_}
 use lib.ListN.{length}
 use borrow.Fn.Kinds.{In}
@@ -12,6 +12,7 @@ use Rattle.parser.proofs.row.operand_end.Kinds as operand-end-kinds
 use Rattle.parser.proofs.row.+expression_end+operand_end.Lts-operand_end as operand-end-lts
 use Rattle.parser.proofs.row.closing_at.Reads as closing-at-reads
 use Rattle.parser.proofs.row.operator_at.Reads as operator-at-reads
+use Rattle.parser.proofs.row.prefix_at.Reads as prefix-at-reads
 use Rattle.parser.proofs.row.token_at.Reads as token-at-reads
 use Rattle.parser.proofs.row.+expression_end+operand_end.{statement}
 use Rattle.parser.proofs.row.+expression_end+operand_end.Tie.{close}
@@ -49,12 +50,14 @@ operand-end-below t =
 pub +expression-end+operand-end-spec : {M : Type 1} → statement M
 +expression-end+operand-end-spec =
     close μ-expression-end μ-operand-end (λ t. expression-end-lts.spec (
+      prefix-at-reads.Asked,
+      prefix-at-reads.Learnt,
+      expression-end-below t,
+      expression-end.Post,
       operand-end-below t,
       operand-end.Post,
       operator-at-reads.Asked,
       operator-at-reads.Learnt,
-      expression-end-below t,
-      expression-end.Post,
     )
     (expression-end-at t)
     expression-end.Post
@@ -63,6 +66,10 @@ pub +expression-end+operand-end-spec : {M : Type 1} → statement M
     (λ c κs. search reader-ways)
     (λ c. search reader-ways)
     (λ c κs. search reader-ways)
+    (λ c. search reader-ways)
+    (λ c κs. search reader-ways)
+    (λ c. search reader-ways)
+    (λ c κs. (search operator-falls, search reader-ways))
     (λ c. search reader-ways)
     (λ c. search reader-ways))
     λ t. operand-end-lts.spec (
@@ -83,6 +90,8 @@ pub +expression-end+operand-end-spec : {M : Type 1} → statement M
     (λ c κs. search reader-ways)
     (λ c. search reader-ways)
     (λ c κs. search reader-ways)
+    (λ c. search reader-ways)
+    (λ c. search reader-ways)
     (λ c. search reader-ways)
     (λ c. search reader-ways)
     (λ c. search reader-ways)

@@ -19,4 +19,6 @@ closing-at-spec =
     (λ c. search closing-at-ways)
     (λ c. search closing-at-ways)
     (λ c. search closing-at-ways)
+    (λ c. search closing-at-ways)
+    (λ c. search closing-at-ways)
     (λ c. search closing-at-ways))

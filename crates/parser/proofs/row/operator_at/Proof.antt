@@ -19,4 +19,6 @@ operator-at-spec =
     (λ c. search operator-at-ways)
     (λ c. search operator-at-ways)
     (λ c. search operator-at-ways)
+    (λ c. search operator-at-ways)
+    (λ c. search operator-at-ways)
     (λ c. search operator-at-ways))
