@@ -1,7 +1,7 @@
 -- What each way through `shortest_row` gives. Assumes nothing.
 use Prim.Native.Nat.{ℕ, _+_, _-_, _%_, _≤_, _<_}
 use native.Mathlib.Omega.{arith}
-use mathlib.Core.Path.{_≡_, refl, ap, sym, _∙_}
+use mathlib.Core.Path.{_≡_, refl, ap, sym, subst, _∙_}
 use mathlib.Core.Bool.{true}
 use mathlib.Core.List.{List, [], _∷_, _++_}
 use lib.ListN.{length, take, drop, length-append}
@@ -10,7 +10,7 @@ use borrow.Author.Needs.{needs}
 use borrow.Author.Tests.{ne-eqb}
 use Rattle.expression.specs.Limits.{mostTokens, mostRecordBytes}
 use Rattle.expression.specs.Refusal.{accepted, short}
-use Rattle.expression.specs.Lent.{outputAfter}
+use Rattle.expression.specs.Lent.{outputAfter, lengthAfter}
 use Rattle.expression.specs.Token.{Operators, opening, class}
 use Rattle.expression.specs.Tree.{Tree, recordOf}
 use Rattle.expression.specs.Decode.{treeOf}
@@ -31,7 +31,8 @@ use Rattle.parser.specs.Answers.{AnswersRepair}
 use Rattle.parser.proofs.BuildLaws.{BuiltTree, built-tree}
 use Rattle.parser.proofs.RepairWays.{Accepted, accepted-record}
 use Rattle.brackets.specs.Shortest.{shortened, shortestOf, shortestNumber, AnswersShortest}
-use Rattle.brackets.specs.Walk.{rowUnder, StandsWithRoom, Shortens}
+use Rattle.brackets.specs.Edges.{Marked, Fills}
+use Rattle.brackets.specs.Walk.{rightSide, rowUnder, StandsWithRoom, Shortens}
 use Rattle.brackets.proofs.Fewest.{enclosed-shortens}
 use Rattle.brackets.proofs.OperandRows.{plain-row}
 
@@ -87,7 +88,7 @@ module _ (sheet bytes out zeros : List ℕ) {held : List ℕ} {y : Answer} (room
         )
 
     held-is : held ≡ recordOf tree ++ drop (length (recordOf tree)) zeros
-    held-is = repairs .output ∙ ap (λ n. outputAfter n (built (closesIn sheet) row) zeros) zero ∙ ap (λ s. s ++ drop (length s) zeros) (made .1 .recorded)
+    held-is = repairs .output ∙ ap (λ n. outputAfter n (built ops (closesIn sheet) row) zeros) zero ∙ ap (λ s. s ++ drop (length s) zeros) (made .1 .recorded)
 
     at-front : TreeAt ops held 0 tree (length (recordOf tree))
     at-front =
@@ -99,18 +100,24 @@ module _ (sheet bytes out zeros : List ℕ) {held : List ℕ} {y : Answer} (room
               (sym (ap (drop (length (recordOf tree))) held-is ∙ drop-append-seam (recordOf tree) (drop (length (recordOf tree)) zeros)));
         }
 
-    pub front-stands : StandsWithRoom sheet held 0 opening true 0
-    front-stands =
-        record {
-          tree = tree;
-          to = length (recordOf tree);
-          stands = at-front;
-          within = omega (arith, record-length (class ops) (brackets ops) tree (made .1 .over), ap recordBytes (made .1 .yields-row), known .same-length, bytes-fit);
-          room = omega (arith, fits);
-        }
+    -- it fills as many bytes as the repair says
+    size-is : y .length ≡ length (recordOf tree)
+    size-is = repairs .measured ∙ ap (λ n. lengthAfter n (built ops (closesIn sheet) row)) zero ∙ ap length (made .1 .recorded)
+
+    fills : TreeAt ops held 0 tree (y .length)
+    fills = subst (TreeAt ops held 0 tree) (sym size-is) at-front
+
+    size-fits : y .length ≤ mostRecordBytes
+    size-fits = omega (arith, size-is, record-length (class ops) (brackets ops) tree (made .1 .over), ap recordBytes (made .1 .yields-row), known .same-length, bytes-fit)
+
+    pub front-fills : Fills sheet held (y .length)
+    front-fills = record { tree = tree; stands = fills; within = size-fits }
+
+    pub front-stands : {marks : List ℕ} → Marked sheet held marks 0 (y .length) → StandsWithRoom sheet held marks 0 opening rightSide 0
+    front-stands m = record { tree = tree; to = y .length; stands = fills; within = size-fits; marked = m; sided = refl; room = omega (arith, fits) }
 
     -- the walk wrote it to the front of a buffer with room for every row
-    module _ (blank : List ℕ) {written : List ℕ} {w : ℕ} (walked : Shortens sheet held 0 opening true blank 0 written w) where
+    module _ (blank : List ℕ) {written : List ℕ} {w : ℕ} (walked : Shortens sheet held 0 opening rightSide blank 0 written w) where
       length-is : w % base ≡ length (shortestOf sheet bytes)
       length-is = walked .wrote tree (length (recordOf tree)) at-front (omega (arith, fits)) .1 ∙ omega (arith, ap length answer-is)
 
@@ -155,4 +162,4 @@ module _ (sheet bytes out zeros : List ℕ) {held : List ℕ} {y : Answer} (room
                   ∙ ap (λ d. d ++ drop (length (shortestOf sheet bytes)) out) (take-all (length (shortestOf sheet bytes)) (shortestOf sheet bytes) (omega arith));
             }
 
-pub ruleset shortest-ways = (shortest-refused, front-stands, shortest-short, row-holds, shortest-done, needs)
+pub ruleset shortest-ways = (shortest-refused, front-fills, front-stands, shortest-short, row-holds, shortest-done, needs)

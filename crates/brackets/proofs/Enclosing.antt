@@ -9,10 +9,11 @@ use lib.Dec.{ltb}
 use borrow.Author.Tests.{ltb-false, lt-ltb}
 use Rattle.expression.specs.Lists.{oneIf, anyHolds, howMany, All}
 use Rattle.expression.specs.Token.{Class, Infix}
-use Rattle.expression.specs.Tree.{Tree, reading, bracket, binary, Over}
+use Rattle.expression.specs.Tree.{Tree, reading, bracket, binary, prefix, Over}
 use Rattle.disambiguation.specs.Edges.{seenFromRight, seenFromLeft}
 use Rattle.disambiguation.specs.Conflicts.{conflicts}
-use Rattle.disambiguation.proofs.Agreement.{Agree, seen-right-infix, seen-left-infix, count-agree}
+use Rattle.disambiguation.proofs.Conditions.{waits}
+use Rattle.disambiguation.proofs.Agreement.{AgreeLeft, AgreeRight, seen-right-waits, seen-left-infix}
 use Rattle.brackets.specs.SameMeaning.{bare}
 use Rattle.brackets.specs.Enclosed.{around, leftOf, rightOf, enclosed}
 
@@ -31,8 +32,10 @@ none-counted p xs e = omega (arith, ltb-false 0 (howMany p xs) (sym (any-counted
 pub counted-none : (p : ℕ → Bool) (xs : List ℕ) → howMany p xs ≡ 0 → anyHolds p xs ≡ false
 counted-none p xs e = any-counted p xs ∙ ap (ltb 0) e
 
-pub any-agree : (k : ℕ → Class) (p q : ℕ → Bool) → ((b : ℕ) → k b ≡ Infix → p b ≡ q b) → (xs : List ℕ) → All (λ o. k o ≡ Infix) xs → anyHolds p xs ≡ anyHolds q xs
-any-agree k p q f xs h = any-counted p xs ∙ ap (ltb 0) (count-agree k p q f xs h) ∙ sym (any-counted q xs)
+-- tests that agree on what the elements are hold of some element together
+pub any-agree : (P : ℕ → Type 0) (p q : ℕ → Bool) → ((b : ℕ) → P b → p b ≡ q b) → (xs : List ℕ) → All P xs → anyHolds p xs ≡ anyHolds q xs
+any-agree P p q f [] h = refl
+any-agree P p q f (x ∷ xs) h = ap₂ _||_ (f x (h .0)) (any-agree P p q f xs (h .1))
 
 -- ---- a pair of brackets more or less
 bare-around : (needed : Bool) (t : Tree) → bare (around needed t) ≡ bare t
@@ -63,6 +66,7 @@ module _ (L R : ℕ → ℕ → Bool) where
   bare-enclosed (binary o l r) =
       ap₂ (binary o) (bare-around (anyHolds (L o) (seenFromRight (enclosed L R l))) (enclosed L R l) ∙ bare-enclosed l)
       (bare-around (anyHolds (R o) (seenFromLeft (enclosed L R r))) (enclosed L R r) ∙ bare-enclosed r)
+  bare-enclosed (prefix p t) = ap (prefix p) (bare-around (anyHolds (R p) (seenFromLeft (enclosed L R t))) (enclosed L R t) ∙ bare-enclosed t)
 
   pub over-enclosed : (k : ℕ → Class) (t : Tree) → Over k t → Over k (enclosed L R t)
   over-enclosed k (reading a) h = h
@@ -72,6 +76,7 @@ module _ (L R : ℕ → ℕ → Bool) where
     over-around k (anyHolds (L o) (seenFromRight (enclosed L R l))) (enclosed L R l) (over-enclosed k l (h .1)),
     over-around k (anyHolds (R o) (seenFromLeft (enclosed L R r))) (enclosed L R r) (over-enclosed k r (h .2)),
   )
+  over-enclosed k (prefix p t) h = (h .0, over-around k (anyHolds (R p) (seenFromLeft (enclosed L R t))) (enclosed L R t) (over-enclosed k t (h .1)))
 
   pub enclosed-free : (t : Tree) → conflicts L R (enclosed L R t) ≡ 0
   enclosed-free (reading a) = refl
@@ -84,20 +89,36 @@ module _ (L R : ℕ → ℕ → Bool) where
         free-around (anyHolds (L o) (seenFromRight (enclosed L R l))) (enclosed L R l) (enclosed-free l),
         free-around (anyHolds (R o) (seenFromLeft (enclosed L R r))) (enclosed L R r) (enclosed-free r),
       )
+  enclosed-free (prefix p t) =
+      omega (
+        arith,
+        shows-none seenFromLeft (λ t. refl) (R p) (enclosed L R t),
+        free-around (anyHolds (R p) (seenFromLeft (enclosed L R t))) (enclosed L R t) (enclosed-free t),
+      )
 
   -- the brackets that were there do not matter
   pub enclosed-bare : (t : Tree) → enclosed L R (bare t) ≡ enclosed L R t
   enclosed-bare (reading a) = refl
   enclosed-bare (bracket t) = enclosed-bare t
   enclosed-bare (binary o l r) = ap₂ (λ l r. binary o (leftOf L R o l) (rightOf L R o r)) (enclosed-bare l) (enclosed-bare r)
+  enclosed-bare (prefix p t) = ap (λ u. prefix p (rightOf L R p u)) (enclosed-bare t)
 
 -- Relations that agree on the operators of a tree give it the same brackets.
-module _ (k : ℕ → Class) (L R S T : ℕ → ℕ → Bool) (left : Agree k L S) (right : Agree k R T) where
+module _ (k : ℕ → Class) (L R S T : ℕ → ℕ → Bool) (left : AgreeLeft k L S) (right : AgreeRight k R T) where
+  left-needs : (o : ℕ) → k o ≡ Infix → (t : Tree) → Over k t → anyHolds (L o) (seenFromRight t) ≡ anyHolds (S o) (seenFromRight t)
+  left-needs o ho t h = any-agree (λ a. waits (k a) ≡ true) (L o) (S o) (λ a. left o a ho) (seenFromRight t) (seen-right-waits k t h)
+
+  right-needs : (o : ℕ) → waits (k o) ≡ true → (t : Tree) → Over k t → anyHolds (R o) (seenFromLeft t) ≡ anyHolds (T o) (seenFromLeft t)
+  right-needs o ho t h = any-agree (λ b. k b ≡ Infix) (R o) (T o) (λ b. right o b ho) (seenFromLeft t) (seen-left-infix k t h)
+
   pub enclosed-agree : (t : Tree) → Over k t → enclosed L R t ≡ enclosed S T t
   enclosed-agree (reading a) h = refl
   enclosed-agree (bracket t) h = enclosed-agree t h
   enclosed-agree (binary o l r) h =
       ap₂ (λ a b. binary o (around a (enclosed L R l)) (around b (enclosed L R r)))
-      (any-agree k (L o) (S o) (λ b. left o b (h .0)) (seenFromRight (enclosed L R l)) (seen-right-infix k (enclosed L R l) (over-enclosed L R k l (h .1))))
-      (any-agree k (R o) (T o) (λ b. right o b (h .0)) (seenFromLeft (enclosed L R r)) (seen-left-infix k (enclosed L R r) (over-enclosed L R k r (h .2))))
+      (left-needs o (h .0) (enclosed L R l) (over-enclosed L R k l (h .1)))
+      (right-needs o (ap waits (h .0)) (enclosed L R r) (over-enclosed L R k r (h .2)))
       ∙ ap₂ (λ l r. binary o (leftOf S T o l) (rightOf S T o r)) (enclosed-agree l (h .1)) (enclosed-agree r (h .2))
+  enclosed-agree (prefix p t) h =
+      ap (λ b. prefix p (around b (enclosed L R t))) (right-needs p (ap waits (h .0)) (enclosed L R t) (over-enclosed L R k t (h .1)))
+      ∙ ap (λ u. prefix p (rightOf S T p u)) (enclosed-agree t (h .1))

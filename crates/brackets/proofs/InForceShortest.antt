@@ -12,7 +12,7 @@ use Rattle.expression.proofs.RecordsAndTrees.{treeOf-record, record-treeOf}
 use Rattle.disambiguation.specs.Rules.{Rule, L, R}
 use Rattle.disambiguation.specs.LeftToRight.{parse, made}
 use Rattle.disambiguation.specs.Repair.{repair}
-use Rattle.disambiguation.proofs.TestsDecide.{infix-below}
+use Rattle.disambiguation.proofs.TestsDecide.{waits-below}
 use Rattle.disambiguation.proofs.Accepted.{accepted-passes, repair-is}
 use Rattle.sheet.specs.Relation.{closesIn}
 use Rattle.sheet.specs.InForce.{InForce}
@@ -27,19 +27,19 @@ module _ (sheet : List ℕ) (ops : Operators) (rules : List Rule) (k : InForce s
   -- the relation decides where brackets are needed
   enclosed-by-rules : (t : Tree) → Over (class ops) t → enclosedIn sheet t ≡ enclosed (L rules) (R rules) t
   enclosed-by-rules =
-      enclosed-agree (class ops) (excludedLeft sheet) (closesIn sheet) (L rules) (R rules) (λ o b ho hb. sym (k .left b o (infix-below ops b hb) (infix-below ops o ho)))
+      enclosed-agree (class ops) (excludedLeft sheet) (closesIn sheet) (L rules) (R rules) (λ o b ho hb. sym (k .left b o (waits-below ops b hb) ho))
       (λ a b _ _. k .right a b)
 
   -- what the call answers is what the rules say
-  pub shortest-by-rules : (bytes : List ℕ) → shortestOf sheet bytes ≡ shortestBy rules (treeOf (class ops) bytes)
+  pub shortest-by-rules : (bytes : List ℕ) → shortestOf sheet bytes ≡ shortestBy ops rules (treeOf (class ops) bytes)
   unfolding shortestOf treeOf built made parse
   shortest-by-rules bytes =
-      ap (λ o. shortened sheet (treeOf (class o) (built (closesIn sheet) (rowOf (treeOf (class o) bytes))))) (k .operators) ∙ go (treeOf (class ops) bytes) refl
+      ap (λ o. shortened sheet (treeOf (class o) (built o (closesIn sheet) (rowOf (treeOf (class o) bytes))))) (k .operators) ∙ go (treeOf (class ops) bytes) refl
     where
-      go : (read : Option Tree) → treeOf (class ops) bytes ≡ read → shortened sheet (treeOf (class ops) (built (closesIn sheet) (rowOf read))) ≡ shortestBy rules read
+      go : (read : Option Tree) → treeOf (class ops) bytes ≡ read → shortened sheet (treeOf (class ops) (built ops (closesIn sheet) (rowOf read))) ≡ shortestBy ops rules read
       go none e = refl
       go (some t) e =
           let h = record-treeOf (class ops) (brackets ops) bytes t e .1 in
           let c = repair-is ops rules (accepted-passes ops rules (k .accepts)) t h in
           ap (λ s. shortened sheet (treeOf (class ops) s)) (built-repairs sheet ops rules k t h)
-          ∙ ap (shortened sheet) (treeOf-record (class ops) (brackets ops) (repair (R rules) t) (c .over)) ∙ ap yield (enclosed-by-rules (repair (R rules) t) (c .over))
+          ∙ ap (shortened sheet) (treeOf-record (class ops) (brackets ops) (repair ops (R rules) t) (c .over)) ∙ ap yield (enclosed-by-rules (repair ops (R rules) t) (c .over))

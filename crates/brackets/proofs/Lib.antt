@@ -3,7 +3,14 @@ pub mod Fewest
 pub mod ShortestRows
 pub mod InForceShortest
 pub mod Examples
+pub mod OneTree
 pub mod OperandRows
-pub mod Walking
+pub mod RightEdges
+pub mod PrefixBytes
+pub mod MarkingEdges
+pub mod MarkingInfix
+pub mod MarkedRecord
+pub mod WalkingNodes
 pub mod WalkingInfix
+pub mod Walking
 pub mod Answering

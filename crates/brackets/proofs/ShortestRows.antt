@@ -1,24 +1,50 @@
--- Under rules by which a row has one conflict-free tree at most, the row of the tree with just the brackets that it needs is the shortest that means the same, and the only one. Assumes nothing.
-use Prim.Native.Nat.{ℕ, _≤_}
+-- Under rules by which a row has one conflict-free tree at most, the row of the tree with just the brackets that it needs is the shortest that means the same. Assumes nothing.
+use Prim.Native.Nat.{ℕ, _+_, _≤_}
 use native.Mathlib.Omega.{arith}
 use mathlib.Core.Path.{_≡_, refl, ap, sym, _∙_}
 use mathlib.Core.Option.{some}
-use mathlib.Core.List.{List}
-use lib.ListN.{length}
-use Rattle.expression.specs.Token.{Operators, class}
+use mathlib.Core.List.{List, [], _∷_, _++_}
+use lib.ListN.{length, length-append}
+use Rattle.expression.specs.Lists.{All}
+use Rattle.expression.specs.Token.{Class, Prefix, opening, closing, Operators, class}
 use Rattle.expression.specs.Refusal.{accepted}
-use Rattle.expression.specs.Tree.{Tree, yield, Over}
+use Rattle.expression.specs.Tree.{Tree, reading, bracket, binary, prefix, yield, Over}
 use Rattle.expression.proofs.RowsAndTrees.{row-exactly-if-yielded}
 use Rattle.disambiguation.specs.Rules.{Rule, L, R}
 use Rattle.disambiguation.specs.Conflicts.{ConflictFreeTree}
 use Rattle.disambiguation.specs.Verdict.{verdict}
 use Rattle.disambiguation.specs.Repair.{repair}
 use Rattle.disambiguation.proofs.Accepted.{Passes, accepted-passes, repair-is, only-one}
-use Rattle.brackets.specs.SameMeaning.{bare, MeanTheSame, ShortestRow}
+use Rattle.brackets.specs.SameMeaning.{bare, MeanTheSame, OfInfix, ShortestRow}
 use Rattle.brackets.specs.Enclosed.{enclosed}
 use Rattle.brackets.specs.Shortest.{shortestBy}
 use Rattle.brackets.proofs.Enclosing.{bare-enclosed, over-enclosed, enclosed-free}
-use Rattle.brackets.proofs.Fewest.{fewest-tokens, only-tree}
+use Rattle.brackets.proofs.Fewest.{Plain, fewest-tokens, only-tree}
+
+-- what holds of all elements holds of those of each part
+all-parts : (P : ℕ → Type 0) (xs ys : List ℕ) → All P (xs ++ ys) → All P xs × All P ys
+all-parts P [] ys h = (tt, h)
+all-parts P (x ∷ xs) ys h = let (a, b) = all-parts P xs ys (h .1) in ((h .0, a), b)
+
+-- the tree of a row without prefix operators has none
+plain-of-row : (k : ℕ → Class) (t : Tree) → Over k t → All (λ c. k c ≡ Prefix → ⊥) (yield t) → Plain (bare t)
+plain-of-row k (reading a) h f = tt
+plain-of-row k (bracket t) h f = plain-of-row k t h (all-parts (λ c. k c ≡ Prefix → ⊥) (yield t) (closing ∷ []) (f .1) .0)
+plain-of-row k (binary o l r) h f =
+    let (a, b) = all-parts (λ c. k c ≡ Prefix → ⊥) (yield l) (o ∷ yield r) f in
+    (plain-of-row k l (h .1) a, plain-of-row k r (h .2) (b .1))
+plain-of-row k (prefix p t) h f = f .0 (h .0)
+
+-- a row without a pair of its brackets is two tokens shorter
+dropped-length : (before inner after : List ℕ) → length (before ++ opening ∷ inner ++ closing ∷ after) ≡ length (before ++ inner ++ after) + 2
+dropped-length before inner after =
+    omega (
+      arith,
+      length-append (before ++ opening ∷ inner) (closing ∷ after),
+      length-append before (opening ∷ inner),
+      length-append (before ++ inner) after,
+      length-append before inner,
+    )
 
 module _ (ops : Operators) (rules : List Rule) (one-tree : (row : List ℕ) (t u : Tree) → ConflictFreeTree ops rules row t → ConflictFreeTree ops rules row u → t ≡ u) where
   module _ (row : List ℕ) (t : Tree) (c : ConflictFreeTree ops rules row t) where
@@ -32,17 +58,29 @@ module _ (ops : Operators) (rules : List Rule) (one-tree : (row : List ℕ) (t u
     other-tree : (other : List ℕ) → MeanTheSame ops rules row other → (u : Tree) × ConflictFreeTree ops rules other u × (bare t ≡ bare u)
     other-tree other m = let (v, u, d, e, same) = m in (u, e, ap bare (one-tree row t v c d) ∙ same)
 
+    fewest-of-row : (other : List ℕ) → MeanTheSame ops rules row other → length (yield answer) ≤ length other
+    fewest-of-row other m =
+        let (u, d, same) = other-tree other m in
+        omega (arith, fewest-tokens (L rules) (R rules) t u (d .free) same, ap length (d .yields))
+
+    only-of-row : OfInfix ops rules row → (other : List ℕ) → MeanTheSame ops rules row other → length other ≡ length (yield answer) → other ≡ yield answer
+    only-of-row f other m e =
+        let (u, d, same) = other-tree other m in
+        let plain = plain-of-row (class ops) t (c .over) (rw (← c .yields) at f) in
+        sym (d .yields) ∙ ap yield (only-tree (L rules) (R rules) t u (d .free) same plain (ap length (d .yields) ∙ e))
+
+    -- With a pair of brackets dropped it would be shorter still, so it means something else.
     pub shortest-row : ShortestRow ops rules row (yield answer)
     shortest-row =
         record {
+          tree = t;
+          conflict-free = c;
+          made = refl;
           is-row = row-exactly-if-yielded ops (yield answer) .1 (answer, answer-free .over, refl);
           means-same = (t, answer, c, answer-free, sym (bare-enclosed (L rules) (R rules) t));
-          fewest = λ other m.
-              let (u, d, same) = other-tree other m in
-              omega (arith, fewest-tokens (L rules) (R rules) t u (d .free) same, ap length (d .yields));
-          only = λ other m e.
-              let (u, d, same) = other-tree other m in
-              sym (d .yields) ∙ ap yield (only-tree (L rules) (R rules) t u (d .free) same (ap length (d .yields) ∙ e));
+          none-spare = λ before inner after e _ m. omega (arith, fewest-of-row (before ++ inner ++ after) m, ap length e, dropped-length before inner after);
+          fewest = fewest-of-row;
+          only = only-of-row;
         }
 
 -- For every accepted sheet, and every tree over its operators:
@@ -50,10 +88,10 @@ module _ (ops : Operators) (rules : List Rule) (accepts : verdict ops rules ≡ 
   passes : Passes ops rules
   passes = accepted-passes ops rules accepts
 
-  -- the row of fewest tokens that means the same as the tree's row, and the only one;
-  pub shortest-of-tree : ShortestRow ops rules (yield t) (shortestBy rules (some t))
-  shortest-of-tree = shortest-row ops rules (only-one ops rules passes) (yield t) (repair (R rules) t) (repair-is ops rules passes t h)
+  -- the row of fewest tokens that means the same as the tree's row;
+  pub shortest-of-tree : ShortestRow ops rules (yield t) (shortestBy ops rules (some t))
+  shortest-of-tree = shortest-row ops rules (only-one ops rules passes) (yield t) (repair ops (R rules) t) (repair-is ops rules passes t h)
 
   -- the tree's row means the same as itself.
-  pub shortest-fits : length (shortestBy rules (some t)) ≤ length (yield t)
-  shortest-fits = let c = repair-is ops rules passes t h in shortest-of-tree .fewest (yield t) (repair (R rules) t, repair (R rules) t, c, c, refl)
+  pub shortest-fits : length (shortestBy ops rules (some t)) ≤ length (yield t)
+  shortest-fits = let c = repair-is ops rules passes t h in shortest-of-tree .fewest (yield t) (repair ops (R rules) t, repair ops (R rules) t, c, c, refl)

@@ -2,7 +2,7 @@
 use Prim.Native.Nat.{ℕ}
 use mathlib.Core.Bool.{Bool, cond}
 use Rattle.expression.specs.Lists.{anyHolds}
-use Rattle.expression.specs.Tree.{Tree, reading, bracket, binary}
+use Rattle.expression.specs.Tree.{Tree, reading, bracket, binary, prefix}
 use Rattle.disambiguation.specs.Edges.{seenFromRight, seenFromLeft}
 
 -- the tree, in brackets where they are needed
@@ -15,7 +15,7 @@ module _ (L R : ℕ → ℕ → Bool) where
   abbrev pub leftOf : ℕ → Tree → Tree
   leftOf o t = around (anyHolds (L o) (seenFromRight t)) t
 
-  -- and on the right
+  -- and on the right, or where it is the only one
   abbrev pub rightOf : ℕ → Tree → Tree
   rightOf o t = around (anyHolds (R o) (seenFromLeft t)) t
 
@@ -24,3 +24,4 @@ module _ (L R : ℕ → ℕ → Bool) where
   enclosed (reading a) = reading a
   enclosed (bracket t) = enclosed t
   enclosed (binary o l r) = binary o (leftOf o (enclosed l)) (rightOf o (enclosed r))
+  enclosed (prefix p t) = prefix p (rightOf p (enclosed t))

@@ -1,4 +1,5 @@
-pub mod SameMeaning
 pub mod Enclosed
+pub mod SameMeaning
 pub mod Shortest
+pub mod Edges
 pub mod Walk

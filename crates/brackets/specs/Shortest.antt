@@ -24,10 +24,10 @@ use Rattle.brackets.specs.Enclosed.{enclosed}
 unfoldable pub shortestNumber : Operators → List ℕ → List ℕ → ℕ → ℕ
 shortestNumber ops bytes answer room = first (recordChecks ops bytes ++ (shortCheck (length answer) room ∷ []))
 
--- By a sheet's rules, of the tree that a record is of: the shortest row of its repair.
-abbrev pub shortestBy : List Rule → Option Tree → List ℕ
-shortestBy rules none = []
-shortestBy rules (some t) = yield (enclosed (L rules) (R rules) (repair (R rules) t))
+-- By a sheet's operators and rules, of the tree that a record is of: the shortest row of its repair.
+abbrev pub shortestBy : Operators → List Rule → Option Tree → List ℕ
+shortestBy ops rules none = []
+shortestBy ops rules (some t) = yield (enclosed (L rules) (R rules) (repair ops (R rules) t))
 
 module _ (sheet : List ℕ) where
   -- the tree with just the brackets that it needs under the sheet
@@ -40,7 +40,8 @@ module _ (sheet : List ℕ) where
 
   -- The answer: the shortest row of what is built of the record's row.
   unfoldable pub shortestOf : List ℕ → List ℕ
-  shortestOf bytes = shortened (treeOf (class (operatorsOf sheet)) (built (closesIn sheet) (rowOf (treeOf (class (operatorsOf sheet)) bytes))))
+  shortestOf bytes =
+      shortened (treeOf (class (operatorsOf sheet)) (built (operatorsOf sheet) (closesIn sheet) (rowOf (treeOf (class (operatorsOf sheet)) bytes))))
 
   -- The lent output was `before` and became `after`.
   pub record AnswersShortest (bytes before after : List ℕ) (r : Answer) : Type 0 where

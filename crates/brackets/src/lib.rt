@@ -7,6 +7,7 @@ use record::Answer;
 use record::held::BASE;
 use sheet::layout::SHEET_WORDS;
 
+mod edges;
 mod walk;
 
 // The shortest row that means the same as the record's, at the front of `out`. After a refusal `out` is as it was.
@@ -22,8 +23,20 @@ pub fn shortest_row(sheet: &[u32; SHEET_WORDS], bytes: &[u8], out: &mut [u8]) ->
             length: 0,
         };
     }
+    let size = repaired.length;
+    let mut marks = [0u8; limits::MOST_RECORD_BYTES];
+    edges::mark_record(sheet, &held, size, &mut marks);
     let mut row = [0u8; limits::MOST_TOKENS];
-    let written = walk::write_operand(sheet, &held, 0, token::OPENING, true, &mut row, 0);
+    let written = walk::write_operand(
+        sheet,
+        &held,
+        &marks,
+        0,
+        token::OPENING,
+        walk::RIGHT,
+        &mut row,
+        0,
+    );
     let length = written % BASE;
     if out.len() < length {
         return Answer {

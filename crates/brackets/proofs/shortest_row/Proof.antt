@@ -11,6 +11,7 @@ shortest-row-spec =
     (λ c κs. search shortest-ways)
     (λ c. search shortest-ways)
     (λ c κs. search shortest-ways)
+    (λ c κs. search shortest-ways)
     (λ c. search shortest-ways)
     (λ c. search shortest-ways)
     (λ c. search shortest-ways)
