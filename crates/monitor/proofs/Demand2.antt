@@ -45,7 +45,7 @@ module _ (cs : List Call) where
       let (t, g) = put-row-holds (panelAfter cs .sheet) (ops cs) (rules cs) (sheet-in-force cs) row e in
       (t, g .tree, λ out room. answered t g e out room)
     where
-      answered : (t : Tree) (g : HeldTree (ops cs) (rules cs) row (built (closesIn (panelAfter cs .sheet)) row) t) → rowNumber (ops cs) row ≡ accepted → (out : List ℕ) → length (recordOf t) ≤ length out
+      answered : (t : Tree) (g : HeldTree (ops cs) (rules cs) row (built (steps.ops (panelAfter cs)) (closesIn (panelAfter cs .sheet)) row) t) → rowNumber (ops cs) row ≡ accepted → (out : List ℕ) → length (recordOf t) ≤ length out
           → AnsweredBy cs (ask (build row out)) out (recordOf t)
       answered t g e out room =
           let z : answer cs (ask (build row out)) .number ≡ accepted =

@@ -23,8 +23,8 @@ use Rattle.expression.proofs.Numbers.{first-refused, first-append, passed-first
 use Rattle.disambiguation.specs.Rules.{Rule, L, R}
 use Rattle.disambiguation.specs.ExactlyOne.{SomeRowHasNone, SomeRowHasTwo}
 use Rattle.disambiguation.specs.Verdict.{safe, total, level, verdict}
-use Rattle.disambiguation.specs.SheetChecks.{rulesOf, ruleBytes, InOrder, ListInOrder, sheetNumber}
-use Rattle.disambiguation.proofs.RuleBytes.{rules-back, list-order}
+use Rattle.disambiguation.specs.SheetChecks.{ruleBytes, rulesIn, operatorsIn, InOrder, ListInOrder, sheetNumber}
+use Rattle.disambiguation.proofs.RuleBytes.{kinds-back, rules-in, list-order}
 use Rattle.disambiguation.proofs.SheetNumbers.{sheetNumber-verdict, sheet-dead-exactly-if, sheet-double-exactly-if, sheet-accepted-exactly-if}
 use Rattle.sheet.specs.Relation.{closesIn}
 use Rattle.parser.specs.Build.{built}
@@ -33,12 +33,13 @@ use Rattle.places.specs.Store.{held}
 use Rattle.monitor.specs.Call.{Call, Reply, load, loadList, putRecord, repair}
 use Rattle.monitor.specs.Panel.{inUseCheck, sheetChecks, rebuilt}
 use Rattle.monitor.specs.Steps.{loadNumber}
+use Rattle.monitor.specs.Steps as steps
 use Rattle.monitor.specs.Answers.{Answers}
 use Rattle.monitor.specs.Run.{panelAfter, answer, bookAfter, lastPut, Each, RepairsTo}
 use Rattle.monitor.specs.Meaning.{Means}
 use Rattle.monitor.specs.Promises.{Within, ForItsRules, Demand3}
 use Rattle.monitor.proofs.Replies.{answers}
-use Rattle.monitor.proofs.Keeping.{sheet-numbered}
+use Rattle.monitor.proofs.ListLoads.{sheet-numbered, as-many-in-order, list-load}
 use Rattle.monitor.proofs.Histories.{stands, book-in-force, book-slot}
 use Rattle.monitor.proofs.Placed.{ops, rules, same-ops, same-rules, sheet-in-force, exactly-one, within-accepted, answered-by, repair-accepted}
 use Rattle.monitor.proofs.MeaningsBook.{means}
@@ -81,14 +82,20 @@ module _ (cs : List Call) where
 
   -- ---- a sheet in order
   module _ (m : ℕ) (bytes : List ℕ) (order : InOrder m bytes) where
+    abbrev new : Operators
+    new = operatorsIn m bytes
+
+    abbrev newRules : List Rule
+    newRules = rulesIn m bytes
+
     load-number : (sheetNumber m bytes ≡ accepted → ⊥) → answer cs (load m bytes) .number ≡ sheetNumber m bytes
     unfolding loadNumber sheetNumber
-    load-number h = first-refused (sheetChecks m bytes) (inUseCheck (operators m) (held (panelAfter cs .places)) ∷ []) h
+    load-number h = first-refused (sheetChecks m bytes) (inUseCheck (steps.ops (panelAfter cs)) new (held (panelAfter cs .places)) ∷ []) h
 
     -- with 0 for the sheet, the load's number is 0 or 11
     load-accepted : sheetNumber m bytes ≡ accepted → ForItsRules (answer cs (load m bytes) .number) → ⊥
     unfolding loadNumber sheetNumber
-    load-accepted e f = go ((inUseCheck (operators m) (held (panelAfter cs .places))) .0) (first-append (sheetChecks m bytes) (inUseCheck (operators m) (held (panelAfter cs .places)) ∷ []) (passed-first (sheetChecks m bytes) (sheet-numbered m bytes) e)) f
+    load-accepted e f = go ((inUseCheck (steps.ops (panelAfter cs)) new (held (panelAfter cs .places))) .0) (first-append (sheetChecks m bytes) (inUseCheck (steps.ops (panelAfter cs)) new (held (panelAfter cs .places)) ∷ []) (passed-first (sheetChecks m bytes) (sheet-numbered m bytes) e)) f
       where
         go : (x : Bool) → answer cs (load m bytes) .number ≡ cond x 11 0 → ForItsRules (answer cs (load m bytes) .number) → ⊥
         go true q (inl g) = omega arith
@@ -96,10 +103,10 @@ module _ (cs : List Call) where
         go false q (inl g) = omega arith
         go false q (inr g) = omega arith
 
-    refused-exactly-if : ForItsRules (answer cs (load m bytes) .number) ↔ (SomeRowHasNone (operators m) (rulesOf bytes) ⊎ SomeRowHasTwo (operators m) (rulesOf bytes))
+    refused-exactly-if : ForItsRules (answer cs (load m bytes) .number) ↔ (SomeRowHasNone new newRules ⊎ SomeRowHasTwo new newRules)
     refused-exactly-if = (λ f. to f (ℕ-discrete (sheetNumber m bytes) 0), from)
       where
-        to : ForItsRules (answer cs (load m bytes) .number) → Dec (sheetNumber m bytes ≡ 0) → SomeRowHasNone (operators m) (rulesOf bytes) ⊎ SomeRowHasTwo (operators m) (rulesOf bytes)
+        to : ForItsRules (answer cs (load m bytes) .number) → Dec (sheetNumber m bytes ≡ 0) → SomeRowHasNone new newRules ⊎ SomeRowHasTwo new newRules
         to f (yes e) = absurd (load-accepted e f)
         to (inl f) (no h) = inl (sheet-dead-exactly-if m bytes order .0 (sym (load-number h) ∙ f))
         to (inr f) (no h) = inr (sheet-double-exactly-if m bytes order .0 (sym (load-number h) ∙ f) .1)
@@ -109,48 +116,52 @@ module _ (cs : List Call) where
         as-load (inr e) = inr (load-number (λ z. omega arith) ∙ e)
 
         not-accepted : (sheetNumber m bytes ≡ accepted → ⊥) → ForItsRules (sheetNumber m bytes)
-        not-accepted h = go (verdict-values (operators m) (rulesOf bytes))
+        not-accepted h = go (verdict-values new newRules)
           where
-            go : ForItsRules (verdict (operators m) (rulesOf bytes)) ⊎ (verdict (operators m) (rulesOf bytes) ≡ accepted) → ForItsRules (sheetNumber m bytes)
+            go : ForItsRules (verdict new newRules) ⊎ (verdict new newRules ≡ accepted) → ForItsRules (sheetNumber m bytes)
             go (inl f) = rw (sheetNumber-verdict m bytes order) f
             go (inr e) = absurd (h (sheetNumber-verdict m bytes order ∙ e))
 
-        from : SomeRowHasNone (operators m) (rulesOf bytes) ⊎ SomeRowHasTwo (operators m) (rulesOf bytes) → ForItsRules (answer cs (load m bytes) .number)
+        from : SomeRowHasNone new newRules ⊎ SomeRowHasTwo new newRules → ForItsRules (answer cs (load m bytes) .number)
         from (inl f) = as-load (inl (sheet-dead-exactly-if m bytes order .1 f))
         from (inr (row, r, (t, u, ht, hu, different))) =
             as-load (not-accepted (λ e. let (v, hv, only) = sheet-accepted-exactly-if m bytes order .0 e row r in different (only t ht ∙ sym (only u hu))))
 
-  -- the same with a list of rules
-  refused-list-exactly-if : (m : ℕ) (given : List Rule) → ListInOrder m given
-      → ForItsRules (answer cs (loadList m given) .number) ↔ (SomeRowHasNone (operators m) given ⊎ SomeRowHasTwo (operators m) given)
-  refused-list-exactly-if m given order =
-      subst (λ (r : List Rule). ForItsRules (answer cs (load m (ruleBytes given)) .number) ↔ (SomeRowHasNone (operators m) r ⊎ SomeRowHasTwo (operators m) r)) (rules-back given)
-      (refused-exactly-if m (ruleBytes given) (list-order m given .0 order))
+  -- the same with lists
+  refused-list-exactly-if : (m : ℕ) (kinds : List ℕ) (given : List Rule) → ListInOrder m kinds given
+      → ForItsRules (answer cs (loadList m kinds given) .number) ↔ (SomeRowHasNone (operators m kinds) given ⊎ SomeRowHasTwo (operators m kinds) given)
+  refused-list-exactly-if m kinds given order =
+      let as-many = as-many-in-order m kinds given order in
+      subst (λ (number : ℕ). ForItsRules number ↔ (SomeRowHasNone (operators m kinds) given ⊎ SomeRowHasTwo (operators m kinds) given)) (list-load m kinds given as-many (panelAfter cs))
+      (subst (λ (rs : List Rule). ForItsRules (answer cs (load m (kinds ++ ruleBytes given)) .number) ↔ (SomeRowHasNone (operators m kinds) rs ⊎ SomeRowHasTwo (operators m kinds) rs)) (rules-in m kinds given as-many)
+      (subst (λ (ks : List ℕ). ForItsRules (answer cs (load m (kinds ++ ruleBytes given)) .number)
+      ↔ (SomeRowHasNone (operators m ks) (rulesIn m (kinds ++ ruleBytes given)) ⊎ SomeRowHasTwo (operators m ks) (rulesIn m (kinds ++ ruleBytes given)))) (kinds-back m kinds given as-many)
+      (refused-exactly-if m (kinds ++ ruleBytes given) (list-order m kinds given as-many .0 order))))
 
   -- ---- repair
   module _ (t : Tree) (over : Over (class (ops cs)) t) (fits : recordNumber (ops cs) (recordOf t) ≡ accepted) where
-    repaired : rebuilt (panelAfter cs .sheet) (recordOf t) ≡ built (closesIn (panelAfter cs .sheet)) (tree.yield t)
+    repaired : rebuilt (panelAfter cs .sheet) (recordOf t) ≡ built (ops cs) (closesIn (panelAfter cs .sheet)) (tree.yield t)
     repaired =
-        ap (λ o. built (closesIn (panelAfter cs .sheet)) (rowOf (treeOf (class o) (recordOf t)))) (sheet-in-force cs .operators)
-        ∙ ap (λ x. built (closesIn (panelAfter cs .sheet)) (rowOf x)) (treeOf-record (class (ops cs)) (brackets (ops cs)) t over)
+        ap (λ o. built o (closesIn (panelAfter cs .sheet)) (rowOf (treeOf (class o) (recordOf t)))) (sheet-in-force cs .operators)
+        ∙ ap (λ x. built (ops cs) (closesIn (panelAfter cs .sheet)) (rowOf x)) (treeOf-record (class (ops cs)) (brackets (ops cs)) t over)
 
-    keeps-length : length (built (closesIn (panelAfter cs .sheet)) (tree.yield t)) ≡ length (recordOf t)
+    keeps-length : length (built (ops cs) (closesIn (panelAfter cs .sheet)) (tree.yield t)) ≡ length (recordOf t)
     keeps-length = built-keeps-length (panelAfter cs .sheet) (ops cs) (rules cs) (sheet-in-force cs) t over
 
-    repairs-to : RepairsTo cs t (built (closesIn (panelAfter cs .sheet)) (tree.yield t))
+    repairs-to : RepairsTo cs t (built (ops cs) (closesIn (panelAfter cs .sheet)) (tree.yield t))
     repairs-to =
         record {
           accepts = repair-accepted cs t fits;
-          answers = λ out z. answered-by cs (repair (recordOf t) out) (built (closesIn (panelAfter cs .sheet)) (tree.yield t)) z repaired;
+          answers = λ out z. answered-by cs (repair (recordOf t) out) (built (ops cs) (closesIn (panelAfter cs .sheet)) (tree.yield t)) z repaired;
         }
 
-    repairs-only-to : (bytes : List ℕ) → RepairsTo cs t bytes → bytes ≡ built (closesIn (panelAfter cs .sheet)) (tree.yield t)
+    repairs-only-to : (bytes : List ℕ) → RepairsTo cs t bytes → bytes ≡ built (ops cs) (closesIn (panelAfter cs .sheet)) (tree.yield t)
     repairs-only-to bytes f =
         let z = f .accepts (recordOf t) (omega arith) in
         let (_, l, o) = f .answers (recordOf t) z in
         let (_, m, p) = repairs-to .answers (recordOf t) z in
         sym (whole-output bytes (recordOf t) (omega (arith, l, m, keeps-length))) ∙ sym o ∙ p
-        ∙ whole-output (built (closesIn (panelAfter cs .sheet)) (tree.yield t)) (recordOf t) (omega (arith, keeps-length))
+        ∙ whole-output (built (ops cs) (closesIn (panelAfter cs .sheet)) (tree.yield t)) (recordOf t) (omega (arith, keeps-length))
 
   same-bytes-exactly-if : (t u : Tree) → Over (class (ops cs)) t → Over (class (ops cs)) u → Within t → Within u
       → ((bytes : List ℕ) × RepairsTo cs t bytes × RepairsTo cs u bytes) ↔ (tree.yield t ≡ tree.yield u)
@@ -159,10 +170,10 @@ module _ (cs : List Call) where
         let (bytes, p, q) = f in
         equal .0 (sym (repairs-only-to t ot (within-accepted cs t ot wt) bytes p) ∙ repairs-only-to u ou (within-accepted cs u ou wu) bytes q),
     λ e.
-        (built (closesIn (panelAfter cs .sheet)) (tree.yield t), repairs-to t ot (within-accepted cs t ot wt), rw (equal .1 e) (repairs-to u ou (within-accepted cs u ou wu))),
+        (built (ops cs) (closesIn (panelAfter cs .sheet)) (tree.yield t), repairs-to t ot (within-accepted cs t ot wt), rw (equal .1 e) (repairs-to u ou (within-accepted cs u ou wu))),
   )
     where
-      equal : (built (closesIn (panelAfter cs .sheet)) (tree.yield t) ≡ built (closesIn (panelAfter cs .sheet)) (tree.yield u)) ↔ (tree.yield t ≡ tree.yield u)
+      equal : (built (ops cs) (closesIn (panelAfter cs .sheet)) (tree.yield t) ≡ built (ops cs) (closesIn (panelAfter cs .sheet)) (tree.yield u)) ↔ (tree.yield t ≡ tree.yield u)
       equal = built-equal-exactly-if (panelAfter cs .sheet) (ops cs) (rules cs) (sheet-in-force cs) t u ot ou
 
 pub demand-3 : (cs : List Call) → Demand3 cs

@@ -65,7 +65,7 @@ beyond : (k : ℕ) → placeCount ≤ k → (cs : List Call) → lastPut k cs �
 unfolding lastPut
 beyond k h [] = refl
 beyond k h (load n rules ∷ cs) = beyond k h cs
-beyond k h (loadList n rules ∷ cs) = beyond k h cs
+beyond k h (loadList n kinds rules ∷ cs) = beyond k h cs
 beyond k h (putRow j row ∷ cs) = blank-still k j (isAccepted cs (putRow j row)) (some row) (lastPut k cs) (λ e. row-refused j row cs (omega arith)) (beyond k h cs)
 beyond k h (putRecord j bytes ∷ cs) = blank-still k j (isAccepted cs (putRecord j bytes)) (some (rowOf (treeOf (class (inForce cs .operators)) bytes))) (lastPut k cs) (λ e. record-refused j bytes cs (omega arith)) (beyond k h cs)
 beyond k h (drop j ∷ cs) = either-none (isAccepted cs (drop j) && eqb k j) (lastPut k cs) (beyond k h cs)

@@ -9,7 +9,7 @@ use Rattle.expression.specs.Refusal.{accepted}
 use Rattle.expression.specs.Token.{operators, class}
 use Rattle.expression.specs.Decode.{treeOf}
 use Rattle.expression.specs.Operand.{rowOf}
-use Rattle.disambiguation.specs.SheetChecks.{rulesOf}
+use Rattle.disambiguation.specs.SheetChecks.{rulesIn, operatorsIn}
 use Rattle.monitor.specs.Call.{Call, load, loadList, putRow, putRecord, drop, ask}
 use Rattle.monitor.specs.Book.{Book, entered, next}
 use Rattle.monitor.specs.Run.{panelAfter, bookAfter, isAccepted, Rules, ruledBy, inForce, lastPut}
@@ -46,12 +46,12 @@ rulesOn b = ruledBy (b .operators) (b .rules)
 pub book-in-force : (cs : List Call) → ruledBy (bookAfter cs .operators) (bookAfter cs .rules) ≡ inForce cs
 unfolding bookAfter inForce
 book-in-force [] = refl
-book-in-force (load n rules ∷ cs) =
-    ap rulesOn (after-call (load n rules) cs) ∙ either rulesOn (isAccepted cs (load n rules)) (entered (bookAfter cs) (load n rules)) (bookAfter cs)
-    ∙ ap (cond (isAccepted cs (load n rules)) (ruledBy (operators n) (rulesOf rules))) (book-in-force cs)
-book-in-force (loadList n rules ∷ cs) =
-    ap rulesOn (after-call (loadList n rules) cs) ∙ either rulesOn (isAccepted cs (loadList n rules)) (entered (bookAfter cs) (loadList n rules)) (bookAfter cs)
-    ∙ ap (cond (isAccepted cs (loadList n rules)) (ruledBy (operators n) rules)) (book-in-force cs)
+book-in-force (load n bytes ∷ cs) =
+    ap rulesOn (after-call (load n bytes) cs) ∙ either rulesOn (isAccepted cs (load n bytes)) (entered (bookAfter cs) (load n bytes)) (bookAfter cs)
+    ∙ ap (cond (isAccepted cs (load n bytes)) (ruledBy (operatorsIn n bytes) (rulesIn n bytes))) (book-in-force cs)
+book-in-force (loadList n kinds rules ∷ cs) =
+    ap rulesOn (after-call (loadList n kinds rules) cs) ∙ either rulesOn (isAccepted cs (loadList n kinds rules)) (entered (bookAfter cs) (loadList n kinds rules)) (bookAfter cs)
+    ∙ ap (cond (isAccepted cs (loadList n kinds rules)) (ruledBy (operators n kinds) rules)) (book-in-force cs)
 book-in-force (putRow k row ∷ cs) = unchanged rulesOn (putRow k row) cs refl ∙ book-in-force cs
 book-in-force (putRecord k bytes ∷ cs) = unchanged rulesOn (putRecord k bytes) cs refl ∙ book-in-force cs
 book-in-force (drop k ∷ cs) = unchanged rulesOn (drop k) cs refl ∙ book-in-force cs
@@ -72,8 +72,8 @@ slot-after k j c cs slot e =
 pub book-slot : (k : ℕ) (cs : List Call) → bookAfter cs .slots k ≡ lastPut k cs
 unfolding bookAfter lastPut
 book-slot k [] = refl
-book-slot k (load n rules ∷ cs) = unchanged (λ b. b .slots k) (load n rules) cs refl ∙ book-slot k cs
-book-slot k (loadList n rules ∷ cs) = unchanged (λ b. b .slots k) (loadList n rules) cs refl ∙ book-slot k cs
+book-slot k (load n bytes ∷ cs) = unchanged (λ b. b .slots k) (load n bytes) cs refl ∙ book-slot k cs
+book-slot k (loadList n kinds rules ∷ cs) = unchanged (λ b. b .slots k) (loadList n kinds rules) cs refl ∙ book-slot k cs
 book-slot k (putRow j row ∷ cs) =
     slot-after k j (putRow j row) cs (some row) refl ∙ ap (cond (isAccepted cs (putRow j row) && eqb k j) (some row)) (book-slot k cs)
 book-slot k (putRecord j bytes ∷ cs) =

@@ -2,13 +2,13 @@
 use Prim.Native.Nat.{ℕ, _<_}
 use native.Mathlib.Omega.{arith}
 use native.Mathlib.Decide.{ℕ-discrete}
-use mathlib.Core.Path.{_≡_, refl, ap₂, sym, _∙_}
+use mathlib.Core.Path.{_≡_, refl, ap, sym, _∙_}
 use mathlib.Core.Bool.{Bool, true, false, not, cond}
 use mathlib.Core.Option.{Option, none, some}
-use mathlib.Core.List.{List, [], _∷_}
+use mathlib.Core.List.{List, [], _∷_, _++_}
 use lib.Dec.{eqb}
 use borrow.Author.Tests.{eq-eqb, ne-eqb, not-true}
-use Rattle.expression.specs.Refusal.{first, accepted}
+use Rattle.expression.specs.Refusal.{Check, first, accepted}
 use Rattle.expression.specs.Token.{operators, class}
 use Rattle.expression.specs.Decode.{treeOf}
 use Rattle.expression.specs.Operand.{rowOf}
@@ -16,8 +16,7 @@ use Rattle.expression.specs.Checks.{rowChecks, recordChecks, rowNumber, recordN
 use Rattle.expression.proofs.Numbers.{Numbered, passed-first, first-append}
 use Rattle.disambiguation.specs.Rules.{Rule}
 use Rattle.disambiguation.specs.Below.{allBelow}
-use Rattle.disambiguation.specs.SheetChecks.{rulesOf, ruleBytes, sheetNumber}
-use Rattle.disambiguation.proofs.RuleBytes.{rules-back}
+use Rattle.disambiguation.specs.SheetChecks.{kindsIn, rulesIn, sheetNumber}
 use Rattle.disambiguation.proofs.BelowLaws.{allBelow-at}
 use Rattle.sheet.specs.Relation.{closesIn}
 use Rattle.sheet.specs.Loading.{sheetOf}
@@ -27,16 +26,14 @@ use Rattle.parser.specs.Build.{built}
 use Rattle.places.specs.Store.{placeCount, held, stored}
 use Rattle.places.proofs.Laws.{held-stored-same, held-stored-other, length-stored}
 use Rattle.monitor.specs.Call.{Call, load, loadList, putRow, putRecord, drop, ask}
-use Rattle.monitor.specs.Panel.{Panel, usesBeyond, inUseCheck, sheetChecks, ifAccepted, rebuilt, rebuiltTo}
-use Rattle.monitor.specs.Steps.{loadNumber, putRowNumber, putRecordNumber, dropNumber, sheetAfter, placesAfterLoad, placesAfterRow, placesAfterRecord, placesAfterDrop, withPlaces, after}
+use Rattle.monitor.specs.Panel.{Panel, panel, usesOther, inUseCheck, sheetChecks, listChecks, ifAccepted, rebuilt, rebuiltTo}
+use Rattle.monitor.specs.Steps.{ops, loadNumber, listLoadNumber, putRowNumber, putRecordNumber, dropNumber, afterLoad, placesAfterRow, placesAfterRecord, placesAfterDrop, withPlaces, after, reply}
 use Rattle.monitor.specs.Book.{Book, blankCheck, bookNumber, withSlot, entered, next}
 use Rattle.monitor.proofs.Slots.{Holds, holds-fit, put-row-holds, put-record-holds}
 use Rattle.monitor.proofs.Rebuilding.{rebuilt-size, rebuilt-holds}
-use Rattle.monitor.proofs.Stands.{Stands, same-number, list-same}
+use Rattle.monitor.proofs.ListLoads.{sheet-numbered, list-numbered, list-in-force}
+use Rattle.monitor.proofs.Stands.{Stands, same-operators, same-number}
 use Rattle.monitor.proofs.Replies.{front-accepted, place-passed}
-
-pub sheet-numbered : (n : ℕ) (rules : List ℕ) → Numbered (sheetChecks n rules)
-sheet-numbered n rules = (λ e. omega arith, (λ e. omega arith, (λ e. omega arith, (λ e. omega arith, (λ e. omega arith, tt)))))
 
 module _ (p : Panel) (b : Book) (s : Stands p b) where
   -- a place that gets bytes stands for a slot that gets what they hold
@@ -80,7 +77,7 @@ module _ (p : Panel) (b : Book) (s : Stands p b) where
       (λ e.
       let (h, f) = place-passed k (rowChecks (b .operators) row) e in
       rw (same-number p b s (putRow k row) ∙ e)
-      (stored-stands k h (some row) (built (closesIn (p .sheet)) row) (put-row-holds (p .sheet) (b .operators) (b .rules) (s .in-force) row f)))
+      (stored-stands k h (some row) (built (ops p) (closesIn (p .sheet)) row) (put-row-holds (p .sheet) (b .operators) (b .rules) (s .in-force) row f)))
       (λ h. same-places (putRowNumber p k row) _ (λ z. h (sym (same-number p b s (putRow k row)) ∙ z)))
 
   record-stands : (k : ℕ) (bytes : List ℕ) → Stands (after p (putRecord k bytes)) (next b (putRecord k bytes))
@@ -103,53 +100,63 @@ module _ (p : Panel) (b : Book) (s : Stands p b) where
       rw (same-number p b s (drop k) ∙ e) (stored-stands k h none [] refl))
       (λ h. same-places (dropNumber p k) _ (λ z. h (sym (same-number p b s (drop k)) ∙ z)))
 
-  -- an accepted load: the sheet is in force, and no held tree uses an operator beyond it
-  load-holds : (n : ℕ) (rules : List ℕ) → loadNumber p n rules ≡ accepted
-      → Stands (record { sheet = sheetOf n (rulesOf rules); places = rebuiltTo (sheetOf n (rulesOf rules)) placeCount (p .places) })
-      (record { operators = operators n; rules = rulesOf rules; slots = b .slots })
+  -- an accepted load: the sheet is in force, and no held tree uses an operator beyond it or one of another kind
+  module _ (n : ℕ) (kinds : List ℕ) (rules : List Rule) (checks : List Check) (numbered : Numbered checks)
+      (made : first checks ≡ accepted → InForce (sheetOf n kinds rules) (operators n kinds) rules) where
+    abbrev unfit : ℕ → Bool
+    unfit k = usesOther (ops p) (operators n kinds) (held (p .places) k)
+
+    abbrev all-checks : List Check
+    all-checks = checks ++ (inUseCheck (ops p) (operators n kinds) (held (p .places)) ∷ [])
+
+    load-holds : first all-checks ≡ accepted
+        → Stands (panel (sheetOf n kinds rules) (rebuiltTo (sheetOf n kinds rules) placeCount (p .places))) (record { operators = operators n kinds; rules = rules; slots = b .slots })
+    load-holds e =
+        record {
+          in-force = in-force;
+          size = rebuilt-size (b .slots) (b .operators) (b .rules) (p .places) (s .size) (s .holds) (sheetOf n kinds rules) (operators n kinds) rules in-force under;
+          holds = rebuilt-holds (b .slots) (b .operators) (b .rules) (p .places) (s .size) (s .holds) (sheetOf n kinds rules) (operators n kinds) rules in-force under;
+        }
+      where
+        good : first checks ≡ accepted
+        good = front-accepted checks (inUseCheck (ops p) (operators n kinds) (held (p .places)) ∷ []) numbered e
+
+        in-force : InForce (sheetOf n kinds rules) (operators n kinds) rules
+        in-force = made good
+
+        unused : first (inUseCheck (ops p) (operators n kinds) (held (p .places)) ∷ []) ≡ accepted
+        unused = sym (first-append checks (inUseCheck (ops p) (operators n kinds) (held (p .places)) ∷ []) (passed-first checks numbered good)) ∙ e
+
+        all : allBelow placeCount (λ k. not (unfit k)) ≡ true
+        all = go (allBelow placeCount (λ k. not (unfit k))) unused
+          where
+            go : (x : Bool) → cond (not x) 11 0 ≡ accepted → x ≡ true
+            go true f = refl
+            go false f = absurd (omega arith)
+
+        under : (k : ℕ) → k < placeCount → usesOther (b .operators) (operators n kinds) (held (p .places) k) ≡ false
+        under k h =
+            ap (λ old. usesOther old (operators n kinds) (held (p .places) k)) (sym (same-operators p b s))
+            ∙ not-true (unfit k) (allBelow-at placeCount (λ k. not (unfit k)) all k h)
+
+    after-stands : (c : Call) → reply p c .number ≡ first all-checks → after p c ≡ afterLoad p (first all-checks) n kinds rules
+        → entered b c ≡ record { operators = operators n kinds; rules = rules; slots = b .slots } → Stands (after p c) (next b c)
+    unfolding afterLoad
+    after-stands c number becomes page =
+        by-number c (λ e. rw (becomes, page, sym number ∙ same-number p b s c ∙ e) (load-holds (sym number ∙ same-number p b s c ∙ e)))
+        (λ h. becomes ∙ rw (ne-eqb (first all-checks) 0 (λ z. h (sym (same-number p b s c) ∙ number ∙ z))))
+
+  load-stands : (n : ℕ) (bytes : List ℕ) → Stands (after p (load n bytes)) (next b (load n bytes))
   unfolding loadNumber sheetNumber
-  load-holds n rules e =
-      record {
-        in-force = in-force;
-        size = rebuilt-size (b .slots) (b .operators) (b .rules) (p .places) (s .size) (s .holds) (sheetOf n (rulesOf rules)) (operators n) (rulesOf rules) in-force under;
-        holds = rebuilt-holds (b .slots) (b .operators) (b .rules) (p .places) (s .size) (s .holds) (sheetOf n (rulesOf rules)) (operators n) (rulesOf rules) in-force under;
-      }
-    where
-      good : first (sheetChecks n rules) ≡ accepted
-      good = front-accepted (sheetChecks n rules) (inUseCheck (operators n) (held (p .places)) ∷ []) (sheet-numbered n rules) e
+  load-stands n bytes = after-stands n (kindsIn n bytes) (rulesIn n bytes) (sheetChecks n bytes) (sheet-numbered n bytes) (made-in-force n bytes) (load n bytes) refl refl refl
 
-      in-force : InForce (sheetOf n (rulesOf rules)) (operators n) (rulesOf rules)
-      in-force = made-in-force n rules good
-
-      unused : first (inUseCheck (operators n) (held (p .places)) ∷ []) ≡ accepted
-      unused =
-          sym (first-append (sheetChecks n rules) (inUseCheck (operators n) (held (p .places)) ∷ []) (passed-first (sheetChecks n rules) (sheet-numbered n rules) good)) ∙ e
-
-      all : allBelow placeCount (λ k. not (usesBeyond (operators n) (held (p .places) k))) ≡ true
-      all = go (allBelow placeCount (λ k. not (usesBeyond (operators n) (held (p .places) k)))) unused
-        where
-          go : (x : Bool) → cond (not x) 11 0 ≡ accepted → x ≡ true
-          go true f = refl
-          go false f = absurd (omega arith)
-
-      under : (k : ℕ) → k < placeCount → usesBeyond (operators n) (held (p .places) k) ≡ false
-      under k h = not-true (usesBeyond (operators n) (held (p .places) k)) (allBelow-at placeCount (λ k. not (usesBeyond (operators n) (held (p .places) k))) all k h)
-
-  load-stands : (n : ℕ) (rules : List ℕ) → Stands (after p (load n rules)) (next b (load n rules))
-  unfolding sheetAfter placesAfterLoad
-  load-stands n rules =
-      by-number (load n rules) (λ e. rw (same-number p b s (load n rules) ∙ e) (load-holds n rules (same-number p b s (load n rules) ∙ e)))
-      (λ h. rw (ne-eqb (loadNumber p n rules) 0 (λ z. h (sym (same-number p b s (load n rules)) ∙ z))))
-
-  -- with a list of rules the book gets what it gets with their bytes
-  list-next : (n : ℕ) (rules : List Rule) → next b (load n (ruleBytes rules)) ≡ next b (loadList n rules)
-  unfolding next
-  list-next n rules =
-      ap₂ (λ number (given : List Rule). cond (eqb number accepted) (record { operators = operators n; rules = given; slots = b .slots }) b) (list-same p b s n rules) (rules-back rules)
+  list-stands : (n : ℕ) (kinds : List ℕ) (rules : List Rule) → Stands (after p (loadList n kinds rules)) (next b (loadList n kinds rules))
+  unfolding listLoadNumber
+  list-stands n kinds rules = after-stands n kinds rules (listChecks n kinds rules) (list-numbered n kinds rules) (list-in-force n kinds rules) (loadList n kinds rules) refl refl refl
 
   pub keeps : (c : Call) → Stands (after p c) (next b c)
-  keeps (load n rules) = load-stands n rules
-  keeps (loadList n rules) = rw (← list-next n rules) (load-stands n (ruleBytes rules))
+  keeps (load n bytes) = load-stands n bytes
+  keeps (loadList n kinds rules) = list-stands n kinds rules
   keeps (putRow k row) = row-stands k row
   keeps (putRecord k bytes) = record-stands k bytes
   keeps (drop k) = drop-stands k

@@ -1,6 +1,7 @@
 pub mod Uses
 pub mod Slots
 pub mod Rebuilding
+pub mod ListLoads
 pub mod Stands
 pub mod Replies
 pub mod Keeping
@@ -20,4 +21,5 @@ pub mod ReadFromTheLeft
 pub mod ChainedPatterns
 pub mod AnswerWays
 pub mod StoreWays
+pub mod UseWays
 pub mod LoadWays

@@ -11,7 +11,7 @@ use borrow.Author.Tests.{ltb-true, ltb-false, lt-ltb, le-ltb, not-true, not-fals
 use Rattle.expression.specs.Lists.{anyHolds}
 use Rattle.expression.specs.Limits.{mostTokens, mostRecordBytes}
 use Rattle.expression.specs.Refusal.{Check, first, oversize, stranger, noRow, noTree}
-use Rattle.expression.specs.Token.{Class, Infix, Opening, Closing, Reading, Meaningless, class}
+use Rattle.expression.specs.Token.{Class, Infix, Prefix, Opening, Closing, Reading, Meaningless, class}
 use Rattle.expression.specs.Tree.{Tree, yield}
 use Rattle.expression.specs.Grammar.{Row}
 use Rattle.expression.specs.RowTest.{isRow}
@@ -63,6 +63,7 @@ decides-some p P d (x ∷ xs) = decides-or (p x) (anyHolds p xs) (d x) (decides-
 -- ---- 3 of a row and of a record
 strange-in-row : (x : Class) → strangeInRow x ≡ true → x ≡ Meaningless
 strange-in-row Infix e = absurd (false≢true e)
+strange-in-row Prefix e = absurd (false≢true e)
 strange-in-row Opening e = absurd (false≢true e)
 strange-in-row Closing e = absurd (false≢true e)
 strange-in-row Reading e = absurd (false≢true e)
@@ -70,6 +71,7 @@ strange-in-row Meaningless e = refl
 
 strange-in-record : (x : Class) → strangeInRecord x ≡ true → (x ≡ Meaningless) ⊎ (x ≡ Closing)
 strange-in-record Infix e = absurd (false≢true e)
+strange-in-record Prefix e = absurd (false≢true e)
 strange-in-record Opening e = absurd (false≢true e)
 strange-in-record Closing e = inr refl
 strange-in-record Reading e = absurd (false≢true e)

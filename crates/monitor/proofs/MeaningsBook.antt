@@ -75,7 +75,7 @@ module _ (b : Book) where
   free-length {t = t} c = record-length (class (b .operators)) (brackets (b .operators)) t (c .over) ∙ ap recordBytes (c .yields)
 
   module _ (every : EveryRowHasOne (b .operators) (b .rules)) (trees : SlotsHaveTrees b)
-      (shortens : (t : Tree) → Over (class (b .operators)) t → ShortestRow (b .operators) (b .rules) (tree.yield t) (shortestBy (b .rules) (some t))) where
+      (shortens : (t : Tree) → Over (class (b .operators)) t → ShortestRow (b .operators) (b .rules) (tree.yield t) (shortestBy (b .operators) (b .rules) (some t))) where
     slot-tree : (k : ℕ) (row : List ℕ) → k < placeCount → b .slots k ≡ some row → (t : Tree) × SlotTree b k t
     slot-tree k row h q = let (_, (t, c)) = trees k row h q in (t, rw (ap rowIn q) c)
 
@@ -130,20 +130,20 @@ module _ (b : Book) where
         (λ a s. let (u, x, e) = s in ap length e ∙ sym (ap rowTokens (reads-back b bytes u x))))
     asked-means (operand right bytes) = record-means b Accepted bytes [] (λ _ _. refl)
     asked-means (shortestRow bytes out) =
-        record-means b (WithRoom b (shortestRow bytes out)) bytes (shortCheck (length (shortestBy (b .rules) (treeOf (class (b .operators)) bytes))) (length out) ∷ [])
+        record-means b (WithRoom b (shortestRow bytes out)) bytes (shortCheck (length (shortestBy (b .operators) (b .rules) (treeOf (class (b .operators)) bytes))) (length out) ∷ [])
         (λ t r.
-        let is = ap (shortestBy (b .rules)) (reads-back b bytes t r) in
-        room-means (shortestRow bytes out) (length (shortestBy (b .rules) (treeOf (class (b .operators)) bytes))) (shortestBy (b .rules) (some t)) (t, r, shortens t (r .0))
+        let is = ap (shortestBy (b .operators) (b .rules)) (reads-back b bytes t r) in
+        room-means (shortestRow bytes out) (length (shortestBy (b .operators) (b .rules) (treeOf (class (b .operators)) bytes))) (shortestBy (b .operators) (b .rules) (some t)) (t, r, shortens t (r .0))
         (λ a s.
         let (u, x, h) = s in
         let g = shortens u (x .0) in
-        le-antisymm (h .fewest (shortestBy (b .rules) (some u)) (g .means-same)) (g .fewest a (h .means-same))
-        ∙ ap length (sym (ap (shortestBy (b .rules)) (reads-back b bytes u x)))))
+        le-antisymm (h .fewest (shortestBy (b .operators) (b .rules) (some u)) (g .means-same)) (g .fewest a (h .means-same))
+        ∙ ap length (sym (ap (shortestBy (b .operators) (b .rules)) (reads-back b bytes u x)))))
 
     -- The book's number of a call means what docs/REFERENCE.md, section 4, says.
     pub book-means : (c : Call) → Means b c (bookNumber b c)
     book-means (load n bytes) = load-means b n bytes
-    book-means (loadList n rules) = load-list-means b n rules
+    book-means (loadList n kinds rules) = load-list-means b n kinds rules
     book-means (putRow k row) = place-means (OfRow b row Accepted) k (rowChecks (b .operators) row) (λ _. row-means b Accepted row [] (λ _. refl))
     book-means (putRecord k bytes) = place-means (OfRecord b bytes Accepted) k (recordChecks (b .operators) bytes) (λ _. record-means b Accepted bytes [] (λ _ _. refl))
     book-means (drop k) = place-means (NotBlank b k Accepted) k (blankCheck (b .slots k) ∷ []) (λ _. blank-means Accepted k [] (λ _ _. refl))

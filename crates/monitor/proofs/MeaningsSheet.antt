@@ -1,30 +1,31 @@
--- The checks of a sheet give the number that the conditions mean: its lengths, its rules, the rows of any length, and the slots. Assumes nothing.
+-- The checks of a sheet give the number that the conditions mean: its lengths, its kinds and rules, the rows of any length, and the slots. Assumes nothing.
 use Prim.Native.Nat.{ℕ, _%_, _<_, _≤_}
 use native.Mathlib.Omega.{arith}
 use mathlib.Core.Path.{_≡_, refl, ap, sym, subst, _∙_}
 use mathlib.Core.Bool.{Bool, true, false, not, _&&_, _||_, cond, or-assoc, true≢false}
+use mathlib.Core.Logic.{_⊎_, inl, inr}
 use mathlib.Core.Option.{Option, none, some}
 use mathlib.Core.List.{List, [], _∷_, _++_}
 use lib.Dec.{eqb, ltb}
-use lib.ListN.{length}
+use lib.ListN.{length, drop}
 use borrow.Author.Tests.{ltb-false, eqb-true, eq-eqb, not-true, not-false}
 use Rattle.expression.specs.Lists.{anyHolds}
 use Rattle.expression.specs.Limits.{mostOperators, mostRules, mostRuleBytes, bytesOfRule}
 use Rattle.expression.specs.Refusal.{first, accepted, oversize, torn, stranger, dead, double, inUse}
-use Rattle.expression.specs.Token.{Operators, operators}
+use Rattle.expression.specs.Token.{prefixKind, Operators, operators, kindOf}
 use Rattle.expression.proofs.Tests.{both-false}
 use Rattle.disambiguation.specs.Rules.{Rule, priority, right, L, R}
 use Rattle.disambiguation.specs.ExactlyOne.{SomeRowHasNone, EveryRowHasOne, SomeRowHasTwo}
 use Rattle.disambiguation.specs.Below.{allBelow}
 use Rattle.disambiguation.specs.Verdict.{safe, total, level, ruleChecks, verdict}
-use Rattle.disambiguation.specs.SheetChecks.{rulesOf, strangeRule}
+use Rattle.disambiguation.specs.SheetChecks.{strangeRule, strangeKind, rulesIn, operatorsIn}
 use Rattle.disambiguation.proofs.BelowLaws.{allBelow-at, allBelow-fails}
 use Rattle.disambiguation.proofs.VerdictDecides.{dead-exactly-if, double-exactly-if}
 use Rattle.places.specs.Store.{placeCount}
 use Rattle.monitor.specs.Call.{load, loadList}
-use Rattle.monitor.specs.Panel.{usesBeyond, inUseCheck}
+use Rattle.monitor.specs.Panel.{beyond, changed, usesOther, inUseCheck}
 use Rattle.monitor.specs.Book.{Book, rowIn, slotRow, bookNumber}
-use Rattle.monitor.specs.Meaning.{When, Accepted, SomeOf, StrangeRule, OfRules, Means}
+use Rattle.monitor.specs.Meaning.{When, Accepted, SomeOf, StrangeKind, StrangeRule, OfSheet, Means}
 use Rattle.monitor.proofs.Meanings.{Decides, when, decides-or, decides-and, decides-not, decides-less, decides-not-less, decides-some}
 
 -- ---- 3: a rule's kind and operators
@@ -80,77 +81,114 @@ module _ (ops : Operators) (rules : List Rule) (few : ops .count ≤ mostOperato
     λ h. second-of-two unsafe unsettled (double-exactly-if ops rules few .1 h),
   )
 
--- ---- 11: a slot's row uses an operator beyond n
-abbrev Beyond : ℕ → List ℕ → Type 0
-Beyond n row = SomeOf (λ c. (c < mostOperators) × (n ≤ c)) row
+-- ---- 11: a slot's row uses an operator beyond n, or one whose kind changes
+module _ (b : Book) (new : Operators) where
+  abbrev Other : ℕ → Type 0
+  Other c = (c < mostOperators) × ((new .count ≤ c) ⊎ (kindOf (b .operators) c ≡ kindOf new c → ⊥))
 
-decides-uses : (n : ℕ) (row : List ℕ) → Decides (usesBeyond (operators n) row) (Beyond n row)
-unfolding usesBeyond
-decides-uses n row =
-    decides-some (λ c. ltb c mostOperators && not (ltb c n)) (λ c. (c < mostOperators) × (n ≤ c))
-    (λ c. decides-and (ltb c mostOperators) (not (ltb c n)) (decides-less c mostOperators) (decides-not-less c n)) row
+  abbrev others : List ℕ → Bool
+  others = usesOther (b .operators) new
 
-module _ (b : Book) (n : ℕ) where
   abbrev InUse : Type 0
-  InUse = (k : ℕ) × (row : List ℕ) × (k < placeCount) × (b .slots k ≡ some row) × Beyond n row
+  InUse = (k : ℕ) × (row : List ℕ) × (k < placeCount) × (b .slots k ≡ some row) × SomeOf Other row
+
+  decides-other : (c : ℕ) → Decides (beyond new c || changed (b .operators) new c) (Other c)
+  decides-other c = (λ e. to (decided .0 e), λ h. decided .1 (from h))
+    where
+      small : Bool
+      small = ltb c mostOperators
+
+      same-kind : Bool
+      same-kind = eqb (kindOf (b .operators) c) (kindOf new c)
+
+      Changed : Type 0
+      Changed = kindOf (b .operators) c ≡ kindOf new c → ⊥
+
+      Apart : Type 0
+      Apart = ((c < mostOperators) × (new .count ≤ c)) ⊎ ((c < mostOperators) × Changed)
+
+      decided : Decides (beyond new c || changed (b .operators) new c) Apart
+      decided =
+          decides-or (beyond new c) (changed (b .operators) new c) (decides-and small (not (ltb c (new .count))) (decides-less c mostOperators) (decides-not-less c (new .count)))
+          (decides-and small (not same-kind) (decides-less c mostOperators)
+          (decides-not same-kind (eqb-true (kindOf (b .operators) c) (kindOf new c), eq-eqb (kindOf (b .operators) c) (kindOf new c))))
+
+      to : Apart → Other c
+      to (inl (l, h)) = (l, inl h)
+      to (inr (l, h)) = (l, inr h)
+
+      from : Other c → Apart
+      from (l, inl h) = inl (l, h)
+      from (l, inr h) = inr (l, h)
+
+  decides-uses : (row : List ℕ) → Decides (others row) (SomeOf Other row)
+  unfolding usesOther
+  decides-uses row = decides-some (λ c. beyond new c || changed (b .operators) new c) Other decides-other row
 
   abbrev unused : ℕ → Bool
-  unused k = not (usesBeyond (operators n) (slotRow b k))
+  unused k = not (others (slotRow b k))
 
-  used-at : (k : ℕ) → k < placeCount → usesBeyond (operators n) (slotRow b k) ≡ true → InUse
+  used-at : (k : ℕ) → k < placeCount → others (slotRow b k) ≡ true → InUse
   used-at k h = go (b .slots k) refl
     where
-      go : (slot : Option (List ℕ)) → b .slots k ≡ slot → usesBeyond (operators n) (rowIn slot) ≡ true → InUse
-      go none q e = absurd (decides-uses n [] .0 e)
-      go (some row) q e = (k, row, h, q, decides-uses n row .0 e)
+      go : (slot : Option (List ℕ)) → b .slots k ≡ slot → others (rowIn slot) ≡ true → InUse
+      go none q e = absurd (decides-uses [] .0 e)
+      go (some row) q e = (k, row, h, q, decides-uses row .0 e)
 
   decides-in-use : Decides (not (allBelow placeCount unused)) InUse
   decides-in-use = (
     λ e.
         let (k, h, f) = allBelow-fails placeCount unused (not-true (allBelow placeCount unused) e) in
-        used-at k h (not-false (usesBeyond (operators n) (slotRow b k)) f),
+        used-at k h (not-false (others (slotRow b k)) f),
     λ u. go u (allBelow placeCount unused) refl,
   )
     where
       go : InUse → (x : Bool) → allBelow placeCount unused ≡ x → not x ≡ true
       go u false e = refl
       go (k, row, h, q, s) true e =
-          let z : usesBeyond (operators n) (slotRow b k) ≡ false = not-true (usesBeyond (operators n) (slotRow b k)) (allBelow-at placeCount unused e k h) in
-          absurd (true≢false (sym (ap (λ slot. usesBeyond (operators n) (rowIn slot)) q ∙ decides-uses n row .1 s) ∙ z))
+          let z : others (slotRow b k) ≡ false = not-true (others (slotRow b k)) (allBelow-at placeCount unused e k h) in
+          absurd (true≢false (sym (ap (λ slot. others (rowIn slot)) q ∙ decides-uses row .1 s) ∙ z))
 
   -- ---- 3, 4, 5 and 11
-  pub rules-mean : (rules : List Rule) → n ≤ mostOperators
-      → OfRules b n rules
-      (first ((anyHolds (strangeRule n) rules, stranger) ∷ (ruleChecks (operators n) (L rules) (R rules) ++ (inUseCheck (operators n) (slotRow b) ∷ []))))
+  pub rules-mean : (rules : List Rule) → new .count ≤ mostOperators
+      → OfSheet b new rules
+      (first ((anyHolds strangeKind (new .kinds) || anyHolds (strangeRule (new .count)) rules, stranger) ∷ (ruleChecks new (L rules) (R rules) ++ (inUseCheck (b .operators) new (slotRow b) ∷ []))))
   rules-mean rules few =
-      when After3 (anyHolds (strangeRule n) rules) stranger _ (decides-some (strangeRule n) (StrangeRule n) (decides-strange n) rules)
-      (λ _. when After4 (unsafe (operators n) rules few) dead _ (decides-dead (operators n) rules few)
-      (λ s. when After5 (unsettled (operators n) rules few) double _ (decides-double (operators n) rules few s)
+      when After3 (anyHolds strangeKind (new .kinds) || anyHolds (strangeRule (new .count)) rules) stranger _
+      (decides-or (anyHolds strangeKind (new .kinds)) (anyHolds (strangeRule (new .count)) rules)
+      (decides-some strangeKind StrangeKind (λ kind. decides-less prefixKind kind) (new .kinds)) (decides-some (strangeRule (new .count)) (StrangeRule (new .count)) (decides-strange (new .count)) rules))
+      (λ _. when After4 (unsafe new rules few) dead _ (decides-dead new rules few)
+      (λ s. when After5 (unsettled new rules few) double _ (decides-double new rules few s)
       (λ _. when Accepted (not (allBelow placeCount unused)) inUse accepted decides-in-use (λ _. refl))))
     where
       After5 : ℕ → Type 0
       After5 = When InUse inUse Accepted
 
       After4 : ℕ → Type 0
-      After4 = When (EveryRowHasOne (operators n) rules × SomeRowHasTwo (operators n) rules) double After5
+      After4 = When (EveryRowHasOne new rules × SomeRowHasTwo new rules) double After5
 
       After3 : ℕ → Type 0
-      After3 = When (SomeRowHasNone (operators n) rules) dead After4
+      After3 = When (SomeRowHasNone new rules) dead After4
 
-  -- ---- a load, with its rules in bytes and as a list
-  few-operators : (y : Bool) → (ltb mostOperators n || y) ≡ false → n ≤ mostOperators
-  few-operators y e = ltb-false mostOperators n (both-false (ltb mostOperators n) y e .0)
+-- ---- a load, in bytes and with lists
+few-operators : (n : ℕ) (y : Bool) → (ltb mostOperators n || y) ≡ false → n ≤ mostOperators
+few-operators n y e = ltb-false mostOperators n (both-false (ltb mostOperators n) y e .0)
 
+module _ (b : Book) (n : ℕ) where
   pub load-means : (bytes : List ℕ) → Means b (load n bytes) (bookNumber b (load n bytes))
   load-means bytes =
-      when (When (length bytes % bytesOfRule ≡ 0 → ⊥) torn (OfRules b n (rulesOf bytes))) (ltb mostOperators n || ltb mostRuleBytes (length bytes)) oversize _
-      (decides-or (ltb mostOperators n) (ltb mostRuleBytes (length bytes)) (decides-less mostOperators n) (decides-less mostRuleBytes (length bytes)))
-      (λ e. when (OfRules b n (rulesOf bytes)) (not (eqb (length bytes % bytesOfRule) 0)) torn _
-      (decides-not (eqb (length bytes % bytesOfRule) 0) (eqb-true (length bytes % bytesOfRule) 0, eq-eqb (length bytes % bytesOfRule) 0))
-      (λ _. rules-mean (rulesOf bytes) (few-operators (ltb mostRuleBytes (length bytes)) e)))
+      when (When ((length bytes < n) ⊎ (length (drop n bytes) % bytesOfRule ≡ 0 → ⊥)) torn (OfSheet b (operatorsIn n bytes) (rulesIn n bytes)))
+      (ltb mostOperators n || ltb mostRuleBytes (length (drop n bytes))) oversize _
+      (decides-or (ltb mostOperators n) (ltb mostRuleBytes (length (drop n bytes))) (decides-less mostOperators n) (decides-less mostRuleBytes (length (drop n bytes))))
+      (λ e. when (OfSheet b (operatorsIn n bytes) (rulesIn n bytes)) (ltb (length bytes) n || not (eqb (length (drop n bytes) % bytesOfRule) 0)) torn _
+      (decides-or (ltb (length bytes) n) (not (eqb (length (drop n bytes) % bytesOfRule) 0)) (decides-less (length bytes) n)
+      (decides-not (eqb (length (drop n bytes) % bytesOfRule) 0) (eqb-true (length (drop n bytes) % bytesOfRule) 0, eq-eqb (length (drop n bytes) % bytesOfRule) 0)))
+      (λ _. rules-mean b (operatorsIn n bytes) (rulesIn n bytes) (few-operators n (ltb mostRuleBytes (length (drop n bytes))) e)))
 
-  pub load-list-means : (rules : List Rule) → Means b (loadList n rules) (bookNumber b (loadList n rules))
-  load-list-means rules =
-      when (OfRules b n rules) (ltb mostOperators n || ltb mostRules (length rules)) oversize _
+  pub load-list-means : (kinds : List ℕ) (rules : List Rule) → Means b (loadList n kinds rules) (bookNumber b (loadList n kinds rules))
+  load-list-means kinds rules =
+      when (When (length kinds ≡ n → ⊥) torn (OfSheet b (operators n kinds) rules)) (ltb mostOperators n || ltb mostRules (length rules)) oversize _
       (decides-or (ltb mostOperators n) (ltb mostRules (length rules)) (decides-less mostOperators n) (decides-less mostRules (length rules)))
-      (λ e. rules-mean rules (few-operators (ltb mostRules (length rules)) e))
+      (λ e. when (OfSheet b (operators n kinds) rules) (not (eqb (length kinds) n)) torn _
+      (decides-not (eqb (length kinds) n) (eqb-true (length kinds) n, eq-eqb (length kinds) n))
+      (λ _. rules-mean b (operators n kinds) rules (few-operators n (ltb mostRules (length rules)) e)))

@@ -1,7 +1,6 @@
 -- Where every row has exactly one conflict-free tree, the book gives one answer to a call. Assumes nothing.
 use Prim.Native.Nat.{ℕ}
 use native.Mathlib.Decide.{ℕ-discrete}
-use native.Mathlib.Nat.{le-antisymm}
 use mathlib.Core.Path.{_≡_, ap, sym, subst, _∙_}
 use mathlib.Core.Option.{Option, none, some}
 use mathlib.Core.List.{List, [], _++_}
@@ -15,8 +14,10 @@ use Rattle.expression.specs.Operand.{operandRecord}
 use Rattle.expression.proofs.Classes.{brackets}
 use Rattle.expression.proofs.RecordsAndTrees.{record-injective}
 use Rattle.expression.proofs.RowsAndTrees.{row-exactly-if-yielded}
+use Rattle.disambiguation.specs.Rules.{L, R}
 use Rattle.disambiguation.specs.Conflicts.{conflictCount, ConflictFreeTree}
 use Rattle.disambiguation.specs.ExactlyOne.{EveryRowHasExactlyOne}
+use Rattle.brackets.specs.Enclosed.{enclosed}
 use Rattle.brackets.specs.SameMeaning.{ShortestRow}
 use Rattle.places.specs.Store.{imageOf}
 use Rattle.monitor.specs.Call.{Question, Call, lentBefore, load, loadList, putRow, putRecord, drop, ask, fetchRecord, fetchRow, image, build, repair, judge, yield, operand, shortestRow, Reply}
@@ -74,7 +75,8 @@ module _ (b : Book) (one : EveryRowHasExactlyOne (b .operators) (b .rules)) wher
 
   -- and the shortest row
   one-shortest : (row : List ℕ) → OfOne (ShortestRow (b .operators) (b .rules) row)
-  one-shortest row x y hx hy = hy .only x (hx .means-same) (le-antisymm (hx .fewest y (hy .means-same)) (hy .fewest x (hx .means-same)))
+  one-shortest row x y hx hy =
+      hx .made ∙ ap (λ t. tree.yield (enclosed (L (b .rules)) (R (b .rules)) t)) (one-tree row (hx .tree) (hy .tree) (hx .conflict-free) (hy .conflict-free)) ∙ sym (hy .made)
 
   one-image : (k : ℕ) (slot : Option (List ℕ)) → OfOne (Image b k slot)
   one-image k none x y e d = e ∙ sym d
@@ -122,8 +124,8 @@ module _ (b : Book) (one : EveryRowHasExactlyOne (b .operators) (b .rules)) wher
   silent-same r s n f g = same-reply r s n (f .length ∙ sym (g .length)) (f .output ∙ sym (g .output)) (f .count ∙ sym (g .count)) (f .part ∙ sym (g .part))
 
   rest-same : (c : Call) (r s : Reply) → r .number ≡ s .number → Rest b c r → Rest b c s → r ≡ s
-  rest-same (load n rules) r s e f g = silent-same r s e f g
-  rest-same (loadList n rules) r s e f g = silent-same r s e f g
+  rest-same (load n bytes) r s e f g = silent-same r s e f g
+  rest-same (loadList n kinds rules) r s e f g = silent-same r s e f g
   rest-same (putRow k row) r s e f g = silent-same r s e f g
   rest-same (putRecord k bytes) r s e f g = silent-same r s e f g
   rest-same (drop k) r s e f g = silent-same r s e f g

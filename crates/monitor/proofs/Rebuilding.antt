@@ -17,7 +17,7 @@ use Rattle.sheet.specs.Layout.{operatorsOf}
 use Rattle.sheet.specs.InForce.{InForce}
 use Rattle.places.specs.Store.{placeCount, storeBytes, held, stored}
 use Rattle.places.proofs.Laws.{held-stored-same, held-stored-other, length-stored}
-use Rattle.monitor.specs.Panel.{usesBeyond, ifAccepted, rebuilt, rebuiltTo}
+use Rattle.monitor.specs.Panel.{usesOther, ifAccepted, rebuilt, rebuiltTo}
 use Rattle.monitor.proofs.Slots.{Holds, accepted-there, rebuilt-there, holds-fit}
 
 -- no bytes are no tree
@@ -28,7 +28,7 @@ empty-refused ops = refl
 module _ (slots : ℕ → Option (List ℕ)) (old : Operators) (old-rules : List Rule) (places : List ℕ) (size : length places ≡ storeBytes)
     (holds : (k : ℕ) → k < placeCount → Holds old old-rules (slots k) (held places k))
     (s : List ℕ) (ops : Operators) (rules : List Rule) (in-force : InForce s ops rules)
-    (under : (k : ℕ) → k < placeCount → usesBeyond ops (held places k) ≡ false) where
+    (under : (k : ℕ) → k < placeCount → usesOther old ops (held places k) ≡ false) where
   abbrev upTo : ℕ → List ℕ
   upTo m = rebuiltTo s m places
 

@@ -124,9 +124,9 @@ module _ (p : Panel) (b : Book) (s : Stands p b) where
   tells (judge bytes) z = refl
   tells (operand right bytes) z = refl
   tells (shortestRow bytes out) z =
-      let e = front-accepted (recordChecks (b .operators) bytes) (shortCheck (length (shortestBy (b .rules) (treeOf (class (b .operators)) bytes))) (length out) ∷ []) (record-numbered (b .operators) bytes) z in
+      let e = front-accepted (recordChecks (b .operators) bytes) (shortCheck (length (shortestBy (b .operators) (b .rules) (treeOf (class (b .operators)) bytes))) (length out) ∷ []) (record-numbered (b .operators) bytes) z in
       let (t, r, q) = recorded bytes e in
-      let same = shortest-by-rules (p .sheet) (b .operators) (b .rules) (s .in-force) bytes ∙ ap (shortestBy (b .rules)) q in
+      let same = shortest-by-rules (p .sheet) (b .operators) (b .rules) (s .in-force) bytes ∙ ap (shortestBy (b .operators) (b .rules)) q in
       (t, r, subst (ShortestRow (b .operators) (b .rules) (tree.yield t)) (sym same) (shortest-of-tree (b .operators) (b .rules) (s .in-force .accepts) t (r .0)))
 
   judge-count : (bytes : List ℕ) → Count b (judge bytes) (told p (judge bytes) .count)
@@ -186,8 +186,8 @@ module _ (p : Panel) (b : Book) (s : Stands p b) where
   silent number = record { length = no-length (eqb number accepted); output = no-output (eqb number accepted); count = refl; part = refl }
 
   rest : (c : Call) → Rest b c (reply p c)
-  rest (load n rules) = silent (outcome p (load n rules) .number)
-  rest (loadList n rules) = silent (outcome p (loadList n rules) .number)
+  rest (load n bytes) = silent (outcome p (load n bytes) .number)
+  rest (loadList n kinds rules) = silent (outcome p (loadList n kinds rules) .number)
   rest (putRow k row) = silent (outcome p (putRow k row) .number)
   rest (putRecord k bytes) = silent (outcome p (putRecord k bytes) .number)
   rest (drop k) = silent (outcome p (drop k) .number)

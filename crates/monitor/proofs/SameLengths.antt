@@ -26,7 +26,7 @@ held-length cs k t row h q =
 load-puts-nothing : (c : Call) → IsLoad c → (k : ℕ) (cs : List Call) → lastPut k (c ∷ cs) ≡ lastPut k cs
 unfolding lastPut
 load-puts-nothing (load n rules) is k cs = refl
-load-puts-nothing (loadList n rules) is k cs = refl
+load-puts-nothing (loadList n kinds rules) is k cs = refl
 load-puts-nothing (putRow j row) is k cs = absurd is
 load-puts-nothing (putRecord j bytes) is k cs = absurd is
 load-puts-nothing (drop j) is k cs = absurd is

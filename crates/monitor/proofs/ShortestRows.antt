@@ -20,12 +20,12 @@ use Rattle.monitor.proofs.Placed.{ops, rules, sheet-in-force, within-ac
 
 module _ (cs : List Call) (t : Tree) (over : Over (class (ops cs)) t) (within : Within t) where
   abbrev row : List ℕ
-  row = shortestBy (rules cs) (some t)
+  row = shortestBy (ops cs) (rules cs) (some t)
 
   answer-is : shortestOf (panelAfter cs .sheet) (recordOf t) ≡ row
   answer-is =
       shortest-by-rules (panelAfter cs .sheet) (ops cs) (rules cs) (sheet-in-force cs) (recordOf t)
-      ∙ ap (shortestBy (rules cs)) (treeOf-record (class (ops cs)) (brackets (ops cs)) t over)
+      ∙ ap (shortestBy (ops cs) (rules cs)) (treeOf-record (class (ops cs)) (brackets (ops cs)) t over)
 
   answered : (out : List ℕ) → length row ≤ length out → AnsweredBy cs (ask (shortestRow (recordOf t) out)) out row
   unfolding shortestNumber recordNumber
@@ -39,7 +39,7 @@ pub shortest-rows : (cs : List Call) → ShortestRows cs
 shortest-rows cs =
     record {
       shortened = λ t over within. (
-        shortestBy (rules cs) (some t),
+        shortestBy (ops cs) (rules cs) (some t),
         shortest-of-tree (ops cs) (rules cs) (sheet-in-force cs .accepts) t over,
         shortest-fits (ops cs) (rules cs) (sheet-in-force cs .accepts) t over,
         answered cs t over within,

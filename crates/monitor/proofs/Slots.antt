@@ -22,11 +22,12 @@ use Rattle.expression.proofs.Lengths.{record-length}
 use Rattle.expression.proofs.Numbers.{record-accepted, row-accepted}
 use Rattle.disambiguation.specs.Rules.{Rule}
 use Rattle.disambiguation.specs.Conflicts.{ConflictFreeTree}
+use Rattle.sheet.specs.Layout.{operatorsOf}
 use Rattle.sheet.specs.Relation.{closesIn}
 use Rattle.sheet.specs.InForce.{InForce}
 use Rattle.parser.specs.Build.{built}
 use Rattle.parser.proofs.InForceBuilds.{built-conflict-free}
-use Rattle.monitor.specs.Panel.{isEmpty, usesBeyond, rebuilt}
+use Rattle.monitor.specs.Panel.{isEmpty, usesOther, rebuilt}
 use Rattle.monitor.specs.Book.{rowIn, isBlank}
 use Rattle.monitor.proofs.Uses.{count-small, record-not-empty, uses-yield, over-under}
 
@@ -68,13 +69,13 @@ module _ {ops : Operators} {rules : List Rule} {row bytes : List ℕ} {t : Tree}
   pub held-not-empty : isEmpty bytes ≡ false
   held-not-empty = ap isEmpty (h .recorded) ∙ record-not-empty t
 
-  pub held-uses : (m : Operators) → usesBeyond m bytes ≡ usesBeyond m row
-  held-uses m = ap (usesBeyond m) (h .recorded) ∙ uses-yield m t ∙ ap (usesBeyond m) (h .tree .yields)
+  pub held-uses : (n m : Operators) → usesOther n m bytes ≡ usesOther n m row
+  held-uses n m = ap (usesOther n m) (h .recorded) ∙ uses-yield n m t ∙ ap (usesOther n m) (h .tree .yields)
 
   -- under another sheet whose operators it uses
-  module _ (m : Operators) (under : usesBeyond m bytes ≡ false) where
+  module _ (m : Operators) (under : usesOther ops m bytes ≡ false) where
     over-there : Over (class m) t
-    over-there = over-under ops m t (h .tree .over) (ap (usesBeyond m) (sym (h .recorded)) ∙ under)
+    over-there = over-under ops m t (h .tree .over) (ap (usesOther ops m) (sym (h .recorded)) ∙ under)
 
     row-there : rowOf (treeOf (class m) bytes) ≡ row
     row-there = ap (λ x. rowOf (treeOf (class m) x)) (h .recorded) ∙ ap rowOf (treeOf-record (class m) (brackets m) t over-there) ∙ h .tree .yields
@@ -90,7 +91,7 @@ module _ {ops : Operators} {rules : List Rule} {row bytes : List ℕ} {t : Tree}
     rebuilt-there s rules′ k =
         let r : Row m row = row-exactly-if-yielded m row .1 (t, over-there, h .tree .yields) in
         let (u, c, e) = built-conflict-free s m rules′ k row r in
-        (u, record { tree = c; recorded = ap (λ o. built (closesIn s) (rowOf (treeOf (class o) bytes))) (k .operators) ∙ ap (built (closesIn s)) row-there ∙ e; tokens-fit = h .tokens-fit })
+        (u, record { tree = c; recorded = ap (λ o. built o (closesIn s) (rowOf (treeOf (class o) bytes))) (k .operators) ∙ ap (built m (closesIn s)) row-there ∙ e; tokens-fit = h .tokens-fit })
 
 -- ---- of a slot, blank or not
 pub same-empty : (ops : Operators) (rules : List Rule) (slot : Option (List ℕ)) (bytes : List ℕ) → Holds ops rules slot bytes → isEmpty bytes ≡ isBlank slot
@@ -101,20 +102,21 @@ pub same-length : (ops : Operators) (rules : List Rule) (slot : Option (List ℕ
 same-length ops rules none bytes e = ap length e
 same-length ops rules (some row) bytes (t, h) = bytes-long h
 
-pub same-uses : (ops : Operators) (rules : List Rule) (m : Operators) (slot : Option (List ℕ)) (bytes : List ℕ) → Holds ops rules slot bytes → usesBeyond m bytes ≡ usesBeyond m (rowIn slot)
-same-uses ops rules m none bytes e = ap (usesBeyond m) e
-same-uses ops rules m (some row) bytes (t, h) = held-uses h m
+pub same-uses : (ops : Operators) (rules : List Rule) (n m : Operators) (slot : Option (List ℕ)) (bytes : List ℕ) → Holds ops rules slot bytes
+    → usesOther n m bytes ≡ usesOther n m (rowIn slot)
+same-uses ops rules n m none bytes e = ap (usesOther n m) e
+same-uses ops rules n m (some row) bytes (t, h) = held-uses h n m
 
 pub holds-fit : (ops : Operators) (rules : List Rule) (slot : Option (List ℕ)) (bytes : List ℕ) → Holds ops rules slot bytes → length bytes ≤ mostRecordBytes
 holds-fit ops rules none bytes e = omega (arith, ap length e)
 holds-fit ops rules (some row) bytes (t, h) = bytes-fit h
 
 -- ---- a row or a record that is put
-pub put-row-holds : (s : List ℕ) (ops : Operators) (rules : List Rule) → InForce s ops rules → (row : List ℕ) → rowNumber ops row ≡ accepted → Holds ops rules (some row) (built (closesIn s) row)
+pub put-row-holds : (s : List ℕ) (ops : Operators) (rules : List Rule) → InForce s ops rules → (row : List ℕ) → rowNumber ops row ≡ accepted → Holds ops rules (some row) (built (operatorsOf s) (closesIn s) row)
 put-row-holds s ops rules k row e =
     let (fits, r) = row-accepted ops row .0 e in
     let (t, c, q) = built-conflict-free s ops rules k row r in
-    (t, record { tree = c; recorded = q; tokens-fit = fits })
+    (t, record { tree = c; recorded = ap (λ o. built o (closesIn s) row) (k .operators) ∙ q; tokens-fit = fits })
 
 pub put-record-holds : (s : List ℕ) (ops : Operators) (rules : List Rule) → InForce s ops rules → (bytes : List ℕ) → recordNumber ops bytes ≡ accepted
     → Holds ops rules (some (rowOf (treeOf (class ops) bytes))) (rebuilt s bytes)
@@ -123,4 +125,4 @@ put-record-holds s ops rules k bytes e =
     let q = ap rowOf (ap (treeOf (class ops)) (sym (r .recorded)) ∙ treeOf-record (class ops) (brackets ops) t (r .over)) in
     let here = row-exactly-if-yielded ops (rowOf (treeOf (class ops) bytes)) .1 (t, r .over, sym q) in
     let (u, c, p) = built-conflict-free s ops rules k (rowOf (treeOf (class ops) bytes)) here in
-    (u, record { tree = c; recorded = ap (λ o. built (closesIn s) (rowOf (treeOf (class o) bytes))) (k .operators) ∙ p; tokens-fit = rw q (r .tokens-fit) })
+    (u, record { tree = c; recorded = ap (λ o. built o (closesIn s) (rowOf (treeOf (class o) bytes))) (k .operators) ∙ p; tokens-fit = rw q (r .tokens-fit) })

@@ -9,14 +9,13 @@ use mathlib.Core.List.{List, [], _∷_, _++_}
 use lib.ListN.{length}
 use borrow.Author.Tests.{lt-ltb, le-ltb}
 use Rattle.expression.specs.Refusal.{Check, first}
-use Rattle.expression.specs.Token.{operators, class}
+use Rattle.expression.specs.Token.{Operators, operators, class}
 use Rattle.expression.specs.Decode.{treeOf}
 use Rattle.expression.specs.Checks.{shortCheck, recordBytes, rowTokens, rowChecks, recordChecks, recordNumber, buildNumber, repairNumber, yieldNumber}
 use Rattle.expression.proofs.Numbers.{passed-first, first-append, record-numbered}
 use Rattle.disambiguation.specs.Rules.{Rule}
 use Rattle.disambiguation.specs.Below.{allBelow}
-use Rattle.disambiguation.specs.SheetChecks.{ruleBytes}
-use Rattle.disambiguation.proofs.RuleBytes.{rules-back, list-oversize, list-whole}
+use Rattle.disambiguation.specs.SheetChecks.{operatorsIn}
 use Rattle.sheet.specs.InForce.{InForce}
 use Rattle.sheet.proofs.Laws.{fresh-in-force}
 use Rattle.brackets.specs.Shortest.{shortestNumber}
@@ -25,8 +24,8 @@ use Rattle.places.specs.Store.{placeCount, storeBytes, held}
 use Rattle.places.specs.Store as store
 use Rattle.places.proofs.Laws.{held-fresh}
 use Rattle.monitor.specs.Call.{Question, Call, load, loadList, putRow, putRecord, drop, ask, fetchRecord, fetchRow, image, build, repair, judge, yield, operand, shortestRow}
-use Rattle.monitor.specs.Panel.{Panel, fresh, placeCheck, isEmpty, emptyCheck, usesBeyond, sheetChecks}
-use Rattle.monitor.specs.Steps.{ops, loadNumber, putRowNumber, putRecordNumber, dropNumber, fetchRecordNumber, fetchRowNumber, imageNumber, told, reply}
+use Rattle.monitor.specs.Panel.{Panel, fresh, placeCheck, isEmpty, emptyCheck, usesOther, inUseCheck, sheetChecks, listChecks}
+use Rattle.monitor.specs.Steps.{ops, loadNumber, listLoadNumber, putRowNumber, putRecordNumber, dropNumber, fetchRecordNumber, fetchRowNumber, imageNumber, told, reply}
 use Rattle.monitor.specs.Book.{Book, blank, rowIn, isBlank, blankCheck, slotRow, askedNumber, bookNumber}
 use Rattle.monitor.proofs.Slots.{Holds, same-empty, same-length, same-uses, held-accepted, read-back}
 
@@ -80,16 +79,21 @@ module _ (p : Panel) (b : Book) (s : Stands p b) where
   empty-same : (k : ℕ) → k < placeCount → isEmpty (held (p .places) k) ≡ isBlank (b .slots k)
   empty-same k h = same-empty (b .operators) (b .rules) (b .slots k) (held (p .places) k) (s .holds k h)
 
-  load-same : (n : ℕ) (rules : List ℕ) → loadNumber p n rules ≡ bookNumber b (load n rules)
-  unfolding loadNumber
-  load-same n rules =
-      ap (λ x. first (sheetChecks n rules ++ ((not x, 11) ∷ [])))
-      (all-agree placeCount (λ k. not (usesBeyond (operators n) (held (p .places) k))) (λ k. not (usesBeyond (operators n) (slotRow b k)))
-      (λ k h. ap not (same-uses (b .operators) (b .rules) (operators n) (b .slots k) (held (p .places) k) (s .holds k h))))
+  -- 11, of operators that come
+  in-use-same : (new : Operators) → inUseCheck (ops p) new (held (p .places)) ≡ inUseCheck (b .operators) new (slotRow b)
+  in-use-same new =
+      ap (λ old. inUseCheck old new (held (p .places))) same-operators
+      ∙ ap (λ x. (not x, 11))
+      (all-agree placeCount (λ k. not (usesOther (b .operators) new (held (p .places) k))) (λ k. not (usesOther (b .operators) new (slotRow b k)))
+      (λ k h. ap not (same-uses (b .operators) (b .rules) (b .operators) new (b .slots k) (held (p .places) k) (s .holds k h))))
 
-  -- the book gives a list of rules the number of their bytes
-  pub list-same : (n : ℕ) (rules : List Rule) → bookNumber b (load n (ruleBytes rules)) ≡ bookNumber b (loadList n rules)
-  list-same n rules = rw (list-oversize rules, list-whole rules, rules-back rules)
+  load-same : (n : ℕ) (bytes : List ℕ) → loadNumber p n bytes ≡ bookNumber b (load n bytes)
+  unfolding loadNumber
+  load-same n bytes = ap (λ (c : Check). first (sheetChecks n bytes ++ (c ∷ []))) (in-use-same (operatorsIn n bytes))
+
+  list-same : (n : ℕ) (kinds : List ℕ) (rules : List Rule) → listLoadNumber p n kinds rules ≡ bookNumber b (loadList n kinds rules)
+  unfolding listLoadNumber
+  list-same n kinds rules = ap (λ (c : Check). first (listChecks n kinds rules ++ (c ∷ []))) (in-use-same (operators n kinds))
 
   fetch-record-same : (k : ℕ) (out : List ℕ) → fetchRecordNumber p k (length out) ≡ askedNumber b (fetchRecord k out)
   unfolding fetchRecordNumber
@@ -140,8 +144,8 @@ module _ (p : Panel) (b : Book) (s : Stands p b) where
 
   pub same-number : (c : Call) → reply p c .number ≡ bookNumber b c
   unfolding putRowNumber putRecordNumber
-  same-number (load n rules) = load-same n rules
-  same-number (loadList n rules) = load-same n (ruleBytes rules) ∙ list-same n rules
+  same-number (load n bytes) = load-same n bytes
+  same-number (loadList n kinds rules) = list-same n kinds rules
   same-number (putRow k row) = ap (λ o. first (placeCheck k ∷ rowChecks o row)) same-operators
   same-number (putRecord k bytes) = ap (λ o. first (placeCheck k ∷ recordChecks o bytes)) same-operators
   same-number (drop k) = drop-same k

@@ -74,19 +74,19 @@ module _ (sheet places : List ℕ) (k : ℕ) {row before after : List ℕ} {r : 
   row-number-is = a .numbered ∙ build-number (operatorsOf sheet) row (length before) room
 
   pub row-refused : (r .number ≡ 0 → ⊥) → StoresRow sheet places k row (r .number) places
-  row-refused h = record { numbered = row-number-is; stands = unstored (rowNumber (operatorsOf sheet) row) (built (closesIn sheet) row) places k row-number-is h }
+  row-refused h = record { numbered = row-number-is; stands = unstored (rowNumber (operatorsOf sheet) row) (built (operatorsOf sheet) (closesIn sheet) row) places k row-number-is h }
 
   module _ (zero : r .number ≡ 0) where
     pub row-part : r .length ≤ length after
-    row-part = front-inside (built (closesIn sheet) row) before (a .measured) (a .output) zero
+    row-part = front-inside (built (operatorsOf sheet) (closesIn sheet) row) before (a .measured) (a .output) zero
 
     pub row-stored : {places′ : List ℕ} → places′ ≡ stored places k (take (r .length - 0) after) → StoresRow sheet places k row 0 places′
     row-stored e =
         record {
           numbered = sym zero ∙ row-number-is;
           stands =
-              stored-front (rowNumber (operatorsOf sheet) row) (built (closesIn sheet) row) places k row-number-is zero
-              (front-is (built (closesIn sheet) row) before (a .measured) (a .output) zero) e;
+              stored-front (rowNumber (operatorsOf sheet) row) (built (operatorsOf sheet) (closesIn sheet) row) places k row-number-is zero
+              (front-is (built (operatorsOf sheet) (closesIn sheet) row) before (a .measured) (a .output) zero) e;
         }
 
 pub ruleset store-row-ways = (row-refused, row-part, row-stored, needs)
@@ -159,13 +159,13 @@ module _ (sheet places : List ℕ) (k : ℕ) (bytes : List ℕ) where
   unfolding putRowNumber placesAfterRow
   put-row-over h =
       let e : 8 ≡ putRowNumber here k bytes = simp (le-ltb k placeCount h) in
-      record { numbered = e; stands = ap (panel sheet) (unstored (putRowNumber here k bytes) (built (closesIn sheet) bytes) places k e (λ e. omega arith)) }
+      record { numbered = e; stands = ap (panel sheet) (unstored (putRowNumber here k bytes) (built (operatorsOf sheet) (closesIn sheet) bytes) places k e (λ e. omega arith)) }
 
   pub put-row-done : {r : ℕ} {places′ : List ℕ} → k < placeCount → StoresRow sheet places k bytes r places′ → Changes (panel sheet places) (putRow k bytes) r (panel sheet places′)
   unfolding putRowNumber placesAfterRow rowNumber
   put-row-done h w =
       let e : rowNumber (operatorsOf sheet) bytes ≡ putRowNumber here k bytes = simp (lt-ltb k placeCount h) in
-      record { numbered = w .numbered ∙ e; stands = ap (panel sheet) (w .stands ∙ ap (λ x. ifAccepted x (stored places k (built (closesIn sheet) bytes)) places) e) }
+      record { numbered = w .numbered ∙ e; stands = ap (panel sheet) (w .stands ∙ ap (λ x. ifAccepted x (stored places k (built (operatorsOf sheet) (closesIn sheet) bytes)) places) e) }
 
   pub put-record-over : placeCount ≤ k → Changes (panel sheet places) (putRecord k bytes) 8 (panel sheet places)
   unfolding putRecordNumber placesAfterRecord

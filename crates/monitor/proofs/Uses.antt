@@ -1,19 +1,23 @@
 -- Which operators rows, records and trees use, and what other operators make of a tree. Assumes nothing.
-use Prim.Native.Nat.{ℕ, _+_, _≤_}
+use Prim.Native.Nat.{ℕ, _+_, _≤_, _<_}
 use native.Mathlib.Omega.{arith}
 use mathlib.Core.Path.{_≡_, refl, ap, ap₂, sym, _∙_}
-use mathlib.Core.Bool.{Bool, false, not, _&&_, _||_, or-false}
+use mathlib.Core.Bool.{Bool, false, _||_, or-false}
 use mathlib.Core.List.{List, [], _∷_, _++_}
-use lib.Dec.{ltb}
+use lib.Dec.{eqb, ltb}
 use lib.ListN.{length}
-use borrow.Author.Tests.{lt-ltb, ltb-true, not-false}
+use borrow.Author.Tests.{lt-ltb, ltb-true, eqb-true, not-false}
 use Rattle.expression.specs.Lists.{anyHolds, howMany}
 use Rattle.expression.specs.Limits.{mostOperators}
-use Rattle.expression.specs.Token.{Infix, Reading, closing, Operators, class}
-use Rattle.expression.specs.Tree.{Tree, reading, bracket, binary, yield, recordOf, Over}
-use Rattle.expression.proofs.Classes.{class-operator, class-reading, infix-byte, reading-byte}
+use Rattle.expression.specs.Token.{Reading, closing, Operators, kindOf, classOfKind, class}
+use Rattle.expression.specs.Tree.{Tree, reading, bracket, binary, prefix, yield, recordOf, Over}
+use Rattle.expression.proofs.Classes.{class-operator, class-reading, infix-byte, prefix-byte, reading-byte}
 use Rattle.expression.proofs.Tests.{at-most-one, or-middle, both-false, any-append}
-use Rattle.monitor.specs.Panel.{isEmpty, usesBeyond}
+use Rattle.monitor.specs.Panel.{isEmpty, beyond, changed, usesOther}
+
+-- an operator that a new sheet has not, or has as another kind
+abbrev unfit : Operators → Operators → ℕ → Bool
+unfit n m c = beyond m c || changed n m c
 
 -- ---- lists
 pub count-small : (p : ℕ → Bool) (xs : List ℕ) → howMany p xs ≤ length xs
@@ -25,41 +29,41 @@ pub record-not-empty : (t : Tree) → isEmpty (recordOf t) ≡ false
 record-not-empty (reading a) = refl
 record-not-empty (bracket t) = refl
 record-not-empty (binary o l r) = refl
+record-not-empty (prefix p t) = refl
 
 -- ---- a tree's row uses the operators that its record does
-pub uses-yield : (m : Operators) (t : Tree) → usesBeyond m (recordOf t) ≡ usesBeyond m (yield t)
-unfolding usesBeyond
-uses-yield m (reading a) = refl
-uses-yield m (bracket t) =
-    uses-yield m t ∙ sym (any-append (beyond m) (yield t) (closing ∷ []) ∙ or-false (anyHolds (beyond m) (yield t)))
-  where
-    beyond : Operators → ℕ → Bool
-    beyond m c = ltb c mostOperators && not (ltb c (m .count))
-uses-yield m (binary o l r) =
-    ap (λ x. beyond m o || x) (any-append (beyond m) (recordOf l) (recordOf r) ∙ ap₂ _||_ (uses-yield m l) (uses-yield m r))
-    ∙ or-middle (beyond m o) (anyHolds (beyond m) (yield l)) (anyHolds (beyond m) (yield r))
-    ∙ sym (any-append (beyond m) (yield l) (o ∷ yield r))
-  where
-    beyond : Operators → ℕ → Bool
-    beyond m c = ltb c mostOperators && not (ltb c (m .count))
+pub uses-yield : (n m : Operators) (t : Tree) → usesOther n m (recordOf t) ≡ usesOther n m (yield t)
+unfolding usesOther
+uses-yield n m (reading a) = refl
+uses-yield n m (bracket t) =
+    uses-yield n m t ∙ sym (any-append (unfit n m) (yield t) (closing ∷ []) ∙ or-false (anyHolds (unfit n m) (yield t)))
+uses-yield n m (binary o l r) =
+    ap (λ x. unfit n m o || x) (any-append (unfit n m) (recordOf l) (recordOf r) ∙ ap₂ _||_ (uses-yield n m l) (uses-yield n m r))
+    ∙ or-middle (unfit n m o) (anyHolds (unfit n m) (yield l)) (anyHolds (unfit n m) (yield r))
+    ∙ sym (any-append (unfit n m) (yield l) (o ∷ yield r))
+uses-yield n m (prefix p t) = ap (λ x. unfit n m p || x) (uses-yield n m t)
 
--- ---- a tree over some operators that uses none beyond others is over those
-operator-under : (n m : Operators) (c : ℕ) → class n c ≡ Infix → (ltb c mostOperators && not (ltb c (m .count))) ≡ false → class m c ≡ Infix
-operator-under n m c h e =
-    let (small, _) = infix-byte n c h in
-    class-operator m c small (ltb-true c (m .count) (not-false (ltb c (m .count)) (rw (lt-ltb c mostOperators small) at e)))
+-- ---- a tree over some operators that uses none beyond others, and none of another kind, is over those
+operator-under : (n m : Operators) (c : ℕ) → c < mostOperators → c < n .count → unfit n m c ≡ false → class m c ≡ class n c
+operator-under n m c small below e =
+    let (far, other) = both-false (beyond m c) (changed n m c) e in
+    let here : c < m .count = ltb-true c (m .count) (not-false (ltb c (m .count)) (rw (lt-ltb c mostOperators small) at far)) in
+    let same : kindOf n c ≡ kindOf m c = eqb-true (kindOf n c) (kindOf m c) (not-false (eqb (kindOf n c) (kindOf m c)) (rw (lt-ltb c mostOperators small) at other)) in
+    class-operator m c small here ∙ ap classOfKind (sym same) ∙ sym (class-operator n c small below)
 
 reading-under : (n m : Operators) (c : ℕ) → class n c ≡ Reading → class m c ≡ Reading
 reading-under n m c h = let (low, high) = reading-byte n c h in class-reading m c low high
 
-pub over-under : (n m : Operators) (t : Tree) → Over (class n) t → usesBeyond m (recordOf t) ≡ false → Over (class m) t
-unfolding usesBeyond
+pub over-under : (n m : Operators) (t : Tree) → Over (class n) t → usesOther n m (recordOf t) ≡ false → Over (class m) t
+unfolding usesOther
 over-under n m (reading a) h e = reading-under n m a h
 over-under n m (bracket t) h e = over-under n m t h e
 over-under n m (binary o l r) h e =
-    let (p, q) = both-false (beyond o) (anyHolds beyond (recordOf l ++ recordOf r)) e in
-    let (x, y) = both-false (anyHolds beyond (recordOf l)) (anyHolds beyond (recordOf r)) (sym (any-append beyond (recordOf l) (recordOf r)) ∙ q) in
-    (operator-under n m o (h .0) p, over-under n m l (h .1) x, over-under n m r (h .2) y)
-  where
-    beyond : ℕ → Bool
-    beyond c = ltb c mostOperators && not (ltb c (m .count))
+    let (p, q) = both-false (unfit n m o) (anyHolds (unfit n m) (recordOf l ++ recordOf r)) e in
+    let (x, y) = both-false (anyHolds (unfit n m) (recordOf l)) (anyHolds (unfit n m) (recordOf r)) (sym (any-append (unfit n m) (recordOf l) (recordOf r)) ∙ q) in
+    let (small, below) = infix-byte n o (h .0) in
+    (operator-under n m o small below p ∙ h .0, over-under n m l (h .1) x, over-under n m r (h .2) y)
+over-under n m (prefix o t) h e =
+    let (p, q) = both-false (unfit n m o) (anyHolds (unfit n m) (recordOf t)) e in
+    let (small, below) = prefix-byte n o (h .0) in
+    (operator-under n m o small below p ∙ h .0, over-under n m t (h .1) q)

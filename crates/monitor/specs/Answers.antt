@@ -87,8 +87,8 @@ module _ (b : Book) where
     pub part : r .part ≡ []
 
   abbrev pub Rest : Call → Reply → Type 0
-  Rest (load n rules) r = Silent r
-  Rest (loadList n rules) r = Silent r
+  Rest (load n bytes) r = Silent r
+  Rest (loadList n kinds rules) r = Silent r
   Rest (putRow k row) r = Silent r
   Rest (putRecord k bytes) r = Silent r
   Rest (call.drop k) r = Silent r

@@ -13,20 +13,20 @@ use Rattle.expression.specs.Operand.{rowOf}
 use Rattle.expression.specs.Checks.{shortCheck, recordBytes, rowChecks, recordChecks, recordNumber, buildNumber, repairNumber, yieldNumber}
 use Rattle.disambiguation.specs.Rules.{Rule}
 use Rattle.disambiguation.specs.Conflicts.{ConflictFreeTree}
-use Rattle.disambiguation.specs.SheetChecks.{rulesOf}
+use Rattle.disambiguation.specs.SheetChecks.{rulesIn, operatorsIn}
 use Rattle.brackets.specs.Shortest.{shortestBy, shortestNumber}
 use Rattle.places.specs.Store.{slotBytes}
 use Rattle.monitor.specs.Call.{Question, Call, load, loadList, putRow, putRecord, drop, ask, fetchRecord, fetchRow, image, build, repair, judge, yield, operand, shortestRow}
 use Rattle.monitor.specs.Panel.{placeCheck, inUseCheck, sheetChecks, listChecks, ifAccepted}
 
--- n with the rest of what tells the operators, the rules, and the slots, each blank or with one row
+-- n and the kinds, the rules, and the slots, each blank or with one row
 pub record Book : Type 0 where
   pub operators : Operators
   pub rules : List Rule
   pub slots : ℕ → Option (List ℕ)
 
 abbrev pub blank : Book
-blank = record { operators = operators 0; rules = []; slots = λ k. none }
+blank = record { operators = operators 0 []; rules = []; slots = λ k. none }
 
 -- a slot's row; a blank slot has none
 abbrev pub rowIn : Option (List ℕ) → List ℕ
@@ -60,12 +60,12 @@ module _ (b : Book) where
   askedNumber (judge bytes) = recordNumber (b .operators) bytes
   askedNumber (yield bytes out) = yieldNumber (b .operators) bytes (length out)
   askedNumber (operand right bytes) = recordNumber (b .operators) bytes
-  askedNumber (shortestRow bytes out) = shortestNumber (b .operators) bytes (shortestBy (b .rules) (treeOf (class (b .operators)) bytes)) (length out)
+  askedNumber (shortestRow bytes out) = shortestNumber (b .operators) bytes (shortestBy (b .operators) (b .rules) (treeOf (class (b .operators)) bytes)) (length out)
 
   -- and of each call
   abbrev pub bookNumber : Call → ℕ
-  bookNumber (load n rules) = first (sheetChecks n rules ++ (inUseCheck (operators n) slotRow ∷ []))
-  bookNumber (loadList n rules) = first (listChecks n rules ++ (inUseCheck (operators n) slotRow ∷ []))
+  bookNumber (load n bytes) = first (sheetChecks n bytes ++ (inUseCheck (b .operators) (operatorsIn n bytes) slotRow ∷ []))
+  bookNumber (loadList n kinds rules) = first (listChecks n kinds rules ++ (inUseCheck (b .operators) (operators n kinds) slotRow ∷ []))
   bookNumber (putRow k row) = first (placeCheck k ∷ rowChecks (b .operators) row)
   bookNumber (putRecord k bytes) = first (placeCheck k ∷ recordChecks (b .operators) bytes)
   bookNumber (drop k) = first (placeCheck k ∷ blankCheck (b .slots k) ∷ [])
@@ -75,10 +75,10 @@ module _ (b : Book) where
   abbrev pub withSlot : ℕ → Option (List ℕ) → Book
   withSlot k slot = record { operators = b .operators; rules = b .rules; slots = λ j. cond (eqb j k) slot (b .slots j) }
 
-  -- Load: n and the rules become the call's, slots stay. Put of a row: the slot gets the row; of a record: its yield. Drop: the slot goes blank.
+  -- Load: n, the kinds and the rules become the call's, slots stay. Put of a row: the slot gets the row; of a record: its yield. Drop: the slot goes blank.
   abbrev pub entered : Call → Book
-  entered (load n rules) = record { operators = operators n; rules = rulesOf rules; slots = b .slots }
-  entered (loadList n rules) = record { operators = operators n; rules = rules; slots = b .slots }
+  entered (load n bytes) = record { operators = operatorsIn n bytes; rules = rulesIn n bytes; slots = b .slots }
+  entered (loadList n kinds rules) = record { operators = operators n kinds; rules = rules; slots = b .slots }
   entered (putRow k row) = withSlot k (some row)
   entered (putRecord k bytes) = withSlot k (some (rowOf (treeOf (class (b .operators)) bytes)))
   entered (drop k) = withSlot k none

@@ -17,10 +17,10 @@ pub data Question : Type 0 where
   -- docs/REFERENCE.md, section 6
   shortestRow : (bytes : List ℕ) (out : List ℕ) → Question
 
--- All calls. `loadList` is the load whose rules come as a list of records.
+-- All calls. A load's bytes are its kinds and then its rules; `loadList` is the load whose kinds and rules come as two lists.
 pub data Call : Type 0 where
-  load : (n : ℕ) (rules : List ℕ) → Call
-  loadList : (n : ℕ) (rules : List Rule) → Call
+  load : (n : ℕ) (bytes : List ℕ) → Call
+  loadList : (n : ℕ) (kinds : List ℕ) (rules : List Rule) → Call
   putRow : (place : ℕ) (row : List ℕ) → Call
   putRecord : (place : ℕ) (bytes : List ℕ) → Call
   drop : (place : ℕ) → Call
@@ -40,8 +40,8 @@ lentBefore (shortestRow bytes out) = out
 
 -- the same of any call
 abbrev pub lentTo : Call → List ℕ
-lentTo (load n rules) = []
-lentTo (loadList n rules) = []
+lentTo (load n bytes) = []
+lentTo (loadList n kinds rules) = []
 lentTo (putRow k row) = []
 lentTo (putRecord k bytes) = []
 lentTo (drop k) = []

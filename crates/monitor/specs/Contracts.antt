@@ -1,21 +1,26 @@
 -- What the panel's calls promise: the number and the panel after each, and what each question answers, are those of the run. Assumes nothing.
 use Prim.Native.Nat.{ℕ, _-_}
 use mathlib.Core.Path.{_≡_}
-use mathlib.Core.Bool.{Bool}
-use mathlib.Core.List.{List}
+use mathlib.Core.Bool.{Bool, not, _&&_, _||_}
+use mathlib.Core.List.{List, []}
+use lib.Dec.{ltb}
 use lib.ListN.{take, drop}
+use Rattle.expression.specs.Lists.{anyHolds}
+use Rattle.expression.specs.Limits.{mostOperators}
+use Rattle.expression.specs.Token.{operators}
 use Rattle.expression.specs.Checks.{rowNumber, recordNumber}
+use Rattle.disambiguation.specs.Below.{allBelow}
 use Rattle.sheet.specs.Layout.{operatorsOf}
-use Rattle.sheet.specs.Relation.{closesIn}
+use Rattle.sheet.specs.Relation.{bitOf, closesIn}
 use Rattle.record.specs.Operands.{OperandAt}
 use Rattle.record.specs.declared.Answer.{Answer}
 use Rattle.record.specs.declared.Judgement.{Judgement}
 use Rattle.record.specs.declared.operands.Part.{Part}
 use Rattle.parser.specs.Build.{built}
-use Rattle.places.specs.Store.{stored}
+use Rattle.places.specs.Store.{placeCount, held, stored}
 use Rattle.monitor.specs.Call.{Question, Call, ask, judge, operand}
 use Rattle.monitor.specs.Call as call
-use Rattle.monitor.specs.Panel.{Panel, panel, ifAccepted, rebuilt}
+use Rattle.monitor.specs.Panel.{Panel, panel, beyond, ifAccepted, rebuilt}
 use Rattle.monitor.specs.Steps.{after, reply}
 
 -- ---- calls that change the panel
@@ -60,11 +65,20 @@ pub record PlacesOperand (sheet : List ℕ) (right : Bool) (bytes : List ℕ) (r
   pub placed : OperandAt (operatorsOf sheet) right bytes r
   pub found : FindsOperand sheet right bytes (take (r .to - r .from) (drop (r .from) bytes))
 
+-- ---- inside the load
+-- The bytes use an operator that is not below n, or one of a set.
+unfoldable pub usesBy : ℕ → ℕ → List ℕ → Bool
+usesBy n set bytes = anyHolds (λ c. beyond (operators n []) c || (ltb c mostOperators && bitOf set c)) bytes
+
+-- what some place holds does
+unfoldable pub someUse : ℕ → ℕ → List ℕ → Bool
+someUse n set places = not (allBelow placeCount (λ k. not (usesBy n set (held places k))))
+
 -- ---- inside the puts and the load
 -- What is built of a row, or of a record's row, is stored at a place; the places are as they were where it is refused.
 module _ (sheet places : List ℕ) (k : ℕ) where
   abbrev pub afterRow : List ℕ → List ℕ
-  afterRow row = ifAccepted (rowNumber (operatorsOf sheet) row) (stored places k (built (closesIn sheet) row)) places
+  afterRow row = ifAccepted (rowNumber (operatorsOf sheet) row) (stored places k (built (operatorsOf sheet) (closesIn sheet) row)) places
 
   abbrev pub afterRecord : List ℕ → List ℕ
   afterRecord bytes = ifAccepted (recordNumber (operatorsOf sheet) bytes) (stored places k (rebuilt sheet bytes)) places

@@ -5,15 +5,16 @@ use mathlib.Core.Logic.{_⊎_}
 use mathlib.Core.Option.{none, some}
 use mathlib.Core.List.{List, [], _∷_}
 use lib.ListN.{length}
+use lib.ListN as lists
 use Rattle.expression.specs.Limits.{mostOperators, mostRules, mostRuleBytes, bytesOfRule, mostTokens, mostRecordBytes}
 use Rattle.expression.specs.Refusal.{accepted, oversize, torn, stranger, dead, double, noRow, noTree, place, empty, short, inUse}
-use Rattle.expression.specs.Token.{Closing, Meaningless, operators, class}
+use Rattle.expression.specs.Token.{Closing, Meaningless, prefixKind, Operators, operators, kindOf, class}
 use Rattle.expression.specs.Tree.{Tree}
 use Rattle.expression.specs.Tree as tree
 use Rattle.expression.specs.Grammar.{Row}
 use Rattle.disambiguation.specs.Rules.{Rule, priority, right}
 use Rattle.disambiguation.specs.ExactlyOne.{SomeRowHasNone, EveryRowHasOne, SomeRowHasTwo}
-use Rattle.disambiguation.specs.SheetChecks.{rulesOf}
+use Rattle.disambiguation.specs.SheetChecks.{rulesIn, operatorsIn}
 use Rattle.places.specs.Store.{placeCount}
 use Rattle.monitor.specs.Call.{Question, Call, lentBefore, load, loadList, putRow, putRecord, drop, ask, fetchRecord, fetchRow, image, build, repair, judge, yield, operand, shortestRow}
 use Rattle.monitor.specs.Book.{Book}
@@ -31,6 +32,10 @@ Accepted number = number ≡ accepted
 abbrev pub SomeOf : {A : Type 0} → (A → Type 0) → List A → Type 0
 SomeOf P [] = ⊥
 SomeOf P (x ∷ xs) = P x ⊎ SomeOf P xs
+
+-- the kind of an operator is neither 00 nor 01
+abbrev pub StrangeKind : ℕ → Type 0
+StrangeKind kind = prefixKind < kind
 
 -- the kind is not 01 to 03, or an operator is not below n
 abbrev pub StrangeRule : ℕ → Rule → Type 0
@@ -65,14 +70,14 @@ module _ (b : Book) where
       (When ((t : Tree) × Records b bytes t × (mostTokens < length (tree.yield t))) oversize
       Else)))
 
-  -- Rules: 3, a rule's kind or operators; 4, some row of any length has no conflict-free tree; 5, every row has one, and some row two;
-  -- 11, a slot's row uses an operator that is not below n.
-  abbrev pub OfRules : ℕ → List Rule → ℕ → Type 0
-  OfRules n rules =
-      When (SomeOf (StrangeRule n) rules) stranger
-      (When (SomeRowHasNone (operators n) rules) dead
-      (When (EveryRowHasOne (operators n) rules × SomeRowHasTwo (operators n) rules) double
-      (When ((k : ℕ) × (row : List ℕ) × (k < placeCount) × (b .slots k ≡ some row) × SomeOf (λ c. (c < mostOperators) × (n ≤ c)) row) inUse
+  -- A sheet: 3, an operator's kind, or a rule's kind or operators; 4, some row of any length has no conflict-free tree; 5, every row has one, and some row two;
+  -- 11, a slot's row uses an operator that is not below n, or one whose kind changes.
+  abbrev pub OfSheet : Operators → List Rule → ℕ → Type 0
+  OfSheet new rules =
+      When (SomeOf StrangeKind (new .kinds) ⊎ SomeOf (StrangeRule (new .count)) rules) stranger
+      (When (SomeRowHasNone new rules) dead
+      (When (EveryRowHasOne new rules × SomeRowHasTwo new rules) double
+      (When ((k : ℕ) × (row : List ℕ) × (k < placeCount) × (b .slots k ≡ some row) × SomeOf (λ c. (c < mostOperators) × ((new .count ≤ c) ⊎ (kindOf (b .operators) c ≡ kindOf new c → ⊥))) row) inUse
       Accepted)))
 
   abbrev pub MeansAsked : Question → ℕ → Type 0
@@ -86,13 +91,17 @@ module _ (b : Book) where
   MeansAsked (operand right bytes) = OfRecord bytes Accepted
   MeansAsked (shortestRow bytes out) = OfRecord bytes (WithRoom (shortestRow bytes out))
 
-  -- The number of a call is given under its condition, and under nothing else. 1 of a sheet: n over 32, or over 2,048 rules; 2: its bytes end within a rule.
+  -- The number of a call is given under its condition, and under nothing else. 1 of a sheet: n over 32, or over 2,048 rules; 2: fewer than n kinds, or bytes that end within a rule;
+  -- of lists, any number of kinds but n.
   abbrev pub Means : Call → ℕ → Type 0
   Means (load n bytes) =
-      When ((mostOperators < n) ⊎ (mostRuleBytes < length bytes)) oversize
-      (When (length bytes % bytesOfRule ≡ 0 → ⊥) torn
-      (OfRules n (rulesOf bytes)))
-  Means (loadList n rules) = When ((mostOperators < n) ⊎ (mostRules < length rules)) oversize (OfRules n rules)
+      When ((mostOperators < n) ⊎ (mostRuleBytes < length (lists.drop n bytes))) oversize
+      (When ((length bytes < n) ⊎ (length (lists.drop n bytes) % bytesOfRule ≡ 0 → ⊥)) torn
+      (OfSheet (operatorsIn n bytes) (rulesIn n bytes)))
+  Means (loadList n kinds rules) =
+      When ((mostOperators < n) ⊎ (mostRules < length rules)) oversize
+      (When (length kinds ≡ n → ⊥) torn
+      (OfSheet (operators n kinds) rules))
   Means (putRow k row) = AtPlace k (OfRow row Accepted)
   Means (putRecord k bytes) = AtPlace k (OfRecord bytes Accepted)
   Means (drop k) = AtPlace k (NotBlank k Accepted)

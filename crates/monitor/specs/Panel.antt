@@ -1,19 +1,19 @@
 -- A panel value, and the checks and the rebuilding that its calls share. Assumes nothing.
 use Prim.Native.Nat.{ℕ, zero, suc}
-use mathlib.Core.Bool.{Bool, true, false, not, _&&_, cond}
+use mathlib.Core.Bool.{Bool, true, false, not, _&&_, _||_, cond}
 use mathlib.Core.List.{List, [], _∷_, _++_}
 use lib.Dec.{eqb, ltb}
 use Rattle.expression.specs.Lists.{anyHolds}
 use Rattle.expression.specs.Limits.{mostOperators}
 use Rattle.expression.specs.Refusal.{Check, accepted, place, empty, inUse}
-use Rattle.expression.specs.Token.{Operators, operators, class}
+use Rattle.expression.specs.Token.{Operators, operators, kindOf, class}
 use Rattle.expression.specs.Decode.{treeOf}
 use Rattle.expression.specs.Operand.{rowOf}
 use Rattle.expression.specs.Checks.{recordNumber}
 use Rattle.disambiguation.specs.Rules.{Rule, L, R}
 use Rattle.disambiguation.specs.Below.{allBelow}
 use Rattle.disambiguation.specs.Verdict.{ruleChecks}
-use Rattle.disambiguation.specs.SheetChecks.{rulesOf, orderChecks, listOrderChecks}
+use Rattle.disambiguation.specs.SheetChecks.{rulesIn, operatorsIn, orderChecks, listOrderChecks}
 use Rattle.sheet.specs.Layout.{operatorsOf}
 use Rattle.sheet.specs.Layout as layout
 use Rattle.sheet.specs.Relation.{closesIn}
@@ -44,21 +44,28 @@ isEmpty (x ∷ xs) = false
 abbrev pub emptyCheck : List ℕ → Check
 emptyCheck bytes = (isEmpty bytes, empty)
 
--- the bytes of a row or a record use an operator that is not below n
-unfoldable pub usesBeyond : Operators → List ℕ → Bool
-usesBeyond ops bytes = anyHolds (λ c. ltb c mostOperators && not (ltb c (ops .count))) bytes
+-- an operator byte that is not below n, and one whose kind changes
+abbrev pub beyond : Operators → ℕ → Bool
+beyond new c = ltb c mostOperators && not (ltb c (new .count))
+
+abbrev pub changed : Operators → Operators → ℕ → Bool
+changed old new c = ltb c mostOperators && not (eqb (kindOf old c) (kindOf new c))
+
+-- the bytes of a row or a record use such an operator
+unfoldable pub usesOther : Operators → Operators → List ℕ → Bool
+usesOther old new bytes = anyHolds (λ c. beyond new c || changed old new c) bytes
 
 -- 11: what some place holds does
-abbrev pub inUseCheck : Operators → (ℕ → List ℕ) → Check
-inUseCheck ops holds = (not (allBelow placeCount (λ k. not (usesBeyond ops (holds k)))), inUse)
+abbrev pub inUseCheck : Operators → Operators → (ℕ → List ℕ) → Check
+inUseCheck old new holds = (not (allBelow placeCount (λ k. not (usesOther old new (holds k)))), inUse)
 
 -- 1, 2, 3, 4, 5 of a sheet
 abbrev pub sheetChecks : ℕ → List ℕ → List Check
-sheetChecks n bytes = orderChecks n bytes ++ ruleChecks (operators n) (L (rulesOf bytes)) (R (rulesOf bytes))
+sheetChecks n bytes = orderChecks n bytes ++ ruleChecks (operatorsIn n bytes) (L (rulesIn n bytes)) (R (rulesIn n bytes))
 
--- 1, 3, 4, 5 of a sheet whose rules come as a list
-abbrev pub listChecks : ℕ → List Rule → List Check
-listChecks n rules = listOrderChecks n rules ++ ruleChecks (operators n) (L rules) (R rules)
+-- the same of a sheet whose kinds and rules come as lists
+abbrev pub listChecks : ℕ → List ℕ → List Rule → List Check
+listChecks n kinds rules = listOrderChecks n kinds rules ++ ruleChecks (operators n kinds) (L rules) (R rules)
 
 -- x, where the number is 0, and else y
 abbrev pub ifAccepted : {A : Type 0} → ℕ → A → A → A
@@ -66,7 +73,7 @@ ifAccepted number x y = cond (eqb number accepted) x y
 
 -- the record of the row of a record, built under a sheet
 abbrev pub rebuilt : List ℕ → List ℕ → List ℕ
-rebuilt sheet bytes = built (closesIn sheet) (rowOf (treeOf (class (operatorsOf sheet)) bytes))
+rebuilt sheet bytes = built (operatorsOf sheet) (closesIn sheet) (rowOf (treeOf (class (operatorsOf sheet)) bytes))
 
 -- the places below k rebuilt, each where it holds a tree
 unfoldable pub rebuiltTo : List ℕ → ℕ → List ℕ → List ℕ

@@ -18,7 +18,7 @@ use Rattle.disambiguation.specs.Patterns.{Patterns}
 use Rattle.disambiguation.specs.Conflicts.{conflictCount, ConflictFreeTree}
 use Rattle.disambiguation.specs.ExactlyOne.{SomeRowHasNone, SomeRowHasTwo, EveryRowHasExactlyOne}
 use Rattle.disambiguation.specs.LeftToRight.{finish}
-use Rattle.disambiguation.specs.SheetChecks.{rulesOf, InOrder, ListInOrder}
+use Rattle.disambiguation.specs.SheetChecks.{rulesIn, operatorsIn, InOrder, ListInOrder}
 use Rattle.sheet.specs.InForce.{InForce}
 use Rattle.parser.specs.FromTheLeft.{state, FromTheLeft}
 use Rattle.brackets.specs.SameMeaning.{ShortestRow}
@@ -90,18 +90,19 @@ module _ (cs : List Call) where
     pub same-lengths : (c : Call) → IsLoad c → (k : ℕ) (t u : Tree) → HoldsTree cs k t → HoldsTree (c ∷ cs) k u → length (recordOf t) ≡ length (recordOf u)
     -- A sheet in order is refused for its rules exactly when some row of any length has no conflict-free tree under it, or two or more: in bytes,
     pub refused : (m : ℕ) (bytes : List ℕ) → InOrder m bytes
-        → ForItsRules (answer cs (load m bytes) .number) ↔ (SomeRowHasNone (operators m) (rulesOf bytes) ⊎ SomeRowHasTwo (operators m) (rulesOf bytes))
-    -- and with its rules as a list of records.
-    pub refused-list : (m : ℕ) (given : List Rule) → ListInOrder m given
-        → ForItsRules (answer cs (loadList m given) .number) ↔ (SomeRowHasNone (operators m) given ⊎ SomeRowHasTwo (operators m) given)
+        → ForItsRules (answer cs (load m bytes) .number) ↔ (SomeRowHasNone (operatorsIn m bytes) (rulesIn m bytes) ⊎ SomeRowHasTwo (operatorsIn m bytes) (rulesIn m bytes))
+    -- and with its kinds and rules as lists.
+    pub refused-list : (m : ℕ) (kinds : List ℕ) (given : List Rule) → ListInOrder m kinds given
+        → ForItsRules (answer cs (loadList m kinds given) .number) ↔ (SomeRowHasNone (operators m kinds) given ⊎ SomeRowHasTwo (operators m kinds) given)
     -- Two trees over the operators of the sheet in force, within the lengths, repair to the same bytes exactly when their rows are the same.
     pub same-bytes : (t u : Tree) → Over (class ops) t → Over (class ops) u → Within t → Within u
         → ((bytes : List ℕ) × RepairsTo cs t bytes × RepairsTo cs u bytes) ↔ (tree.yield t ≡ tree.yield u)
 
   -- W1, rows with no spare brackets. Within the lengths, and with room for the answer,
   pub record ShortestRows : Type 0 where
-    -- a record is answered by a row over the sheet's operators that means the same as its tree's row; every row of any length that means the same has at least as many
-    -- tokens, and one with as many is that row. It has no more tokens than the tree's row.
+    -- a record is answered by a row over the sheet's operators that is made from the inside out and means the same as its tree's row. No pair of its brackets can be dropped
+    -- without altering the meaning; every row of any length that means the same has at least as many tokens, and where no token is a prefix operator one with as many is
+    -- that row. It has no more tokens than the tree's row.
     pub shortened : (t : Tree) → Over (class ops) t → Within t
         → (row : List ℕ) × ShortestRow ops rules (tree.yield t) row × (length row ≤ length (tree.yield t))
         × ((out : List ℕ) → length row ≤ length out → AnsweredBy cs (ask (shortestRow (recordOf t) out)) out row)
@@ -119,7 +120,7 @@ module _ (cs : List Call) where
         → (u : Tree) × (finish (state (panelAfter cs .sheet) ops (tree.yield t)) ≡ some u)
         × ((out : List ℕ) → length (recordOf u) ≤ length out → AnsweredBy cs (ask (repair (recordOf t) out)) out (recordOf u))
 
--- W4, chains of priority. Of any rules, which patterns they exclude: both where one or more priority rules lead from the one operator to the other, and else by left and
--- right as written. Demands 2 and 3 and the requests above speak of conflicts by these patterns.
+-- W4, chains of priority. Of any rules, which patterns they exclude: both where one or more priority rules lead from the one operator to the other, whatever their kinds, and else
+-- by left and right as written. With W5, what an operator sees of an operand is said in `Edges`. Demands 2 and 3 and the requests above speak of conflicts by these patterns.
 abbrev pub ChainedPatterns : Type 0
 ChainedPatterns = (rules : List Rule) → Patterns rules

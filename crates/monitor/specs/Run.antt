@@ -14,7 +14,7 @@ use Rattle.expression.specs.Tree as tree
 use Rattle.expression.specs.Decode.{treeOf}
 use Rattle.expression.specs.Operand.{rowOf}
 use Rattle.disambiguation.specs.Rules.{Rule}
-use Rattle.disambiguation.specs.SheetChecks.{rulesOf}
+use Rattle.disambiguation.specs.SheetChecks.{rulesIn, operatorsIn}
 use Rattle.places.specs.Store.{imageOf}
 use Rattle.monitor.specs.Call.{Call, load, loadList, putRow, putRecord, drop, ask, fetchRecord, fetchRow, image, repair, Reply}
 use Rattle.monitor.specs.Panel.{Panel, fresh}
@@ -48,9 +48,9 @@ abbrev pub ruledBy : Operators → List Rule → Rules
 ruledBy ops rules = record { operators = ops; rules = rules }
 
 unfoldable pub inForce : List Call → Rules
-inForce [] = ruledBy (operators 0) []
-inForce (load n rules ∷ cs) = cond (isAccepted cs (load n rules)) (ruledBy (operators n) (rulesOf rules)) (inForce cs)
-inForce (loadList n rules ∷ cs) = cond (isAccepted cs (loadList n rules)) (ruledBy (operators n) rules) (inForce cs)
+inForce [] = ruledBy (operators 0 []) []
+inForce (load n bytes ∷ cs) = cond (isAccepted cs (load n bytes)) (ruledBy (operatorsIn n bytes) (rulesIn n bytes)) (inForce cs)
+inForce (loadList n kinds rules ∷ cs) = cond (isAccepted cs (loadList n kinds rules)) (ruledBy (operators n kinds) rules) (inForce cs)
 inForce (putRow k row ∷ cs) = inForce cs
 inForce (putRecord k bytes ∷ cs) = inForce cs
 inForce (drop k ∷ cs) = inForce cs
@@ -59,11 +59,11 @@ inForce (ask q ∷ cs) = inForce cs
 -- The row, or the record's row, of the last accepted put at the place k; none where there was no such put, or a drop there was accepted since.
 unfoldable pub lastPut : ℕ → List Call → Option (List ℕ)
 lastPut k [] = none
-lastPut k (loadList n rules ∷ cs) = lastPut k cs
+lastPut k (loadList n kinds rules ∷ cs) = lastPut k cs
 lastPut k (putRow j row ∷ cs) = cond (isAccepted cs (putRow j row) && eqb k j) (some row) (lastPut k cs)
 lastPut k (putRecord j bytes ∷ cs) = cond (isAccepted cs (putRecord j bytes) && eqb k j) (some (rowOf (treeOf (class (inForce cs .operators)) bytes))) (lastPut k cs)
 lastPut k (drop j ∷ cs) = cond (isAccepted cs (drop j) && eqb k j) none (lastPut k cs)
-lastPut k (load n rules ∷ cs) = lastPut k cs
+lastPut k (load n bytes ∷ cs) = lastPut k cs
 lastPut k (ask q ∷ cs) = lastPut k cs
 
 -- the statement holds of each element of a list, with those before it: they follow it in the list
@@ -73,8 +73,8 @@ Each P (c ∷ cs) = P cs c × Each P cs
 
 -- a load in either form
 abbrev pub IsLoad : Call → Type 0
-IsLoad (load n rules) = Unit {0}
-IsLoad (loadList n rules) = Unit {0}
+IsLoad (load n bytes) = Unit {0}
+IsLoad (loadList n kinds rules) = Unit {0}
 IsLoad (putRow k row) = ⊥
 IsLoad (putRecord k bytes) = ⊥
 IsLoad (drop k) = ⊥

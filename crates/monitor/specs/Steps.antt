@@ -8,7 +8,8 @@ use Rattle.expression.specs.Token.{Operators, operators, class}
 use Rattle.expression.specs.Decode.{treeOf}
 use Rattle.expression.specs.Operand.{rowOf, operandPart}
 use Rattle.expression.specs.Checks.{shortCheck, rowTokens, rowChecks, recordChecks, recordNumber, buildNumber, repairNumber, yieldNumber}
-use Rattle.disambiguation.specs.SheetChecks.{rulesOf, ruleBytes}
+use Rattle.disambiguation.specs.Rules.{Rule}
+use Rattle.disambiguation.specs.SheetChecks.{kindsIn, rulesIn, operatorsIn}
 use Rattle.sheet.specs.Layout.{operatorsOf}
 use Rattle.sheet.specs.Relation.{closesIn}
 use Rattle.sheet.specs.Loading.{sheetOf}
@@ -17,7 +18,7 @@ use Rattle.parser.specs.Build.{built}
 use Rattle.brackets.specs.Shortest.{shortestOf, shortestNumber}
 use Rattle.places.specs.Store.{placeCount, slotBytes, held, imageOf, stored}
 use Rattle.monitor.specs.Call.{Question, Call, lentTo, load, loadList, putRow, putRecord, drop, ask, fetchRecord, fetchRow, image, build, repair, judge, yield, operand, shortestRow, Reply}
-use Rattle.monitor.specs.Panel.{Panel, panel, placeCheck, emptyCheck, inUseCheck, sheetChecks, ifAccepted, rebuilt, rebuiltTo}
+use Rattle.monitor.specs.Panel.{Panel, panel, placeCheck, emptyCheck, inUseCheck, sheetChecks, listChecks, ifAccepted, rebuilt, rebuiltTo}
 
 -- What a call gives: its number; accepted, the bytes that it writes into its lent output; a judge's count; an operand's part.
 pub record Outcome : Type 0 where
@@ -38,7 +39,10 @@ module _ (p : Panel) where
 
   -- The numbers.
   unfoldable pub loadNumber : ℕ → List ℕ → ℕ
-  loadNumber n rules = first (sheetChecks n rules ++ (inUseCheck (operators n) (held (p .places)) ∷ []))
+  loadNumber n bytes = first (sheetChecks n bytes ++ (inUseCheck ops (operatorsIn n bytes) (held (p .places)) ∷ []))
+
+  unfoldable pub listLoadNumber : ℕ → List ℕ → List Rule → ℕ
+  listLoadNumber n kinds rules = first (listChecks n kinds rules ++ (inUseCheck ops (operators n kinds) (held (p .places)) ∷ []))
 
   unfoldable pub putRowNumber : ℕ → List ℕ → ℕ
   putRowNumber k row = first (placeCheck k ∷ rowChecks ops row)
@@ -61,14 +65,11 @@ module _ (p : Panel) where
   imageNumber k room = first (placeCheck k ∷ shortCheck slotBytes room ∷ [])
 
   -- The panel after a call that changes it.
-  unfoldable pub sheetAfter : ℕ → List ℕ → List ℕ
-  sheetAfter n rules = ifAccepted (loadNumber n rules) (sheetOf n (rulesOf rules)) (p .sheet)
-
-  unfoldable pub placesAfterLoad : ℕ → List ℕ → List ℕ
-  placesAfterLoad n rules = ifAccepted (loadNumber n rules) (rebuiltTo (sheetOf n (rulesOf rules)) placeCount (p .places)) (p .places)
+  unfoldable pub afterLoad : ℕ → ℕ → List ℕ → List Rule → Panel
+  afterLoad number n kinds rules = ifAccepted number (panel (sheetOf n kinds rules) (rebuiltTo (sheetOf n kinds rules) placeCount (p .places))) p
 
   unfoldable pub placesAfterRow : ℕ → List ℕ → List ℕ
-  placesAfterRow k row = ifAccepted (putRowNumber k row) (stored (p .places) k (built (closesIn (p .sheet)) row)) (p .places)
+  placesAfterRow k row = ifAccepted (putRowNumber k row) (stored (p .places) k (built ops (closesIn (p .sheet)) row)) (p .places)
 
   unfoldable pub placesAfterRecord : ℕ → List ℕ → List ℕ
   placesAfterRecord k bytes = ifAccepted (putRecordNumber k bytes) (stored (p .places) k (rebuilt (p .sheet) bytes)) (p .places)
@@ -79,10 +80,10 @@ module _ (p : Panel) where
   abbrev pub withPlaces : List ℕ → Panel
   withPlaces places = panel (p .sheet) places
 
-  -- A load with a list of rules is the load of their bytes; a question changes nothing.
+  -- A question changes nothing.
   abbrev pub after : Call → Panel
-  after (load n rules) = panel (sheetAfter n rules) (placesAfterLoad n rules)
-  after (loadList n rules) = panel (sheetAfter n (ruleBytes rules)) (placesAfterLoad n (ruleBytes rules))
+  after (load n bytes) = afterLoad (loadNumber n bytes) n (kindsIn n bytes) (rulesIn n bytes)
+  after (loadList n kinds rules) = afterLoad (listLoadNumber n kinds rules) n kinds rules
   after (putRow k row) = withPlaces (placesAfterRow k row)
   after (putRecord k bytes) = withPlaces (placesAfterRecord k bytes)
   after (drop k) = withPlaces (placesAfterDrop k)
@@ -93,7 +94,7 @@ module _ (p : Panel) where
   told (fetchRecord k out) = answered (fetchRecordNumber k (length out)) (held (p .places) k)
   told (fetchRow k out) = answered (fetchRowNumber k (length out)) (rowOf (treeOf (class ops) (held (p .places) k)))
   told (image k out) = answered (imageNumber k (length out)) (imageOf (held (p .places) k))
-  told (build row out) = answered (buildNumber ops row (length out)) (built (closesIn (p .sheet)) row)
+  told (build row out) = answered (buildNumber ops row (length out)) (built ops (closesIn (p .sheet)) row)
   told (repair bytes out) = answered (repairNumber ops bytes (length out)) (rebuilt (p .sheet) bytes)
   told (judge bytes) = record { number = recordNumber ops bytes; answer = []; count = judgement (p .sheet) bytes .count; part = [] }
   told (yield bytes out) = answered (yieldNumber ops bytes (length out)) (rowOf (treeOf (class ops) bytes))
@@ -102,8 +103,8 @@ module _ (p : Panel) where
 
   -- and to all calls.
   abbrev pub outcome : Call → Outcome
-  outcome (load n rules) = numbered (loadNumber n rules)
-  outcome (loadList n rules) = numbered (loadNumber n (ruleBytes rules))
+  outcome (load n bytes) = numbered (loadNumber n bytes)
+  outcome (loadList n kinds rules) = numbered (listLoadNumber n kinds rules)
   outcome (putRow k row) = numbered (putRowNumber k row)
   outcome (putRecord k bytes) = numbered (putRecordNumber k bytes)
   outcome (drop k) = numbered (dropNumber k)

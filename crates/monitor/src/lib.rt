@@ -18,21 +18,21 @@ mod storing;
 // The count of places, as a caller's number is compared with it.
 const PLACE_COUNT: u32 = limits::PLACE_COUNT as u32;
 
-// The sheet of n operators and the rules takes the old one's place, and every held tree becomes the conflict-free tree of its row.
+// The sheet of n operators, their kinds and the rules takes the old one's place, and every held tree becomes the conflict-free tree of its row.
 pub fn load(
     sheet: &mut [u32; SHEET_WORDS],
     places: &mut [u8; STORE_BYTES],
     n: u32,
-    rules: &[u8],
+    bytes: &[u8],
 ) -> u8
-    ensures { λ r. ⌜ Changes (panel (now (sheet .entry)) (now (places .entry))) (load n (now (rules .entry))) r (panel (now (sheet .exit)) (now (places .exit))) ⌝ }
+    ensures { λ r. ⌜ Changes (panel (now (sheet .entry)) (now (places .entry))) (load n (now (bytes .entry))) r (panel (now (sheet .exit)) (now (places .exit))) ⌝ }
 {
     let mut new = [0u32; SHEET_WORDS];
-    let number = sheet::load(&mut new, n, rules);
+    let number = sheet::load(&mut new, n, bytes);
     if number != refusal::ACCEPTED {
         return number;
     }
-    if in_use::in_use(&new, places) {
+    if in_use::in_use(sheet, &new, places) {
         return refusal::IN_USE;
     }
     storing::rebuild_all(&new, places);

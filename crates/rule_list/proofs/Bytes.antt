@@ -1,24 +1,20 @@
--- What the buffer holds after all records is their rules' bytes, so the load of what is written is the load of the list. Assumes nothing.
+-- What the buffer holds after all records, past the room for the kinds, is their rules' bytes, so the load of what is written is the load of the list. Assumes nothing.
 use Prim.Native.Nat.{ℕ, zero, suc, _+_, _*_, _<_, _≤_}
 use native.Mathlib.Nat.{le-refl}
 use native.Mathlib.Omega.{arith}
-use mathlib.Core.Path.{_≡_, refl, sym, ap, subst, _∙_}
-use mathlib.Core.Bool.{or-true}
+use mathlib.Core.Path.{_≡_, refl, sym, ap, _∙_}
 use mathlib.Core.List.{List, [], _∷_, _++_}
-use lib.Dec.{ltb}
-use lib.ListN.{length, getD, set, take, length-set}
-use lib.Seq.{take-suc, take-suc-set, take-length}
-use borrow.Author.Tests.{lt-ltb, ne-eqb}
-use Rattle.expression.specs.Limits.{mostOperators, mostRules, mostRuleBytes}
+use lib.ListN.{length, getD, set, take, drop, length-set, length-drop}
+use lib.Seq.{take-suc, take-suc-set, take-length, drop-set-add}
+use Rattle.expression.specs.Limits.{mostOperators, mostRules}
 use Rattle.expression.specs.Refusal.{oversize}
 use Rattle.disambiguation.specs.SheetChecks.{ruleBytes}
-use Rattle.disambiguation.proofs.RuleBytes.{length-ruleBytes}
-use Rattle.monitor.specs.Call.{load, loadList}
+use Rattle.monitor.specs.Call.{loadList}
 use Rattle.monitor.specs.Panel.{Panel}
-use Rattle.monitor.specs.Steps.{loadNumber, sheetAfter, placesAfterLoad}
 use Rattle.monitor.specs.Contracts.{Changes}
-use Rattle.rule_list.specs.Records.{rulesIn, putAt}
+use Rattle.rule_list.specs.Records.{rulesIn, bufferBytes, putAt, LoadsList}
 use Rattle.rule_list.specs.declared.Rule.{Rule}
+use Rattle.rule_list.proofs.Refusals.{over-rules}
 
 -- what is read past a list's end: no walk does
 abbrev pub noRule : Rule
@@ -52,21 +48,33 @@ ends-in l p a b c h =
     ∙ ap (λ (s : List ℕ). s ++ (c ∷ []))
     (up-to (set l p a) (p + 1) b (p + 2) (omega arith) (omega (arith, h, length-set l p a)) ∙ ap (λ (s : List ℕ). s ++ (b ∷ [])) (up-to l p a (p + 1) (omega arith) (omega (arith, h))))
 
+-- a byte written past the room for the kinds
+drop-set : (l : List ℕ) (at k a : ℕ) → at ≡ mostOperators + k → drop mostOperators (set l at a) ≡ set (drop mostOperators l) k a
+drop-set l at k a e = ap (λ (j : ℕ). drop mostOperators (set l j a)) e ∙ drop-set-add mostOperators l k a
+
+drop-put-at : (l : List ℕ) (i : ℕ) (r : Rule) → drop mostOperators (putAt l i r) ≡ set (set (set (drop mostOperators l) (i * 3) (r .kind)) (i * 3 + 1) (r .first)) (i * 3 + 2) (r .second)
+drop-put-at l i r =
+    let at : ℕ = mostOperators + i * 3 in
+    drop-set (set (set l at (r .kind)) (at + 1) (r .first)) (at + 2) (i * 3 + 2) (r .second) (omega arith)
+    ∙ ap (λ (s : List ℕ). set s (i * 3 + 2) (r .second))
+    (drop-set (set l at (r .kind)) (at + 1) (i * 3 + 1) (r .first) (omega arith) ∙ ap (λ (s : List ℕ). set s (i * 3 + 1) (r .first)) (drop-set l at (i * 3) (r .kind) refl))
+
 last-rule : (list : List Rule) (r : Rule) → ruleBytes (rulesIn (list ++ (r ∷ []))) ≡ ((ruleBytes (rulesIn list) ++ (r .kind ∷ [])) ++ (r .first ∷ [])) ++ (r .second ∷ [])
 unfolding ruleBytes rulesIn
 last-rule [] r = refl
 last-rule (x ∷ xs) r = ap (λ (s : List ℕ). x .kind ∷ x .first ∷ x .second ∷ s) (last-rule xs r)
 
-module _ (list : List Rule) (bytes : List ℕ) (size : length bytes ≡ mostRuleBytes) (few : length list ≤ mostRules) where
+module _ (list : List Rule) (bytes : List ℕ) (size : length bytes ≡ bufferBytes) (few : length list ≤ mostRules) where
   -- the first k records are written
-  written-to : (k : ℕ) → k ≤ length list → take (k * 3) (writtenTo list k bytes) ≡ ruleBytes (rulesIn (take k list))
+  written-to : (k : ℕ) → k ≤ length list → take (k * 3) (drop mostOperators (writtenTo list k bytes)) ≡ ruleBytes (rulesIn (take k list))
   unfolding ruleBytes rulesIn
   written-to zero h = refl
   written-to (suc k) h =
       let r : Rule = getD list k noRule in
-      let before : List ℕ = writtenTo list k bytes in
-      ap (λ (m : ℕ). take m (putAt before k r)) three-more
-      ∙ ends-in before (k * 3) (r .kind) (r .first) (r .second) (omega (arith, length-writtenTo list k bytes))
+      let before : List ℕ = drop mostOperators (writtenTo list k bytes) in
+      ap (λ (m : ℕ). take m (drop mostOperators (putAt (writtenTo list k bytes) k r))) three-more
+      ∙ ap (take (k * 3 + 3)) (drop-put-at (writtenTo list k bytes) k r)
+      ∙ ends-in before (k * 3) (r .kind) (r .first) (r .second) (omega (arith, length-drop mostOperators (writtenTo list k bytes), length-writtenTo list k bytes))
       ∙ ap (λ (s : List ℕ). ((s ++ (r .kind ∷ [])) ++ (r .first ∷ [])) ++ (r .second ∷ [])) (written-to k (omega arith))
       ∙ sym (last-rule (take k list) r)
       ∙ ap (λ (l : List Rule). ruleBytes (rulesIn l)) (sym (take-suc list k noRule h))
@@ -74,27 +82,17 @@ module _ (list : List Rule) (bytes : List ℕ) (size : length bytes ≡ mostRule
       three-more : suc k * 3 ≡ k * 3 + 3
       three-more = omega arith
 
-  -- All records written: the buffer begins with their rules' bytes.
-  written-bytes : take (length list * 3) (writtenTo list (length list) bytes) ≡ ruleBytes (rulesIn list)
+  -- All records written: past the room for the kinds the buffer begins with their rules' bytes.
+  written-bytes : take (length list * 3) (drop mostOperators (writtenTo list (length list) bytes)) ≡ ruleBytes (rulesIn list)
   written-bytes = written-to (length list) (le-refl (length list)) ∙ ap (λ (l : List Rule). ruleBytes (rulesIn l)) (take-length list)
 
 -- ---- the load
-module _ (p : Panel) (n : ℕ) (list : List Rule) where
-  refused : mostRules < length list → loadNumber p n (ruleBytes (rulesIn list)) ≡ oversize
-  unfolding loadNumber
-  refused many =
-      rw (lt-ltb mostRuleBytes (length (ruleBytes (rulesIn list))) (omega (arith, length-ruleBytes (rulesIn list), length-rulesIn list)), or-true (ltb mostOperators n))
-
+module _ (p : Panel) (n : ℕ) (kinds : List ℕ) (list : List Rule) where
   -- Over the most records is refused as too large, and nothing changes.
-  pub list-over : mostRules < length list → Changes p (loadList n (rulesIn list)) oversize p
-  unfolding sheetAfter placesAfterLoad
-  list-over many =
-      let kept = ne-eqb (loadNumber p n (ruleBytes (rulesIn list))) 0 (λ f. absurd (omega (arith, f, refused many))) in
-      record { numbered = sym (refused many); stands = rw kept }
+  pub list-over : mostRules < length list → Changes p (loadList n kinds (rulesIn list)) oversize p
+  list-over many = over-rules p n kinds (rulesIn list) (omega (arith, many, length-rulesIn list))
 
   -- The load of the records written is the load with the list.
-  pub list-loads : (bytes : List ℕ) {r : ℕ} {later : Panel} → length bytes ≡ mostRuleBytes → length list ≤ mostRules
-      → Changes p (load n (take (length list * 3) (writtenTo list (length list) bytes))) r later → Changes p (loadList n (rulesIn list)) r later
-  list-loads bytes {r} {later} size few c =
-      let d : Changes p (load n (ruleBytes (rulesIn list))) r later = subst (λ (s : List ℕ). Changes p (load n s) r later) (written-bytes list bytes size few) c in
-      record { numbered = d .numbered; stands = d .stands }
+  pub list-loads : (bytes : List ℕ) {r : ℕ} {later : Panel} → length bytes ≡ bufferBytes → length list ≤ mostRules
+      → LoadsList p n kinds (writtenTo list (length list) bytes) (length list) r later → Changes p (loadList n kinds (rulesIn list)) r later
+  list-loads bytes size few loads = loads .changes (rulesIn list) (written-bytes list bytes size few)

@@ -1,3 +1,4 @@
+pub mod Refusals
 pub mod WrittenWays
 pub mod Bytes
 pub mod Lent

@@ -1,15 +1,72 @@
--- What loading the rules whose bytes are written gives. Assumes nothing.
-use Prim.Native.Nat.{ℕ, _-_}
-use native.Mathlib.Nat.{sub-zero}
-use mathlib.Core.List.{List}
-use lib.ListN.{take}
+-- What each way through `load_written` gives. Assumes nothing.
+use Prim.Native.Nat.{ℕ, _+_, _-_, _*_, _<_, _≤_}
+use native.Mathlib.Omega.{arith}
+use mathlib.Core.Path.{_≡_, ap, subst, _∙_}
+use mathlib.Core.List.{List, _++_, append-nil}
+use lib.ListN.{length, take, drop, length-take, drop-of-length-le}
+use lib.Seq.{take-length, take-append-add, drop-at, length-take-le}
 use borrow.Author.Needs.{needs}
+use borrow.Rule.Slice.PartMut.{midOf, postOf, putMid, mid-len, post-is}
+use Rattle.expression.specs.Limits.{mostOperators, mostRules}
+use Rattle.expression.specs.Refusal.{oversize, torn}
+use Rattle.disambiguation.specs.SheetChecks.{ruleBytes}
+use Rattle.disambiguation.proofs.RuleBytes.{length-ruleBytes}
 use Rattle.monitor.specs.Call.{load}
 use Rattle.monitor.specs.Panel.{Panel}
 use Rattle.monitor.specs.Contracts.{Changes}
+use Rattle.monitor.proofs.ListLoads.{list-load, list-after}
+use Rattle.rule_list.specs.Records.{bufferBytes, LoadsList}
+use Rattle.rule_list.proofs.Refusals.{over-operators, other-kinds}
 
--- a part from 0 on is a first part
-pub from-start : {p later : Panel} {n r : ℕ} (bytes : List ℕ) (m : ℕ) → Changes p (load n (take (m - 0) bytes)) r later → Changes p (load n (take m bytes)) r later
-from-start bytes m c = rw (sub-zero m) at c
+module _ {p : Panel} {n : ℕ} {kinds bytes : List ℕ} {count : ℕ} where
+  pub refuses-operators : mostOperators < n → LoadsList p n kinds bytes count oversize p
+  refuses-operators many = record { changes = λ list e. over-operators p n kinds list many }
 
-pub ruleset load-written-ways = (from-start, needs)
+  pub refuses-kinds : n ≤ mostOperators → count ≤ mostRules → (length kinds ≡ n → ⊥) → LoadsList p n kinds bytes count torn p
+  refuses-kinds few fit other =
+      record {
+        changes = λ list e. other-kinds p n kinds list few (omega (arith, ap length e, length-take (count * 3) (drop mostOperators bytes), length-ruleBytes list, fit)) other;
+      }
+
+-- the kinds go to the places from here on, up to the rules' bytes
+abbrev from : List ℕ → ℕ
+from kinds = mostOperators - length kinds
+
+-- how many places these are
+abbrev wide : List ℕ → ℕ
+wide kinds = mostOperators - from kinds
+
+module _ (kinds bytes part : List ℕ) (few : length kinds ≤ mostOperators) (size : length bytes ≡ bufferBytes) (e : part ≡ take (length kinds) kinds ++ drop (length kinds) (midOf (from kinds) (wide kinds) bytes)) where
+  -- the copy fills its part
+  copied : part ≡ kinds
+  copied =
+      let mid : List ℕ = midOf (from kinds) (wide kinds) bytes in
+      let short : length mid ≤ length kinds = omega (arith, mid-len (from kinds) mostOperators bytes (omega (arith, size))) in
+      e ∙ ap (λ (s : List ℕ). s ++ drop (length kinds) mid) (take-length kinds) ∙ ap (λ (s : List ℕ). kinds ++ s) (drop-of-length-le mid short) ∙ append-nil kinds
+
+  -- what is loaded: the kinds, and then the rules' bytes
+  written : (count : ℕ) → take (mostOperators + count * 3 - from kinds) (drop (from kinds) (putMid (from kinds) (wide kinds) bytes part)) ≡ kinds ++ take (count * 3) (drop mostOperators bytes)
+  written count =
+      ap (take (mostOperators + count * 3 - from kinds)) (drop-at (take (from kinds) bytes) (part ++ postOf (from kinds) (wide kinds) bytes) (from kinds) (length-take-le (from kinds) bytes (omega (arith, size))))
+      ∙ ap (λ (s : List ℕ). take (mostOperators + count * 3 - from kinds) (s ++ postOf (from kinds) (wide kinds) bytes)) copied
+      ∙ ap (λ (s : List ℕ). take (mostOperators + count * 3 - from kinds) (kinds ++ s)) (post-is (from kinds) mostOperators bytes (omega arith))
+      ∙ ap (λ (m : ℕ). take m (kinds ++ drop mostOperators bytes)) sum
+      ∙ take-append-add kinds (drop mostOperators bytes) (count * 3)
+    where
+      sum : mostOperators + count * 3 - from kinds ≡ length kinds + count * 3
+      sum = omega (arith, few)
+
+pub loads-written : {p : Panel} {n : ℕ} {kinds bytes part : List ℕ} {count r : ℕ} {later : Panel} → n ≤ mostOperators → length kinds ≡ n → length bytes ≡ bufferBytes
+    → part ≡ take (length kinds) kinds ++ drop (length kinds) (midOf (from kinds) (wide kinds) bytes)
+    → Changes p (load n (take (mostOperators + count * 3 - from kinds) (drop (from kinds) (putMid (from kinds) (wide kinds) bytes part)))) r later → LoadsList p n kinds bytes count r later
+loads-written {p} {n} {kinds} {bytes} {part} {count} {r} {later} few as-many size e c =
+    record {
+      changes =
+          λ list f.
+          let all : List ℕ = kinds ++ ruleBytes list in
+          let is = written kinds bytes part (omega (arith, few, as-many)) size e count ∙ ap (λ (s : List ℕ). kinds ++ s) f in
+          let d : Changes p (load n all) r later = subst (λ (s : List ℕ). Changes p (load n s) r later) is c in
+          record { numbered = d .numbered ∙ list-load n kinds list as-many p; stands = d .stands ∙ list-after n kinds list as-many p };
+    }
+
+pub ruleset load-written-ways = (refuses-operators, refuses-kinds, loads-written, needs)

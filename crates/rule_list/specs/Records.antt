@@ -1,8 +1,14 @@
 -- Rules as a lent list of records, and their bytes in a buffer. Assumes nothing.
 use Prim.Native.Nat.{ℕ, _+_, _*_}
+use mathlib.Core.Path.{_≡_}
 use mathlib.Core.List.{List, [], _∷_}
-use lib.ListN.{set}
+use lib.ListN.{set, take, drop}
+use Rattle.expression.specs.Limits.{mostOperators, mostRuleBytes}
 use Rattle.disambiguation.specs.Rules as rules
+use Rattle.disambiguation.specs.SheetChecks.{ruleBytes}
+use Rattle.monitor.specs.Call.{loadList}
+use Rattle.monitor.specs.Panel.{Panel}
+use Rattle.monitor.specs.Contracts.{Changes}
 use Rattle.rule_list.specs.declared.Rule.{Rule}
 
 -- the rule that a record gives
@@ -13,6 +19,16 @@ unfoldable pub rulesIn : List Rule → List rules.Rule
 rulesIn [] = []
 rulesIn (r ∷ rs) = ruleOf r ∷ rulesIn rs
 
+-- the buffer: room for a kind byte of every operator, and then for the bytes of the most rules
+abbrev pub bufferBytes : ℕ
+bufferBytes = mostOperators + mostRuleBytes
+
 -- the buffer with the bytes of record i at their place
 abbrev pub putAt : List ℕ → ℕ → Rule → List ℕ
-putAt bytes i r = set (set (set bytes (i * 3) (r .kind)) (i * 3 + 1) (r .first)) (i * 3 + 2) (r .second)
+putAt bytes i r =
+    let at = mostOperators + i * 3 in
+    set (set (set bytes at (r .kind)) (at + 1) (r .first)) (at + 2) (r .second)
+
+-- The load with a list of kinds, and with the rules whose bytes are the buffer's first 3 * count after the room for the kinds.
+pub record LoadsList (p : Panel) (n : ℕ) (kinds buffer : List ℕ) (count r : ℕ) (later : Panel) : Type 0 where
+  pub changes : (list : List rules.Rule) → take (count * 3) (drop mostOperators buffer) ≡ ruleBytes list → Changes p (loadList n kinds list) r later

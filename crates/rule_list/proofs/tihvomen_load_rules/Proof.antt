@@ -6,7 +6,7 @@ use Prim.Native.Nat.{ℕ, zero, suc, _+_, _<_, _≤_, _^_}
 use native.Mathlib.Nat.{zero-add, add-zero, lt-suc-self}
 use native.Mathlib.Omega.{arith}
 use mathlib.Core.List.{List, [], _∷_}
-use lib.ListN.{replicate}
+use lib.ListN.{length, replicate}
 use lib.WfN.{Nat·lt-wfRel}
 use lib.Dec.{lit<, ltb→lt, nltb→le}
 use borrow.Table.OneValue.{part-in}
@@ -35,7 +35,7 @@ use denote.Plain.{uint-vals, uint-tells, uint-makes, uint-lawful, uint-copy}
 use denote.Builtin.{u8, u32, ArrayOf}
 use denote.Ref.{MutRef, ptr-vals, mut-tells}
 use denote.Slice.{ShrSlice, Room, slice-vals, shr-slice-tells}
-use denote.Signature.{plain}
+use denote.Signature.{plain, shrSliceOf}
 use denote.Steps.{owned, peeks}
 use denote.Triple.Entry.{onEntry}
 use denote.Triple.Spec.{Meets, tripleOf}
@@ -50,13 +50,14 @@ use Rattle.rule_list.proofs.Rule.Laws as T′
 use Rattle.rule_list.proofs.Bytes.{list-over}
 use Rattle.sheet.specs.Layout.{sheetWords}
 use Rattle.places.specs.Store.{storeBytes}
-use Rattle.rule_list.proofs.Lent.{bufferBytes, Words, Places, Buffer, zeros, stayed, PutRule, LoadWritten, Passed, lent, list, count, sheetAt, placesAt, rulesAt, at, Post, last-value, exits}
-use Rattle.rule_list.proofs.put_rule.Symbol as put-rule-def
-use Rattle.rule_list.proofs.put_rule.Symbol.{name as #put-rule}
-use Rattle.rule_list.proofs.put_rule.Met as put-rule-thm
-use Rattle.rule_list.proofs.load_written.Symbol as load-written-def
-use Rattle.rule_list.proofs.load_written.Symbol.{name as #load-written}
-use Rattle.rule_list.proofs.load_written.Met as load-written-thm
+use Rattle.rule_list.specs.Records.{bufferBytes}
+use Rattle.rule_list.proofs.Lent.{Words, Places, Buffer, zeros, stayed, PutRule, LoadWritten, Passed, lent, list, count, sheetAt, placesAt, kindsAt, rulesAt, at, Post, last-value, exits}
+use Rattle.rule_list.proofs.written.put_rule.Symbol as put-rule-def
+use Rattle.rule_list.proofs.written.put_rule.Symbol.{name as #put-rule}
+use Rattle.rule_list.proofs.written.put_rule.Met as put-rule-thm
+use Rattle.rule_list.proofs.written.load_written.Symbol as load-written-def
+use Rattle.rule_list.proofs.written.load_written.Symbol.{name as #load-written}
+use Rattle.rule_list.proofs.written.load_written.Met as load-written-thm
 use Rattle.rule_list.proofs.tihvomen_load_rules.Key.{name as #tihvomen-load-rules}
 use Rattle.rule_list.proofs.tihvomen_load_rules as tihvomen-load-rules
 use Rattle.rule_list.proofs.tihvomen_load_rules.Statement as stated
@@ -72,31 +73,31 @@ big-lit {𝓤 = 𝓤} t {w} {n} fits = record { go = λ Kt h. via 𝓤 (Kt (vint
 -- the function with the types of its locals named
 abbrev spelled : Fn
 spelled = record {
-  lifetimes = 3;
+  lifetimes = 4;
   outlives = [];
-  params = 4;
-  locals = local turn.byte valueLocal ∷ local turn.sheetTy valueLocal ∷ local turn.placesTy valueLocal ∷ local (tyInt w32) valueLocal ∷ local turn.rulesTy valueLocal ∷ local turn.bufferTy memorySlot ∷ local turn.word valueLocal
-      ∷ local turn.word valueLocal ∷ local tyBool valueLocal ∷ local turn.word valueLocal ∷ local tyBool valueLocal ∷ local tyUnit valueLocal ∷ local turn.bufferOn valueLocal ∷ local tyPtr valueLocal ∷ local T′.mir valueLocal
-      ∷ local turn.sheetOn valueLocal ∷ local turn.placesOn valueLocal ∷ local turn.bufferRead valueLocal ∷ [];
+  params = 5;
+  locals = local turn.byte valueLocal ∷ local turn.sheetTy valueLocal ∷ local turn.placesTy valueLocal ∷ local (tyInt w32) valueLocal ∷ local turn.kindsTy valueLocal ∷ local turn.rulesTy valueLocal ∷ local turn.bufferTy memorySlot
+      ∷ local turn.word valueLocal ∷ local turn.word valueLocal ∷ local tyBool valueLocal ∷ local turn.word valueLocal ∷ local tyBool valueLocal ∷ local tyUnit valueLocal ∷ local turn.bufferOn valueLocal ∷ local tyPtr valueLocal
+      ∷ local T′.mir valueLocal ∷ local turn.sheetOn valueLocal ∷ local turn.placesOn valueLocal ∷ local turn.bufferOn valueLocal ∷ [];
   body = mir.t-1;
 }
 
 module _ {M : Type 1} (𝓤 : URA M) (H : Heap 𝓤) (A : Atoms 𝓤) (W : Given 𝓤 H A) (mem : Memory → SProp 𝓤) (run : Routine → Fun 𝓤) (𝓣 : Tables 𝓤 H)
     (puts : Triple 𝓤 (𝓣 .C #put-rule) (PutRule 𝓤 H A mem run)) (loads : Triple 𝓤 (𝓣 .C #load-written) (LoadWritten 𝓤 H A mem run)) where
   -- what is known of the values passed
-  module _ (p : Passed) (n-fits : p .n < 2 ^ 32) (room : Room T.the-row (count p)) where
-    module _ (l₀ l₁ l₂ l₃ l₄ l₅ l₆ l₇ l₈ l₉ l₁₀ l₁₁ l₁₂ l₁₃ l₁₄ l₁₅ l₁₆ l₁₇ : ℕ) where
+  module _ (p : Passed) (n-fits : p .n < 2 ^ 32) (kinds-room : Room u8 (length (p .kinds .now))) (room : Room T.the-row (count p)) where
+    module _ (l₀ l₁ l₂ l₃ l₄ l₅ l₆ l₇ l₈ l₉ l₁₀ l₁₁ l₁₂ l₁₃ l₁₄ l₁₅ l₁₆ l₁₇ l₁₈ : ℕ) where
       abbrev At : ℕ → List (Item 𝓤)
-      At = turn.At 𝓤 H A mem run p 𝓣 l₀ l₁ l₂ l₃ l₄ l₅ l₆ l₇ l₈ l₉ l₁₀ l₁₁ l₁₂ l₁₃ l₁₄ l₁₅ l₁₆ l₁₇
+      At = turn.At 𝓤 H A mem run p 𝓣 l₀ l₁ l₂ l₃ l₄ l₅ l₆ l₇ l₈ l₉ l₁₀ l₁₁ l₁₂ l₁₃ l₁₄ l₁₅ l₁₆ l₁₇ l₁₈
 
       abbrev Before : List (Item 𝓤)
-      Before = turn.Before 𝓤 H A mem run p 𝓣 l₀ l₁ l₂ l₃ l₄ l₅ l₆ l₇ l₈ l₉ l₁₀ l₁₁ l₁₂ l₁₃ l₁₄ l₁₅ l₁₆ l₁₇
+      Before = turn.Before 𝓤 H A mem run p 𝓣 l₀ l₁ l₂ l₃ l₄ l₅ l₆ l₇ l₈ l₉ l₁₀ l₁₁ l₁₂ l₁₃ l₁₄ l₁₅ l₁₆ l₁₇ l₁₈
 
       abbrev En : Env 𝓤 H
-      En = turn.En 𝓤 H A mem run p 𝓣 l₀ l₁ l₂ l₃ l₄ l₅ l₆ l₇ l₈ l₉ l₁₀ l₁₁ l₁₂ l₁₃ l₁₄ l₁₅ l₁₆ l₁₇
+      En = turn.En 𝓤 H A mem run p 𝓣 l₀ l₁ l₂ l₃ l₄ l₅ l₆ l₇ l₈ l₉ l₁₀ l₁₁ l₁₂ l₁₃ l₁₄ l₁₅ l₁₆ l₁₇ l₁₈
 
       abbrev Left : Out → SProp 𝓤
-      Left = turn.Left 𝓤 H A mem run p 𝓣 l₀ l₁ l₂ l₃ l₄ l₅ l₆ l₇ l₈ l₉ l₁₀ l₁₁ l₁₂ l₁₃ l₁₄ l₁₅ l₁₆ l₁₇
+      Left = turn.Left 𝓤 H A mem run p 𝓣 l₀ l₁ l₂ l₃ l₄ l₅ l₆ l₇ l₈ l₉ l₁₀ l₁₁ l₁₂ l₁₃ l₁₄ l₁₅ l₁₆ l₁₇ l₁₈
 
       abbrev Runs : SProp 𝓤 → SProp 𝓤
       Runs X = Wp 𝓤 H (𝓣 .C) (𝓣 .Λ) En mir.turn-1 (afterTurn 𝓤 H X Left)
@@ -114,9 +115,9 @@ module _ {M : Type 1} (𝓤 : URA M) (H : Heap 𝓤) (A : Atoms 𝓤) (W : Given
         -- t records are left
         turn-at : (t i : ℕ) → t + i ≡ count p → ent 𝓤 (⋆ 𝓤 H A (At i)) (Runs (Below t))
         turn-at zero i f = subst (λ (k : ℕ). ent 𝓤 (⋆ 𝓤 H A (At k)) (Runs (Below zero))) (sym f ∙ zero-add i)
-            (last.ends 𝓤 H A mem run p 𝓣 l₀ l₁ l₂ l₃ l₄ l₅ l₆ l₇ l₈ l₉ l₁₀ l₁₁ l₁₂ l₁₃ l₁₄ l₁₅ l₁₆ l₁₇ W loads n-fits room few (Below zero))
+            (last.ends 𝓤 H A mem run p 𝓣 l₀ l₁ l₂ l₃ l₄ l₅ l₆ l₇ l₈ l₉ l₁₀ l₁₁ l₁₂ l₁₃ l₁₄ l₁₅ l₁₆ l₁₇ l₁₈ W loads n-fits room few (Below zero))
         turn-at (suc t) i f =
-            turn.more 𝓤 H A mem run p 𝓣 l₀ l₁ l₂ l₃ l₄ l₅ l₆ l₇ l₈ l₉ l₁₀ l₁₁ l₁₂ l₁₃ l₁₄ l₁₅ l₁₆ l₁₇ W puts room few i (Below (suc t)) (omega (arith, f))
+            turn.more 𝓤 H A mem run p 𝓣 l₀ l₁ l₂ l₃ l₄ l₅ l₆ l₇ l₈ l₉ l₁₀ l₁₁ l₁₂ l₁₃ l₁₄ l₁₅ l₁₆ l₁₇ l₁₈ W puts room few i (Below (suc t)) (omega (arith, f))
             (via 𝓤 (Inv t) (in-inv t (suc i) (omega (arith, f))) (via 𝓤 (guard 𝓤 (t < suc t) (Inv t)) (guardI 𝓤 (t < suc t) (Inv t) (lt-suc-self t)) (exI 𝓤 (λ (u : ℕ). guard 𝓤 (u < suc t) (Inv u)) t)))
 
         loops : ent 𝓤 (⋆ 𝓤 H A (At 0)) (Wp 𝓤 H (𝓣 .C) (𝓣 .Λ) En (loop mir.turn-1) Left)
@@ -129,45 +130,46 @@ module _ {M : Type 1} (𝓤 : URA M) (H : Heap 𝓤) (A : Atoms 𝓤) (W : Given
       tests : ent 𝓤 (⋆ 𝓤 H A Before) (Wp 𝓤 H (𝓣 .C) (𝓣 .Λ) En mir.t-1 (atReturn 𝓤 H En (Post 𝓤 H A mem run p)))
       tests =
           qed W Before ∵ exec ! (𝓣 .C) (𝓣 .Λ) En mir.t-1 (atRet En (Post 𝓤 H A mem run p)) $
-          assigns ! (of-opd ! (load ! (from ! (fld ! refl (stop !))) (look-in ! 8 (sub ! 1 refl (whole !))))) (from ! (stop !)) (init ! 14 refl (tt, record { fits = room .0 })) $
-          assigns ! (bin ! (big-lit ! (record { fits = lit< tt })) (load ! (from ! (stop !)) (look ! 14 refl)) tt) (from ! (stop !)) (init ! 16 refl (tt, tt)) $
-          first ! $ branches ! (load ! (from ! (stop !)) (look ! 16 refl))
+          assigns ! (of-opd ! (load ! (from ! (fld ! refl (stop !))) (look-in ! 10 (sub ! 1 refl (whole !))))) (from ! (stop !)) (init ! 16 refl (tt, record { fits = room .0 })) $
+          assigns ! (bin ! (big-lit ! (record { fits = lit< tt })) (load ! (from ! (stop !)) (look ! 16 refl)) tt) (from ! (stop !)) (init ! 18 refl (tt, tt)) $
+          first ! $ branches ! (load ! (from ! (stop !)) (look ! 18 refl))
           (λ many. assigns ! (of-opd ! (lit ! tt)) (from ! (stop !)) (init ! 0 refl (tt, record { fits = lit< tt })) $
-          returns-within ! (Post 𝓤 H A mem run p) refl (look ! 0 refl) $ forget ! 0 refl $ forget ! 2 refl $ forget ! 4 refl $ forget ! 6 refl $ forget ! 8 refl $ forget ! 14 refl $ forget ! 16 refl $
-          free1 ! $ free1 ! $ free1 ! $ free1 ! $ free1 ! $ free1 ! $ free1 ! $ free1 ! $ free1 ! $ free1 ! $ free1 ! $ free1 ! $ free1 ! $ free1 ! $ free1 ! $ free1 ! $ free1 ! $ free1 ! $ free0 ! $
-          -- [the list in four parts; the sheet; its token; the places; their token]
+          returns-within ! (Post 𝓤 H A mem run p) refl (look ! 0 refl) $ forget ! 0 refl $ forget ! 2 refl $ forget ! 4 refl $ forget ! 6 refl $ forget ! 8 refl $ forget ! 10 refl $ forget ! 16 refl $ forget ! 18 refl $
+          free1 ! $ free1 ! $ free1 ! $ free1 ! $ free1 ! $ free1 ! $ free1 ! $ free1 ! $ free1 ! $ free1 ! $ free1 ! $ free1 ! $ free1 ! $ free1 ! $ free1 ! $ free1 ! $ free1 ! $ free1 ! $ free1 ! $ free0 ! $
+          -- [the list in four parts; the sheet; its token; the places; their token; the kinds; their token]
           move ! (4 ∷ []) $ use1 W (‵ (fres (p .sheet .name) (Words .coded .code (p .sheet .now)))) (last-value 𝓤 H A mem run p W (named 0) (p .κ₀) Words (p .sheet) (sheetAt p ∷ [])) $
           move ! (6 ∷ []) $ use1 W (‵ (fres (p .places .name) (Places .coded .code (p .places .now)))) (last-value 𝓤 H A mem run p W (named 1) (p .κ₁) Places (p .places) (placesAt p ∷ [])) $
-          move ! (4 ∷ 2 ∷ []) $ fjoin ! $ move ! (4 ∷ 0 ∷ []) $ fjoin ! $ keep ! (4 ∷ 5 ∷ 3 ∷ 0 ∷ 2 ∷ 1 ∷ []) $
-          by ! (exits 𝓤 H A mem run p W oversize (p .sheet .now) (p .places .now) (lit< tt) (list-over (lent p) (p .n) (list p) (ltb→lt mostRules (count p) many))))
-          (λ small. skips ! $ exec ! (𝓣 .C) (𝓣 .Λ) En mir.t-4 (atRet En (Post 𝓤 H A mem run p)) $ forget ! 14 refl $ forget ! 16 refl $
+          move ! (4 ∷ 2 ∷ []) $ fjoin ! $ move ! (4 ∷ 0 ∷ []) $ fjoin ! $ keep ! (4 ∷ 5 ∷ 7 ∷ 3 ∷ 0 ∷ 2 ∷ 1 ∷ []) $
+          by ! (exits 𝓤 H A mem run p W oversize (p .sheet .now) (p .places .now) (lit< tt) (list-over (lent p) (p .n) (p .kinds .now) (list p) (ltb→lt mostRules (count p) many))))
+          (λ small. skips ! $ exec ! (𝓣 .C) (𝓣 .Λ) En mir.t-4 (atRet En (Post 𝓤 H A mem run p)) $ forget ! 16 refl $ forget ! 18 refl $
           owned ! u8 (Is u8) (uint-makes 𝓤 H A W w8) 0 (vint w8 0 ∷ []) (refl, lit< tt) $
           use1 W (‵ (Buffer .own zeros (arrayVal (replicate bufferBytes (vint w8 0)) ∷ []))) (array-repeat 𝓤 H A W u8 (uint-copy 𝓤 H A W w8) bufferBytes 0 (vint w8 0)) $
           peeks ! Buffer (Is Buffer) (shows 𝓤 H A Buffer) zeros (arrayVal (replicate bufferBytes (vint w8 0)) ∷ []) (λ is.
-          assigns ! (rep ! bufferBytes (lit ! tt)) (from ! (stop !)) (init ! 11 refl (array-lawful 𝓤 H A W u8 (uint-lawful 𝓤 H A W w8) bufferBytes .typed zeros _ is .0)) $
-          move ! (11 ∷ 0 ∷ []) $ use2 W (‵ (partAt Buffer fullShare zeros l₅ 0)) (part-in 𝓤 H A W Buffer refl fullShare zeros l₅ 0 (arrayVal (replicate bufferBytes (vint w8 0)))) $
-          assigns ! (of-opd ! (lit ! tt)) (from ! (stop !)) (init ! 12 refl (tt, record { fits = lit< tt })) $
-          move ! (1 ∷ 2 ∷ 3 ∷ 4 ∷ 5 ∷ 6 ∷ 7 ∷ 8 ∷ 9 ∷ 10 ∷ []) $ by ! (loops (nltb→le mostRules (count p) small))))
+          assigns ! (rep ! bufferBytes (lit ! tt)) (from ! (stop !)) (init ! 13 refl (array-lawful 𝓤 H A W u8 (uint-lawful 𝓤 H A W w8) bufferBytes .typed zeros _ is .0)) $
+          move ! (13 ∷ 0 ∷ []) $ use2 W (‵ (partAt Buffer fullShare zeros l₆ 0)) (part-in 𝓤 H A W Buffer refl fullShare zeros l₆ 0 (arrayVal (replicate bufferBytes (vint w8 0)))) $
+          assigns ! (of-opd ! (lit ! tt)) (from ! (stop !)) (init ! 14 refl (tt, record { fits = lit< tt })) $
+          move ! (1 ∷ 2 ∷ 3 ∷ 4 ∷ 5 ∷ 6 ∷ 7 ∷ 8 ∷ 9 ∷ 10 ∷ 11 ∷ 12 ∷ []) $ by ! (loops (nltb→le mostRules (count p) small))))
 
     -- from the entry to the test
-    walk : ent 𝓤 (onEntry 𝓤 H A tihvomen-load-rules.signature (p .κ₀, (p .κ₁, (p .κ₂, tt))) (p .q₀, (p .q₁, (p .q₂, tt))) (p .sheet, (p .places, (p .n, (p .rules, tt)))) (at 𝓤 H A mem run p))
-        (WpFn 𝓤 H (𝓣 .C) (𝓣 .Λ) spelled (sheetAt p ∷ placesAt p ∷ vint w32 (p .n) ∷ rulesAt p ∷ []) (Post 𝓤 H A mem run p))
+    walk : ent 𝓤 (onEntry 𝓤 H A tihvomen-load-rules.signature (p .κ₀, (p .κ₁, (p .κ₂, (p .κ₃, tt)))) (p .q₀, (p .q₁, (p .q₂, (p .q₃, tt)))) (p .sheet, (p .places, (p .n, (p .kinds, (p .rules, tt))))) (at 𝓤 H A mem run p))
+        (WpFn 𝓤 H (𝓣 .C) (𝓣 .Λ) spelled (sheetAt p ∷ placesAt p ∷ vint w32 (p .n) ∷ kindsAt p ∷ rulesAt p ∷ []) (Post 𝓤 H A mem run p))
     walk =
-        qed W ((‵ (flft (p .κ₀) (p .q₀)) ⊛ ‵ (flft (p .κ₁) (p .q₁)) ⊛ ‵ (flft (p .κ₂) (p .q₂)) ⊛ ‵ ftrue)
-        ∷ ‵ (owns (MutRef (named 0) (p .κ₀) Words ∷ MutRef (named 1) (p .κ₁) Places ∷ u32 ∷ ShrSlice (named 2) (p .κ₂) T.the-row ∷ []) (p .sheet, (p .places, (p .n, (p .rules, tt)))) (at 𝓤 H A mem run p)) ∷ []) ∵
-        enter ! (𝓣 .C) (𝓣 .Λ) spelled (sheetAt p ∷ placesAt p ∷ vint w32 (p .n) ∷ rulesAt p ∷ []) _ $
-        alloc1 ! (λ l₀. alloc1 ! (λ l₁. alloc1 ! (λ l₂. alloc1 ! (λ l₃. alloc1 ! (λ l₄. alloc1 ! (λ l₅. alloc1 ! (λ l₆. alloc1 ! (λ l₇. alloc1 ! (λ l₈. alloc1 ! (λ l₉. alloc1 ! (λ l₁₀. alloc1 ! (λ l₁₁. alloc1 ! (λ l₁₂. alloc1 ! (λ l₁₃. alloc1 ! (λ l₁₄. alloc1 ! (λ l₁₅. alloc1 ! (λ l₁₆. alloc1 ! (λ l₁₇. alloc0 ! $ params1 ! $
-        pass1 ! (init ! 32 refl (tt, tt)) $ pass1 ! (init ! 30 refl (tt, tt)) $ pass1 ! (init ! 28 refl (tt, record { fits = n-fits })) $ pass1 ! (init ! 26 refl (tt, (tt, (record { fits = room .0 }, tt)))) $ pass0 ! $
+        qed W ((‵ (flft (p .κ₀) (p .q₀)) ⊛ ‵ (flft (p .κ₁) (p .q₁)) ⊛ ‵ (flft (p .κ₂) (p .q₂)) ⊛ ‵ (flft (p .κ₃) (p .q₃)) ⊛ ‵ ftrue)
+        ∷ ‵ (owns (MutRef (named 0) (p .κ₀) Words ∷ MutRef (named 1) (p .κ₁) Places ∷ u32 ∷ ShrSlice (named 2) (p .κ₂) u8 ∷ ShrSlice (named 3) (p .κ₃) T.the-row ∷ []) (p .sheet, (p .places, (p .n, (p .kinds, (p .rules, tt))))) (at 𝓤 H A mem run p)) ∷ []) ∵
+        enter ! (𝓣 .C) (𝓣 .Λ) spelled (sheetAt p ∷ placesAt p ∷ vint w32 (p .n) ∷ kindsAt p ∷ rulesAt p ∷ []) _ $
+        alloc1 ! (λ l₀. alloc1 ! (λ l₁. alloc1 ! (λ l₂. alloc1 ! (λ l₃. alloc1 ! (λ l₄. alloc1 ! (λ l₅. alloc1 ! (λ l₆. alloc1 ! (λ l₇. alloc1 ! (λ l₈. alloc1 ! (λ l₉. alloc1 ! (λ l₁₀. alloc1 ! (λ l₁₁. alloc1 ! (λ l₁₂. alloc1 ! (λ l₁₃. alloc1 ! (λ l₁₄. alloc1 ! (λ l₁₅. alloc1 ! (λ l₁₆. alloc1 ! (λ l₁₇. alloc1 ! (λ l₁₈. alloc0 ! $ params1 ! $
+        pass1 ! (init ! 34 refl (tt, tt)) $ pass1 ! (init ! 32 refl (tt, tt)) $ pass1 ! (init ! 30 refl (tt, record { fits = n-fits })) $
+        pass1 ! (init ! 28 refl (tt, (tt, (record { fits = kinds-room .0 }, tt)))) $ pass1 ! (init ! 26 refl (tt, (tt, (record { fits = room .0 }, tt)))) $ pass0 ! $
         -- [the locals, the last first; the tokens; what the parameters own]
-        move ! (36 ∷ []) $ split ! $ move ! (1 ∷ []) $ split ! $ move ! (1 ∷ []) $ split ! $
-        move ! (40 ∷ []) $ fsplit ! $ move ! (1 ∷ []) $ fsplit ! $ move ! (1 ∷ []) $ fsplit ! $ move ! (1 ∷ []) $ fsplit ! $ fsplit ! $ move ! (1 ∷ []) $ fsplit ! $
-        -- [res, borrow and fact of the list; true; n; the places; the sheet; the list's token; true; the places' token; the sheet's; the locals]
-        keep ! (45 ∷ 46 ∷ 43 ∷ 44 ∷ 41 ∷ 42 ∷ 39 ∷ 40 ∷ 37 ∷ 38 ∷ 35 ∷ 36 ∷ 33 ∷ 34 ∷ 31 ∷ 32 ∷ 29 ∷ 30 ∷ 27 ∷ 28 ∷ 25 ∷ 26 ∷ 23 ∷ 24 ∷ 21 ∷ 22 ∷ 19 ∷ 20 ∷ 17 ∷ 18 ∷ 15 ∷ 16 ∷ 13 ∷ 14 ∷ 11 ∷ 12 ∷ 1 ∷ 7 ∷ 0 ∷ 2 ∷ 6 ∷ 10 ∷ 5 ∷ 9 ∷ []) $
-        by ! (tests l₀ l₁ l₂ l₃ l₄ l₅ l₆ l₇ l₈ l₉ l₁₀ l₁₁ l₁₂ l₁₃ l₁₄ l₁₅ l₁₆ l₁₇)))))))))))))))))))
+        move ! (38 ∷ []) $ split ! $ move ! (1 ∷ []) $ split ! $ move ! (1 ∷ []) $ split ! $ move ! (1 ∷ []) $ split ! $
+        move ! (43 ∷ []) $ fsplit ! $ move ! (1 ∷ []) $ fsplit ! $ move ! (1 ∷ []) $ fsplit ! $ move ! (1 ∷ []) $ fsplit ! $ move ! (1 ∷ []) $ fsplit ! $ fsplit ! $ move ! (1 ∷ []) $ fsplit ! $
+        -- [res, borrow and fact of the list; true; the kinds; n; the places; the sheet; the list's token; true; the kinds' token; the places'; the sheet's; the locals]
+        keep ! (49 ∷ 50 ∷ 47 ∷ 48 ∷ 45 ∷ 46 ∷ 43 ∷ 44 ∷ 41 ∷ 42 ∷ 39 ∷ 40 ∷ 37 ∷ 38 ∷ 35 ∷ 36 ∷ 33 ∷ 34 ∷ 31 ∷ 32 ∷ 29 ∷ 30 ∷ 27 ∷ 28 ∷ 25 ∷ 26 ∷ 23 ∷ 24 ∷ 21 ∷ 22 ∷ 19 ∷ 20 ∷ 17 ∷ 18 ∷ 15 ∷ 16 ∷ 13 ∷ 14 ∷ 1 ∷ 8 ∷ 0 ∷ 2 ∷ 7 ∷ 12 ∷ 6 ∷ 11 ∷ 4 ∷ 10 ∷ []) $
+        by ! (tests l₀ l₁ l₂ l₃ l₄ l₅ l₆ l₇ l₈ l₉ l₁₀ l₁₁ l₁₂ l₁₃ l₁₄ l₁₅ l₁₆ l₁₇ l₁₈))))))))))))))))))))
 
   walks : Walks 𝓤 H A tihvomen-load-rules.ended stayed (WpFn 𝓤 H (𝓣 .C) (𝓣 .Λ) code.function) (tihvomen-load-rules.clauses 𝓤 H A mem run)
-  walks = walked 𝓤 H A tihvomen-load-rules.ended stayed (tihvomen-load-rules.clauses 𝓤 H A mem run) (WpFn 𝓤 H (𝓣 .C) (𝓣 .Λ) code.function) (λ κs. (ptr-vals, (ptr-vals, (uint-vals w32, (slice-vals, tt)))))
-      (λ κs. (mut-tells (named 0) (κs .0) Words, (mut-tells (named 1) (κs .1 .0) Places, (uint-tells w32, (shr-slice-tells (named 2) (κs .1 .1 .0) T.the-row, tt)))))
+  walks = walked 𝓤 H A tihvomen-load-rules.ended stayed (tihvomen-load-rules.clauses 𝓤 H A mem run) (WpFn 𝓤 H (𝓣 .C) (𝓣 .Λ) code.function) (λ κs. (ptr-vals, (ptr-vals, (uint-vals w32, (slice-vals, (slice-vals, tt))))))
+      (λ κs. (mut-tells (named 0) (κs .0) Words, (mut-tells (named 1) (κs .1 .0) Places, (uint-tells w32, (shr-slice-tells (named 2) (κs .1 .1 .0) u8, (shr-slice-tells (named 3) (κs .1 .1 .1 .0) T.the-row, tt))))))
       (λ κs qs bounds a g are. via 𝓤 _ (fst∗ 𝓤 _ (emp 𝓤)) (walk (record {
         κ₀ = κs .0;
         q₀ = qs .0;
@@ -178,15 +180,21 @@ module _ {M : Type 1} (𝓤 : URA M) (H : Heap 𝓤) (A : Atoms 𝓤) (W : Given
         n = a .1 .1 .0;
         κ₂ = κs .1 .1 .0;
         q₂ = qs .1 .1 .0;
-        rules = a .1 .1 .1 .0;
-      }) (are .1 .1 .0 .1) (are .1 .1 .1 .0 .0 .1)))
+        kinds = a .1 .1 .1 .0;
+        κ₃ = κs .1 .1 .1 .0;
+        q₃ = qs .1 .1 .1 .0;
+        rules = a .1 .1 .1 .1 .0;
+      }) (are .1 .1 .0 .1) (are .1 .1 .1 .0 .0 .1) (are .1 .1 .1 .1 .0 .0 .1)))
 
   meets : Meets 𝓤 H A tihvomen-load-rules.signature (WpFn 𝓤 H (𝓣 .C) (𝓣 .Λ) code.function) (tihvomen-load-rules.spec 𝓤 H A mem run)
   meets = walk-meets 𝓤 H A tihvomen-load-rules.ended stayed W (
-    goes-gave-ref 𝓤 H A W 3 0 tt (ArrayOf (plain (λ _. u32)) (λ κs. tt) sheetWords),
+    goes-gave-ref 𝓤 H A W 4 0 tt (ArrayOf (plain (λ _. u32)) (λ κs. tt) sheetWords),
     (
-      goes-gave-ref 𝓤 H A W 3 1 tt (ArrayOf (plain (λ _. u8)) (λ κs. tt) storeBytes),
-      (goes-dropped 𝓤 H A W 3 (plain (λ _. u32)) yes (λ κs x f. refl), (goes-none-slice 𝓤 H A W 3 (2 ∷ []) tt (plain (λ _. T.the-row)) yes, tt)),
+      goes-gave-ref 𝓤 H A W 4 1 tt (ArrayOf (plain (λ _. u8)) (λ κs. tt) storeBytes),
+      (
+        goes-dropped 𝓤 H A W 4 (plain (λ _. u32)) yes (λ κs x f. refl),
+        (goes-dropped 𝓤 H A W 4 (shrSliceOf (2 ∷ []) tt (plain (λ _. u8))) yes (λ κs x f. refl), (goes-none-slice 𝓤 H A W 4 (3 ∷ []) tt (plain (λ _. T.the-row)) yes, tt)),
+      ),
     ),
   ) (tihvomen-load-rules.clauses 𝓤 H A mem run) (WpFn 𝓤 H (𝓣 .C) (𝓣 .Λ) code.function) (WpFn-mono 𝓤 H (W .laws) 𝓣 code.function) walks
 
@@ -196,5 +204,5 @@ tihvomen-load-rules-spec 𝓤 H 𝓜 𝓖 𝓡 =
     entered 𝓤 H (tripleOf 𝓤 H (𝓖 .A) tihvomen-load-rules.signature (tihvomen-load-rules.spec 𝓤 H (𝓖 .A) (𝓜 .mem) (𝓡 .run)))
     (tables 𝓤 H 𝓜 𝓡 code.env .C) (tables 𝓤 H 𝓜 𝓡 code.env .Λ) #tihvomen-load-rules code.function (code.unfolded 𝓤 H 𝓜 𝓡)
     (meets 𝓤 H (𝓖 .A) (givenOf 𝓤 H 𝓜 𝓖) (𝓜 .mem) (𝓡 .run) (tablesOf 𝓤 H 𝓜 (tables 𝓤 H 𝓜 𝓡 code.env))
-    (cited 𝓤 H (PutRule 𝓤 H (𝓖 .A) (𝓜 .mem) (𝓡 .run)) 𝓜 𝓡 code.env #put-rule put-rule-def.routine code.calls-rule-list·put-rule (put-rule-thm.met 𝓤 H 𝓜 𝓖 𝓡))
-    (cited 𝓤 H (LoadWritten 𝓤 H (𝓖 .A) (𝓜 .mem) (𝓡 .run)) 𝓜 𝓡 code.env #load-written load-written-def.routine code.calls-rule-list·load-written (load-written-thm.met 𝓤 H 𝓜 𝓖 𝓡)))
+    (cited 𝓤 H (PutRule 𝓤 H (𝓖 .A) (𝓜 .mem) (𝓡 .run)) 𝓜 𝓡 code.env #put-rule put-rule-def.routine code.calls-rule-list·written·put-rule (put-rule-thm.met 𝓤 H 𝓜 𝓖 𝓡))
+    (cited 𝓤 H (LoadWritten 𝓤 H (𝓖 .A) (𝓜 .mem) (𝓡 .run)) 𝓜 𝓡 code.env #load-written load-written-def.routine code.calls-rule-list·written·load-written (load-written-thm.met 𝓤 H 𝓜 𝓖 𝓡)))

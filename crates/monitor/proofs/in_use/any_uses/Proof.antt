@@ -1,16 +1,15 @@
 -- `monitor::in_use::any_uses` meets its contract; in its loop, no place below the place is in use. Assumes nothing.
 use Prim.Native.Nat.{_-_}
 use Rattle.places.specs.Store.{placeCount}
-use Rattle.monitor.proofs.LoadWays.{Unused}
-use Rattle.monitor.proofs.LoadWays.{any-uses-ways}
+use Rattle.monitor.proofs.UseWays.{Unused, any-uses-ways}
 use Rattle.monitor.proofs.in_use.any_uses.Statement.{statement}
 use Rattle.monitor.proofs.in_use.any_uses.Tie as tie
 
 abbrev Inv-loop : tie.InvT-loop
-Inv-loop n places place₀ place = Unused n places place
+Inv-loop n set places place₀ place = Unused n set places place
 
 abbrev μ-loop : tie.MeasureT-loop
-μ-loop n places place₀ place = placeCount - place
+μ-loop n set places place₀ place = placeCount - place
 
 pub any-uses-spec : {M : Type 1} → statement M
 any-uses-spec =

@@ -1,5 +1,5 @@
 -- `monitor::in_use::in_use` meets its contract. Assumes nothing.
-use Rattle.monitor.proofs.LoadWays.{in-use-ways}
+use Rattle.monitor.proofs.UseWays.{in-use-ways}
 use Rattle.monitor.proofs.in_use.in_use.Statement.{statement}
 use Rattle.monitor.proofs.in_use.in_use.Tie as tie
 
@@ -7,6 +7,7 @@ pub in-use-spec : {M : Type 1} → statement M
 in-use-spec =
     tie.close
     (tie.spec
+    (λ c κs. search in-use-ways)
     (λ c κs. search in-use-ways)
     (λ c κs. search in-use-ways)
     (λ c. search in-use-ways))

@@ -1,5 +1,5 @@
 -- `monitor::in_use::is_beyond` meets its contract. Assumes nothing.
-use Rattle.monitor.proofs.LoadWays.{is-beyond-ways}
+use Rattle.monitor.proofs.UseWays.{is-beyond-ways}
 use Rattle.monitor.proofs.in_use.is_beyond.Statement.{statement}
 use Rattle.monitor.proofs.in_use.is_beyond.Tie as tie
 

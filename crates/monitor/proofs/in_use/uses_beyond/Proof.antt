@@ -2,12 +2,12 @@
 use Prim.Native.Nat.{_-_}
 use lib.ListN.{length}
 use Rattle.expression.proofs.Looking.{Looked}
-use Rattle.monitor.proofs.LoadWays.{beyond, uses-beyond-ways}
+use Rattle.monitor.proofs.UseWays.{below, looks-ways}
 use Rattle.monitor.proofs.in_use.uses_beyond.Statement.{statement}
 use Rattle.monitor.proofs.in_use.uses_beyond.Tie as tie
 
 abbrev Inv-loop : tie.InvT-loop
-Inv-loop n bytes found₀ i₀ found i = Looked (beyond n) bytes found i
+Inv-loop n bytes found₀ i₀ found i = Looked (below n) bytes found i
 
 abbrev μ-loop : tie.MeasureT-loop
 μ-loop n bytes found₀ i₀ found i = length bytes - i
@@ -18,10 +18,10 @@ uses-beyond-spec =
     (tie.spec
     Inv-loop
     μ-loop
-    (λ c. search uses-beyond-ways)
-    (λ c. search uses-beyond-ways)
-    (λ c κs. search uses-beyond-ways)
-    (λ c. search uses-beyond-ways)
-    (λ c. search uses-beyond-ways)
-    (λ c. search uses-beyond-ways)
-    (λ c. search uses-beyond-ways))
+    (λ c. search looks-ways)
+    (λ c. search looks-ways)
+    (λ c κs. search looks-ways)
+    (λ c. search looks-ways)
+    (λ c. search looks-ways)
+    (λ c. search looks-ways)
+    (λ c. search looks-ways))

@@ -1,0 +1,53 @@
+// The buffer for a sheet's bytes: the rules' bytes are written one record at a time, and the kinds right before them as they are loaded.
+ghost use Prim.Native.Nat.{_<_, _≤_};
+ghost use mathlib.Core.Path.{_≡_};
+ghost use Rattle.expression.specs.Limits.{mostRules};
+ghost use Rattle.monitor.specs.Panel.{panel};
+ghost use Rattle.rule_list.specs.Records.{putAt, LoadsList};
+use crate::Rule;
+use expression::limits;
+use expression::refusal;
+use places::limits::STORE_BYTES;
+use sheet::layout::SHEET_WORDS;
+
+// Room for a kind byte of every operator, and then for the bytes of the most rules.
+const KIND_BYTES: usize = limits::MOST_OPERATORS as usize;
+
+pub const BUFFER_BYTES: usize = KIND_BYTES + limits::MOST_RULE_BYTES;
+
+// Writes the three bytes of record i at their place.
+pub fn put_rule(bytes: &mut [u8; BUFFER_BYTES], i: usize, rule: Rule)
+    requires { ⌜ i < mostRules ⌝ }
+    ensures { λ _. ⌜ now (bytes .exit) ≡ putAt (now (bytes .entry)) i rule ⌝ }
+{
+    let at = KIND_BYTES + i * limits::BYTES_OF_RULE;
+    bytes[at] = rule.kind;
+    bytes[at + 1] = rule.first;
+    bytes[at + 2] = rule.second;
+}
+
+// Loads the kinds, and the first `count` rules whose bytes are in the buffer.
+pub fn load_written(
+    sheet: &mut [u32; SHEET_WORDS],
+    places: &mut [u8; STORE_BYTES],
+    n: u32,
+    kinds: &[u8],
+    bytes: &mut [u8; BUFFER_BYTES],
+    count: usize,
+) -> u8
+    requires { ⌜ count ≤ mostRules ⌝ }
+    ensures { λ r. ⌜ LoadsList (panel (now (sheet .entry)) (now (places .entry))) n (now (kinds .entry)) (now (bytes .entry)) count r (panel (now (sheet .exit)) (now (places .exit))) ⌝ }
+{
+    if (limits::MOST_OPERATORS as u32) < n {
+        return refusal::OVERSIZE;
+    }
+    if kinds.len() != n as usize {
+        return refusal::TORN;
+    }
+    let from = KIND_BYTES - kinds.len();
+    let to = KIND_BYTES + count * limits::BYTES_OF_RULE;
+    let all: &mut [u8] = bytes;
+    bytes::copy(kinds, &mut all[from..KIND_BYTES]);
+    let written = &all[..];
+    monitor::load(sheet, places, n, &written[from..to])
+}
