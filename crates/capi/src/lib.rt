@@ -20,16 +20,17 @@ pub extern "C" fn tihvomen_operators(sheet: &[u32; SHEET_WORDS]) -> u8
     sheet::operator_count(sheet)
 }
 
+// The bytes are those of a sheet frame after n: n kind bytes, then the rules.
 #[no_mangle]
 pub extern "C" fn tihvomen_load(
     sheet: &mut [u32; SHEET_WORDS],
     places: &mut [u8; STORE_BYTES],
     n: u32,
-    rules: &[u8],
+    bytes: &[u8],
 ) -> u8
-    ensures { λ r. ⌜ Changes (panel (now (sheet .entry)) (now (places .entry))) (load n (now (rules .entry))) r (panel (now (sheet .exit)) (now (places .exit))) ⌝ }
+    ensures { λ r. ⌜ Changes (panel (now (sheet .entry)) (now (places .entry))) (load n (now (bytes .entry))) r (panel (now (sheet .exit)) (now (places .exit))) ⌝ }
 {
-    monitor::load(sheet, places, n, rules)
+    monitor::load(sheet, places, n, bytes)
 }
 
 #[no_mangle]

@@ -7,7 +7,7 @@ use mathlib.Core.Bool.{Bool, true, false, not, _||_, _&&_, cond}
 use mathlib.Core.Option.{none}
 use mathlib.Core.List.{List, [], _∷_}
 use lib.Dec.{eqb, ltb}
-use lib.IntN.{ℤ, pos, negsuc}
+use lib.IntN.{ℤ, pos, negsuc, _-ℤ_}
 use lib.Signed.{ltZ, leZ}
 use lib.ListN.{length, getD}
 use borrow.Author.Needs.{needs}
@@ -15,7 +15,7 @@ use borrow.Author.Tests.{lt-ltb, le-ltb, eq-eqb, ne-eqb}
 use mir.Syntax.{w32}
 use mir.Val.{SFits, ofZ}
 use mir.Facts.{toZ-ofZ}
-use Rattle.evaluator.specs.Meanings.{Meaning, Or, And, Less, AtMost, Equal, Sum, Difference, Smaller, Larger, inOrder, entry, meant, isMissing, isTrue, truth, same, applied, worked}
+use Rattle.evaluator.specs.Meanings.{Meaning, Or, And, Less, AtMost, Equal, Sum, Difference, Smaller, Larger, PrefixMeaning, Not, Minus, inOrder, entry, meant, prefixMeant, isMissing, isTrue, truth, same, atEnds, applied, appliedTo, worked, workedOn}
 use Rattle.evaluator.proofs.Stopping.{read}
 
 -- ---- truth
@@ -46,6 +46,13 @@ module _ {a b : ℤ} (fa : SFits w32 a) (fb : SFits w32 b) {p q : Bool} (e : p �
 
   pub two-of-two : {r : ℤ} → r ≡ truth (p && q) → read r ≡ applied And a b
   two-of-two h = answer (p && q) h (ap₂ _&&_ (e ∙ ap isTrue (toZ-ofZ fa)) (g ∙ ap isTrue (toZ-ofZ fb)))
+
+-- from the truth of the only one
+pub not-one : {a : ℤ} → SFits w32 a → {p : Bool} → p ≡ isTrue (read a) → {r : ℤ} → r ≡ truth (not p) → read r ≡ appliedTo Not a
+not-one fa {p} e h = answer (not p) h (ap not (e ∙ ap isTrue (toZ-ofZ fa)))
+
+pub minus-read : {a : ℤ} → SFits w32 a → {r : ℤ} → SFits w32 r → r ≡ atEnds (pos 0 -ℤ read a) → read r ≡ appliedTo Minus a
+minus-read fa fr e = toZ-ofZ fr ∙ e ∙ ap (appliedTo Minus) (toZ-ofZ fa)
 
 -- ---- comparisons
 module _ {a b : ℤ} (fa : SFits w32 a) (fb : SFits w32 b) where
@@ -78,7 +85,7 @@ same-bits (negsuc a) (negsuc b) f g = go (ℕ-discrete a b)
 pub equal-read : (a b : ℤ) → SFits w32 a → SFits w32 b → {r : ℤ} → r ≡ truth (eqb (ofZ w32 a) (ofZ w32 b)) → read r ≡ applied Equal a b
 equal-read a b fa fb e = answer (eqb (ofZ w32 a) (ofZ w32 b)) e (same-bits a b fa fb)
 
-pub ruleset meaning-ways = (not-zero, one-of-two, two-of-two, less-read, at-most-read, equal-read, first-read, second-read, needs)
+pub ruleset meaning-ways = (not-zero, one-of-two, two-of-two, not-one, minus-read, less-read, at-most-read, equal-read, first-read, second-read, needs)
 
 -- ---- by number
 entry-past : (xs : List Meaning) (i : ℕ) → length xs ≤ i → entry xs i ≡ none
@@ -91,7 +98,7 @@ entry-there [] i h = absurd (omega arith)
 entry-there (x ∷ xs) zero h = refl
 entry-there (x ∷ xs) (suc i) h = entry-there xs i (omega arith)
 
-over-nine : (n : ℕ) → 9 < n → meant n ≡ none
+pub over-nine : (n : ℕ) → 9 < n → meant n ≡ none
 over-nine zero h = refl
 over-nine (suc i) h = entry-past inOrder i (omega arith)
 
@@ -108,6 +115,19 @@ from-one (suc i) h = go (decLt 9 (suc i))
     go (no l) = le-ltb 9 (suc i) (omega arith) ∙ sym (entry-there inOrder i (omega arith))
 
 pub ruleset missing-ways = (under-one, from-one, needs)
+
+pub under-ten : (n : ℕ) → n < 10 → true ≡ isMissing (prefixMeant n)
+under-ten n h = rw (ne-eqb n 10 (λ e. omega arith), ne-eqb n 11 (λ e. omega arith))
+
+pub from-ten : (n : ℕ) → 10 ≤ n → ltb 11 n ≡ isMissing (prefixMeant n)
+from-ten n h = go (ℕ-discrete n 10) (ℕ-discrete n 11)
+  where
+    go : Dec (n ≡ 10) → Dec (n ≡ 11) → ltb 11 n ≡ isMissing (prefixMeant n)
+    go (yes e) g = rw (eq-eqb n 10 e) (le-ltb 11 n (omega arith))
+    go (no d) (yes e) = rw (ne-eqb n 10 d, eq-eqb n 11 e) (le-ltb 11 n (omega arith))
+    go (no d) (no e) = rw (ne-eqb n 10 d, ne-eqb n 11 e) (lt-ltb 11 n (omega (arith, d, e)))
+
+pub ruleset prefix-missing-ways = (under-ten, from-ten, needs)
 
 pub over-the-last : (n : ℕ) (a b : ℤ) → 9 < n → pos 0 ≡ worked (meant n) a b
 over-the-last n a b h = sym (ap (λ m. worked m a b) (over-nine n h))
@@ -141,3 +161,19 @@ module _ {a b : ℤ} (fa : SFits w32 a) (fb : SFits w32 b) where
     picked (suc (suc (suc (suc (suc (suc (suc (suc (suc (suc n)))))))))) = refl
 
 pub ruleset apply-ways = (over-the-last, picked, needs)
+
+module _ (n : ℕ) (a : ℤ) where
+  module _ (fa : SFits w32 a) {r : ℤ} (fr : SFits w32 r) where
+    made-on : (m : PrefixMeaning) → r ≡ appliedTo m (read a) → read r ≡ appliedTo m a
+    made-on m e = toZ-ofZ fr ∙ e ∙ ap (appliedTo m) (toZ-ofZ fa)
+
+    pub by-not : n ≡ 10 → r ≡ appliedTo Not (read a) → read r ≡ workedOn (prefixMeant n) a
+    by-not q e = rw (eq-eqb n 10 q) (made-on Not e)
+
+    pub by-minus : (n ≡ 10 → ⊥) → n ≡ 11 → r ≡ appliedTo Minus (read a) → read r ≡ workedOn (prefixMeant n) a
+    by-minus d q e = rw (ne-eqb n 10 d, eq-eqb n 11 q) (made-on Minus e)
+
+  pub by-neither : (n ≡ 10 → ⊥) → (n ≡ 11 → ⊥) → pos 0 ≡ workedOn (prefixMeant n) a
+  by-neither d q = rw (ne-eqb n 10 d, ne-eqb n 11 q)
+
+pub ruleset apply-prefix-ways = (by-not, by-minus, by-neither, needs)

@@ -12,7 +12,7 @@ use mir.Syntax.{w32}
 use mir.Val.{SFits}
 use mir.Facts.{toZ-ofZ}
 use Rattle.expression.specs.Refusal.{first, accepted, place, empty, noMeaning, noReading}
-use Rattle.expression.specs.Token.{Operators, operators, class}
+use Rattle.expression.specs.Token.{Operators, class}
 use Rattle.expression.specs.Tree.{Tree, recordOf}
 use Rattle.expression.specs.Decode.{treeOf}
 use Rattle.expression.specs.Checks.{recordChecks, recordNumber}
@@ -38,41 +38,43 @@ use Rattle.evaluator.proofs.Lacking.{meanings-of-tree, readings-of-tree
 pub refused : (number found : ℕ) (v : ℤ) → found ≡ number → (number ≡ accepted → ⊥) → {r : Evaluation} → r ≡ record { number = number; value = pos 0 } → r ≡ evaluated found v
 refused number found v known h e = e ∙ rw (known, ne-eqb number accepted h)
 
-module _ (meanings : List ℕ) (readings : List ℤ) (ops : Operators) (bytes : List ℕ) where
-  -- ---- an accepted record, and its tree
-  module _ (t : Tree) (a : Accepted ops bytes t) where
-    pub by-tree : numberOf meanings readings ops bytes ≡ first (treeChecks meanings readings t)
-    unfolding numberOf
-    by-tree =
-        first-append (recordChecks ops bytes) (checksIn meanings readings (treeOf (class ops) bytes)) (a .passed)
-        ∙ ap (λ t. first (checksIn meanings readings t)) (a .read)
+-- an accepted record, and its tree
+pub by-tree : (meanings : List ℕ) (readings : List ℤ) (ops : Operators) (bytes : List ℕ) (t : Tree) → Accepted ops bytes t
+    → numberOf meanings readings ops bytes ≡ first (treeChecks meanings readings t)
+unfolding numberOf
+by-tree meanings readings ops bytes t a =
+    first-append (recordChecks ops bytes) (checksIn meanings readings (treeOf (class ops) bytes)) (a .passed)
+    ∙ ap (λ t. first (checksIn meanings readings t)) (a .read)
 
-    -- what the checks find in the bytes is what the tree lacks
+-- ---- the number
+module _ (meanings : List ℕ) (readings : List ℤ) (sheet bytes : List ℕ) where
+  abbrev ops : Operators
+  ops = operatorsOf sheet
+
+  -- what the checks find in the bytes is what the tree lacks
+  module _ (t : Tree) (a : Accepted ops bytes t) where
     recorded : recordOf t ≡ bytes
     recorded = record-treeOf (class ops) (brackets ops) bytes t (a .read) .0
 
-    meanings-found : anyMeaningless meanings bytes ≡ lacksMeaning meanings t
-    meanings-found = ap (anyMeaningless meanings) (sym recorded) ∙ meanings-of-tree ops meanings t (a .stands .over)
+    meanings-found : anyMeaningless sheet meanings bytes ≡ lacksMeaning meanings t
+    meanings-found = ap (anyMeaningless sheet meanings) (sym recorded) ∙ meanings-of-tree sheet meanings t (a .stands .over)
 
     readings-found : anyBeyond (length readings) bytes ≡ lacksReading readings t
     readings-found = ap (anyBeyond (length readings)) (sym recorded) ∙ readings-of-tree ops readings t (a .stands .over)
 
-    by-bytes : first ((anyMeaningless meanings bytes, noMeaning) ∷ (anyBeyond (length readings) bytes, noReading) ∷ []) ≡ numberOf meanings readings ops bytes
-    by-bytes = ap₂ (λ x y. first ((x, noMeaning) ∷ (y, noReading) ∷ [])) meanings-found readings-found ∙ sym by-tree
+    by-bytes : first ((anyMeaningless sheet meanings bytes, noMeaning) ∷ (anyBeyond (length readings) bytes, noReading) ∷ []) ≡ numberOf meanings readings ops bytes
+    by-bytes = ap₂ (λ x y. first ((x, noMeaning) ∷ (y, noReading) ∷ [])) meanings-found readings-found ∙ sym (by-tree meanings readings ops bytes t a)
 
-  -- ---- the number
   module _ {number : ℕ} (known : number ≡ recordNumber ops bytes) where
     pub own-number : (number ≡ accepted → ⊥) → number ≡ numberOf meanings readings ops bytes
     unfolding numberOf recordNumber
     own-number f = known ∙ sym (first-refused (recordChecks ops bytes) (checksIn meanings readings (treeOf (class ops) bytes)) (λ z. f (known ∙ z)))
 
-    pub no-stranger : number ≡ accepted → {n : ℕ} → n ≡ ops .count → strangerInRecord (operators n) bytes ≡ false
+    pub no-stranger : number ≡ accepted → strangerInRecord ops bytes ≡ false
     unfolding strangerInRecord
-    no-stranger z e =
-        let (t, a) = accepted-tree ops bytes (sym known ∙ z) in
-        ap (λ n. strangerInRecord (operators n) bytes) e ∙ a .passed .1 .0
+    no-stranger z = let (t, a) = accepted-tree ops bytes (sym known ∙ z) in a .passed .1 .0
 
-    module _ (z : number ≡ accepted) {s : Bool} (m : s ≡ anyMeaningless meanings bytes) where
+    module _ (z : number ≡ accepted) {s : Bool} (m : s ≡ anyMeaningless sheet meanings bytes) where
       in-order : first ((s, noMeaning) ∷ (anyBeyond (length readings) bytes, noReading) ∷ []) ≡ numberOf meanings readings ops bytes
       in-order =
           let (t, a) = accepted-tree ops bytes (sym known ∙ z) in
@@ -88,7 +90,8 @@ module _ (meanings : List ℕ) (readings : List ℤ) (ops : Operators) (bytes : 
         pub nothing-lacks : u ≡ false → accepted ≡ numberOf meanings readings ops bytes
         nothing-lacks v = rw (← in-order, q, sym b ∙ v)
 
-  -- ---- the value
+-- ---- the value
+module _ (meanings : List ℕ) (readings : List ℤ) (ops : Operators) (bytes : List ℕ) where
   module _ {number : ℕ} (known : number ≡ numberOf meanings readings ops bytes) where
     pub refused-record : (number ≡ accepted → ⊥) → {r : Evaluation} → r ≡ record { number = number; value = pos 0 } → r ≡ ofRecord meanings readings ops bytes
     unfolding ofRecord
@@ -99,10 +102,15 @@ module _ (meanings : List ℕ) (readings : List ℤ) (ops : Operators) (bytes : 
       unfolding numberOf recordNumber
       the-tree = accepted-tree ops bytes (front-accepted (recordChecks ops bytes) (checksIn meanings readings (treeOf (class ops) bytes)) (record-numbered ops bytes) (sym known ∙ z))
 
+      none-lacking : (t : Tree) → Accepted ops bytes t → (lacksMeaning meanings t ≡ false) × (lacksReading readings t ≡ false)
+      none-lacking t a =
+          let (m, (r, _)) = passed-first (treeChecks meanings readings t) ((λ e. omega arith), ((λ e. omega arith), tt)) (sym (by-tree meanings readings ops bytes t a) ∙ sym known ∙ z) in
+          (m, r)
+
       pub can-be-valued : Evaluable bytes meanings readings 0
       can-be-valued =
           let (t, a) = the-tree in
-          let (m, (r, _)) = passed-first (treeChecks meanings readings t) ((λ e. omega arith), ((λ e. omega arith), tt)) (sym (by-tree t a) ∙ sym known ∙ z) in
+          let (m, r) = none-lacking t a in
           record {
             short = a .bytes-fit;
             ops = ops;
@@ -118,7 +126,7 @@ module _ (meanings : List ℕ) (readings : List ℤ) (ops : Operators) (bytes : 
       valued {w = w} f r =
           let (t, a) = the-tree in
           let same : read w ≡ valueIn meanings readings (treeOf (class ops) bytes) =
-          toZ-ofZ f ∙ r .valued ops t (length bytes) (a .stands) ∙ ap (valueIn meanings readings) (sym (a .read)) in
+          toZ-ofZ f ∙ r .valued ops t (length bytes) (a .stands) (none-lacking t a .0) ∙ ap (valueIn meanings readings) (sym (a .read)) in
           rw (sym known ∙ z) (ap (λ (x : ℤ). record { number = accepted; value = x }) same)
 
 pub ruleset number-of-ways = (own-number, no-stranger, no-meaning, no-reading, nothing-lacks, needs)

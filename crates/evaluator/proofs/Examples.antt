@@ -4,9 +4,11 @@ use mathlib.Core.Path.{_≡_, refl}
 use mathlib.Core.List.{List, [], _∷_}
 use lib.IntN.{ℤ, pos, negsuc}
 use Rattle.expression.specs.Lists.{All}
-use Rattle.expression.specs.Tree.{Tree, reading, bracket, binary}
-use Rattle.evaluator.specs.Meanings.{lowest, highest, meant, worked}
-use Rattle.evaluator.specs.Evaluation.{ofTree}
+use Rattle.expression.specs.Token.{infixKind, prefixKind, Operators, operators, class}
+use Rattle.expression.specs.Tree.{Tree, reading, bracket, binary, prefix}
+use Rattle.expression.specs.Decode.{treeOf}
+use Rattle.evaluator.specs.Meanings.{lowest, highest, meant, prefixMeant, worked, workedOn}
+use Rattle.evaluator.specs.Evaluation.{ofTree, numberOf, ofRecord}
 
 -- ---- a meaning, two operands, and what it makes of them
 abbrev Work : Type 0
@@ -37,6 +39,25 @@ pub works-hold : All Works works
 works-hold =
     (refl, (refl, (refl, (refl, (refl, (refl, (refl, (refl, (refl, (refl, (refl, (refl, (refl, (refl, (refl, (refl, (refl, (refl, (refl, (refl, (refl, (refl, (refl, (refl, (refl, (refl, tt))))))))))))))))))))))))))
 
+-- ---- a meaning of prefix operators, the operand, and what it makes of it
+abbrev PrefixWork : Type 0
+PrefixWork = ℕ × ℤ × ℤ
+
+abbrev PrefixWorks : PrefixWork → Type 0
+PrefixWorks (m, a, r) = workedOn (prefixMeant m) a ≡ r
+
+abbrev prefix-works : List PrefixWork
+prefix-works =
+    (10, pos 0, pos 1) ∷ (10, pos 7, pos 0) ∷ (10, negsuc 4, pos 0)
+    -- minus of the lowest number is the highest
+    ∷ (11, pos 7, negsuc 6) ∷ (11, negsuc 4, pos 5) ∷ (11, pos 0, pos 0) ∷ (11, highest, negsuc 2147483646) ∷ (11, lowest, highest)
+    -- no meaning
+    ∷ (7, pos 2, pos 0) ∷ (12, pos 2, pos 0)
+    ∷ []
+
+pub prefix-works-hold : All PrefixWorks prefix-works
+prefix-works-hold = (refl, (refl, (refl, (refl, (refl, (refl, (refl, (refl, (refl, (refl, tt))))))))))
+
 -- ---- a tree with meanings and readings, and what its evaluation answers
 abbrev Case : Type 0
 Case = Tree × List ℕ × List ℤ × ℕ × ℤ
@@ -47,6 +68,13 @@ Answers (t, meanings, readings, number, value) = ofTree meanings readings t ≡ 
 -- operator 0 under operator 1, the left one
 abbrev nested : Tree
 nested = binary 1 (bracket (binary 0 (reading 0x80) (reading 0x81))) (reading 0x82)
+
+-- prefix operator 1 under operator 0, and under itself
+abbrev mixed : Tree
+mixed = binary 0 (reading 0x80) (prefix 1 (reading 0x81))
+
+abbrev twice : Tree
+twice = prefix 1 (prefix 1 (reading 0x80))
 
 abbrev cases : List Case
 cases =
@@ -60,7 +88,45 @@ cases =
     ∷ (nested, 1 ∷ [], [], 13, pos 0)
     -- 14 for the last reading
     ∷ (nested, 1 ∷ 1 ∷ [], pos 1 ∷ pos 1 ∷ [], 14, pos 0)
+    -- 80 and not 81; the sum of 80 and minus 81
+    ∷ (mixed, 2 ∷ 10 ∷ [], pos 3 ∷ pos 0 ∷ [], 0, pos 1)
+    ∷ (mixed, 2 ∷ 10 ∷ [], pos 3 ∷ pos 4 ∷ [], 0, pos 0)
+    ∷ (mixed, 6 ∷ 11 ∷ [], pos 3 ∷ pos 4 ∷ [], 0, negsuc 0)
+    -- minus minus the lowest number is not the lowest
+    ∷ (twice, 0 ∷ 11 ∷ [], lowest ∷ [], 0, negsuc 2147483646)
+    -- 13 where a meaning does not suit the operator's kind, and before 14
+    ∷ (mixed, 10 ∷ 10 ∷ [], pos 1 ∷ pos 1 ∷ [], 13, pos 0)
+    ∷ (mixed, 6 ∷ 7 ∷ [], pos 1 ∷ pos 1 ∷ [], 13, pos 0)
+    ∷ (mixed, 6 ∷ 7 ∷ [], [], 13, pos 0)
+    ∷ (mixed, 6 ∷ 11 ∷ [], pos 1 ∷ [], 14, pos 0)
     ∷ []
 
 pub cases-hold : All Answers cases
-cases-hold = (refl, (refl, (refl, (refl, (refl, (refl, tt))))))
+cases-hold = (refl, (refl, (refl, (refl, (refl, (refl, (refl, (refl, (refl, (refl, (refl, (refl, (refl, (refl, tt))))))))))))))
+
+-- ---- a record under the operators of a sheet, and what its evaluation answers
+abbrev RecordCase : Type 0
+RecordCase = Operators × List ℕ × List ℕ × List ℤ × ℕ × ℤ
+
+abbrev RecordAnswers : RecordCase → Type 0
+RecordAnswers (ops, bytes, meanings, readings, number, value) = ofRecord meanings readings ops bytes ≡ record { number = number; value = value }
+
+-- operator 0 is infix and operator 1 prefix
+abbrev kinds : Operators
+kinds = operators 2 (infixKind ∷ prefixKind ∷ [])
+
+abbrev record-cases : List RecordCase
+record-cases =
+    -- not 80, by its value
+    (kinds, 1 ∷ 0x80 ∷ [], 6 ∷ 10 ∷ [], pos 0 ∷ [], 0, pos 1)
+    ∷ (kinds, 1 ∷ 0x80 ∷ [], 6 ∷ 10 ∷ [], pos 5 ∷ [], 0, pos 0)
+    -- the meaning of an operator that the tree lacks does not matter
+    ∷ (kinds, 1 ∷ 0x80 ∷ [], 10 ∷ 10 ∷ [], pos 5 ∷ [], 0, pos 0)
+    -- 13 for either kind, before 14
+    ∷ (kinds, 1 ∷ 0x80 ∷ [], 6 ∷ 7 ∷ [], [], 13, pos 0)
+    ∷ (kinds, 0 ∷ 0x80 ∷ 0x81 ∷ [], 10 ∷ 10 ∷ [], [], 13, pos 0)
+    ∷ []
+
+pub record-cases-hold : All RecordAnswers record-cases
+unfolding ofRecord numberOf treeOf class
+record-cases-hold = (refl, (refl, (refl, (refl, (refl, tt)))))

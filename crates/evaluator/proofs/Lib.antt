@@ -2,6 +2,7 @@ pub mod Range
 pub mod Stopping
 pub mod Applying
 pub mod Lacking
+pub mod TreeByByte
 pub mod Walking
 pub mod Evaluating
 pub mod Promised

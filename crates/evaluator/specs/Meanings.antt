@@ -1,14 +1,19 @@
 -- The meanings of operators (docs/REFERENCE.md, section 7), over the integers. Assumes nothing.
 use Prim.Native.Nat.{ℕ, zero, suc}
-use mathlib.Core.Bool.{Bool, true, false, _||_, _&&_, cond}
+use mathlib.Core.Bool.{Bool, true, false, not, _||_, _&&_, cond}
 use mathlib.Core.Option.{Option, none, some}
 use mathlib.Core.List.{List, [], _∷_}
 use lib.Dec.{eqb}
 use lib.IntN.{ℤ, pos, negsuc, _+ℤ_, _-ℤ_}
 use lib.Signed.{ltZ, leZ}
 
+-- of infix operators
 pub data Meaning : Type 0 where
   Or And Less AtMost Equal Sum Difference Smaller Larger : Meaning
+
+-- of prefix operators
+pub data PrefixMeaning : Type 0 where
+  Not Minus : PrefixMeaning
 
 -- in the order of their numbers, 1 to 9
 abbrev pub inOrder : List Meaning
@@ -19,12 +24,16 @@ entry [] i = none
 entry (x ∷ xs) zero = some x
 entry (x ∷ xs) (suc i) = entry xs i
 
--- the meaning with that number; 0 and numbers over 9 have none
+-- the meaning with that number for infix operators; 0 and numbers over 9 have none
 abbrev pub meant : ℕ → Option Meaning
 meant zero = none
 meant (suc i) = entry inOrder i
 
-abbrev pub isMissing : Option Meaning → Bool
+-- the one for prefix operators: 10 and 11 have one
+abbrev pub prefixMeant : ℕ → Option PrefixMeaning
+prefixMeant n = cond (eqb n 10) (some Not) (cond (eqb n 11) (some Minus) none)
+
+abbrev pub isMissing : {A : Type 0} → Option A → Bool
 isMissing none = true
 isMissing (some m) = false
 
@@ -68,7 +77,16 @@ applied Difference a b = atEnds (a -ℤ b)
 applied Smaller a b = cond (ltZ b a) b a
 applied Larger a b = cond (ltZ a b) b a
 
+-- And of the value of the only operand.
+abbrev pub appliedTo : PrefixMeaning → ℤ → ℤ
+appliedTo Not a = truth (not (isTrue a))
+appliedTo Minus a = atEnds (pos 0 -ℤ a)
+
 -- 0, where there is no meaning
 abbrev pub worked : Option Meaning → ℤ → ℤ → ℤ
 worked none a b = pos 0
 worked (some m) a b = applied m a b
+
+abbrev pub workedOn : Option PrefixMeaning → ℤ → ℤ
+workedOn none a = pos 0
+workedOn (some m) a = appliedTo m a

@@ -36,12 +36,11 @@ fn unevaluated(number: u8) -> Evaluation
 fn number_of(sheet: &[u32; SHEET_WORDS], bytes: &[u8], meanings: &[u8], readings: &[i32]) -> u8
     ensures { λ r. ⌜ r ≡ numberOf (now (meanings .entry)) (now (readings .entry)) (operatorsOf (now (sheet .entry))) (now (bytes .entry)) ⌝ }
 {
-    let n = sheet::operator_count(sheet);
     let number = record::record_number(sheet, bytes);
     if number != refusal::ACCEPTED {
         return number;
     }
-    if checks::lacks_meaning(n, meanings, bytes) {
+    if checks::lacks_meaning(sheet, meanings, bytes) {
         return refusal::NO_MEANING;
     }
     if checks::lacks_reading(readings.len(), bytes) {

@@ -1,12 +1,17 @@
 // The meanings of operators, by their numbers (docs/REFERENCE.md, section 7). Zero is false, all else is true; a truth answer is 0 or 1.
 ghost use mathlib.Core.Path.{_≡_};
-ghost use Rattle.evaluator.specs.Meanings.{isTrue, truth, Or, And, Less, AtMost, Equal, Smaller, Larger, applied, meant, worked, isMissing};
+ghost use Rattle.evaluator.specs.Meanings.{isTrue, truth, Or, And, Less, AtMost, Equal, Smaller, Larger, Not, Minus, applied, appliedTo, meant, prefixMeant, worked, workedOn, isMissing};
 use crate::ends;
 
-// The first and the last of them.
+// The first and the last of infix operators.
 const OR: u8 = 1;
 
 const LARGER: u8 = 9;
+
+// Those of prefix operators.
+pub const NOT: u8 = 10;
+
+const MINUS: u8 = 11;
 
 fn is_true(a: i32) -> bool
     ensures { λ r. ⌜ r ≡ isTrue a ⌝ }
@@ -71,7 +76,19 @@ fn larger(a: i32, b: i32) -> i32
     a
 }
 
-// No meaning has that number.
+fn negated(a: i32) -> i32
+    ensures { λ r. ⌜ r ≡ appliedTo Not a ⌝ }
+{
+    truth(!is_true(a))
+}
+
+fn minus(a: i32) -> i32
+    ensures { λ r. ⌜ r ≡ appliedTo Minus a ⌝ }
+{
+    ends::difference(0, a)
+}
+
+// No meaning of infix operators has that number.
 pub fn is_missing(number: u8) -> bool
     ensures { λ r. ⌜ r ≡ isMissing (meant number) ⌝ }
 {
@@ -79,6 +96,16 @@ pub fn is_missing(number: u8) -> bool
         return true;
     }
     LARGER < number
+}
+
+// No meaning of prefix operators has it.
+pub fn is_prefix_missing(number: u8) -> bool
+    ensures { λ r. ⌜ r ≡ isMissing (prefixMeant number) ⌝ }
+{
+    if number < NOT {
+        return true;
+    }
+    MINUS < number
 }
 
 // What the meaning with that number makes of the values of the left and of the right operand; 0 where there is none. All are
@@ -102,4 +129,17 @@ pub fn apply(number: u8, a: i32, b: i32) -> i32
         larger(a, b),
     ];
     made[number as usize]
+}
+
+// What the meaning with that number makes of the value of the only operand; 0 where there is none.
+pub fn apply_prefix(number: u8, a: i32) -> i32
+    ensures { λ r. ⌜ r ≡ workedOn (prefixMeant number) a ⌝ }
+{
+    if number == NOT {
+        return negated(a);
+    }
+    if number == MINUS {
+        return minus(a);
+    }
+    0
 }

@@ -25,7 +25,8 @@ fn value_at<'a, 'b, 'c, 'd, 'e, 'f>(
     readings[(byte - token::FIRST_READING) as usize]
 }
 
-// The same where no reading stands: a bracket, or an operator with its operands behind it, the left one first.
+// The same where no reading stands: a bracket, or an operator with its operands behind it, the left one first. The number of its meaning tells
+// which kind it is.
 fn node_value<'a, 'b, 'c, 'd, 'e, 'f>(
     bytes: &'a &'b [u8],
     lent: &'c &'d [u8],
@@ -42,9 +43,14 @@ fn node_value<'a, 'b, 'c, 'd, 'e, 'f>(
     if byte == token::OPENING {
         return value_at(bytes, lent, readings, at);
     }
+    let number = lent[byte as usize];
+    if meanings::NOT <= number {
+        let operand = value_at(bytes, lent, readings, at);
+        return meanings::apply_prefix(number, operand);
+    }
     let left = value_at(bytes, lent, readings, at);
     let right = value_at(bytes, lent, readings, at);
-    meanings::apply(lent[byte as usize], left, right)
+    meanings::apply(number, left, right)
 }
 
 // The value of the tree that the whole record is of.

@@ -17,13 +17,14 @@ use Rattle.sheet.specs.Layout.{operatorsOf}
 use Rattle.sheet.specs.Relation.{bitOf, closesIn}
 use Rattle.sheet.specs.Marking.{marked, marks, marksAll}
 use Rattle.sheet.specs.Chaining.{changed, added, joined, passed, chained, related}
+use Rattle.sheet.specs.Kinds.{withBit, wordWhere}
 use Rattle.sheet.specs.Loading.{sheetOf}
 use Rattle.parser.specs.Build.{built}
 use Rattle.places.specs.Store.{held, imageOf, stored}
 use Rattle.places.specs.Store as store
 use Rattle.monitor.specs.Call.{load, putRow, putRecord, drop, ask, fetchRecord, repair, judge}
-use Rattle.monitor.specs.Panel.{Panel, usesBeyond, rebuiltTo}
-use Rattle.monitor.specs.Steps.{loadNumber, putRowNumber, dropNumber, fetchRecordNumber, sheetAfter, placesAfterLoad, placesAfterRow, placesAfterDrop}
+use Rattle.monitor.specs.Panel.{Panel, usesOther, rebuiltTo}
+use Rattle.monitor.specs.Steps.{loadNumber, putRowNumber, dropNumber, fetchRecordNumber, afterLoad, placesAfterRow, placesAfterDrop}
 use Rattle.hexadecimal.specs.Digits.{isDigit, digitOf, allDigits, byteOf, characterOf}
 use Rattle.hexadecimal.specs.Text.{pairBytes, bytesOf, textOf}
 use Rattle.frame.specs.Frames.{room, callOf}
@@ -32,7 +33,7 @@ use Rattle.frame.specs.Runs.{panelAfterLines}
 
 -- ---- the listing
 abbrev first : List ℕ
-first = textOf (0x01 ∷ 0x02 ∷ 0x01 ∷ 0x01 ∷ 0x00 ∷ 0x02 ∷ 0x01 ∷ 0x01 ∷ 0x02 ∷ 0x00 ∷ 0x00 ∷ [])
+first = textOf (0x01 ∷ 0x02 ∷ 0x00 ∷ 0x00 ∷ 0x01 ∷ 0x01 ∷ 0x00 ∷ 0x02 ∷ 0x01 ∷ 0x01 ∷ 0x02 ∷ 0x00 ∷ 0x00 ∷ [])
 
 abbrev second : List ℕ
 second = textOf (0x02 ∷ 0x03 ∷ 0x80 ∷ 0x00 ∷ 0x81 ∷ 0x01 ∷ 0x82 ∷ [])
@@ -44,10 +45,10 @@ abbrev fourth : List ℕ
 fourth = textOf (0x03 ∷ 0x04 ∷ [])
 
 abbrev fifth : List ℕ
-fifth = textOf (0x01 ∷ 0x02 ∷ 0x01 ∷ 0x00 ∷ 0x01 ∷ 0x02 ∷ 0x01 ∷ 0x01 ∷ 0x02 ∷ 0x00 ∷ 0x00 ∷ [])
+fifth = textOf (0x01 ∷ 0x02 ∷ 0x00 ∷ 0x00 ∷ 0x01 ∷ 0x00 ∷ 0x01 ∷ 0x02 ∷ 0x01 ∷ 0x01 ∷ 0x02 ∷ 0x00 ∷ 0x00 ∷ [])
 
 pub calls-of-listing :
-    (lineCall first ≡ some (load 2 (0x01 ∷ 0x01 ∷ 0x00 ∷ 0x02 ∷ 0x01 ∷ 0x01 ∷ 0x02 ∷ 0x00 ∷ 0x00 ∷ [])))
+    (lineCall first ≡ some (load 2 (0x00 ∷ 0x00 ∷ 0x01 ∷ 0x01 ∷ 0x00 ∷ 0x02 ∷ 0x01 ∷ 0x01 ∷ 0x02 ∷ 0x00 ∷ 0x00 ∷ [])))
     × (lineCall second ≡ some (putRow 3 (0x80 ∷ 0x00 ∷ 0x81 ∷ 0x01 ∷ 0x82 ∷ [])))
     × (lineCall third ≡ some (ask (fetchRecord 3 room)))
     × (lineCall fourth ≡ some (drop 4))
@@ -62,7 +63,7 @@ pub replies-of-listing :
     × (lineReply (panelAfterLines (third ∷ second ∷ first ∷ [])) fourth ≡ textOf (empty ∷ []))
     × (lineReply (panelAfterLines (fourth ∷ third ∷ second ∷ first ∷ [])) fifth ≡ textOf (accepted ∷ []))
     × (lineReply (panelAfterLines (fifth ∷ fourth ∷ third ∷ second ∷ first ∷ [])) third ≡ textOf (accepted ∷ 0x01 ∷ 0x00 ∷ 0x80 ∷ 0x81 ∷ 0x82 ∷ []))
-unfolding panelAfterLines lineAfter lineReply lineBytes lineCall callOf room bytesOf allDigits pairBytes isDigit digitOf byteOf textOf characterOf loadNumber putRowNumber dropNumber fetchRecordNumber sheetAfter placesAfterLoad placesAfterRow placesAfterDrop usesBeyond rebuiltTo store.fresh held imageOf stored built made parse sheetOf marksAll marks marked changed added joined passed chained related operatorsOf closesIn bitOf safe total within level allBelow L R recordNumber treeOf isRow class
+unfolding panelAfterLines lineAfter lineReply lineBytes lineCall callOf room bytesOf allDigits pairBytes isDigit digitOf byteOf textOf characterOf loadNumber putRowNumber dropNumber fetchRecordNumber afterLoad placesAfterRow placesAfterDrop usesOther rebuiltTo store.fresh held imageOf stored built made parse sheetOf marksAll marks marked changed added joined passed chained related withBit wordWhere operatorsOf closesIn bitOf safe total within level allBelow L R recordNumber treeOf isRow class
 replies-of-listing = (refl, refl, refl, refl, refl, refl)
 
 -- ---- edges

@@ -78,8 +78,8 @@ module _ (p : Panel) (b : Book) (s : Stands p b) where
   said-to (shortestRow bytes out) z = tells p b s (shortestRow bytes out) z
 
   said : (c : Call) → bookNumber b c ≡ accepted → Said b c (answerOf p c)
-  said (load n rules) z = refl
-  said (loadList n rules) z = refl
+  said (load n bytes) z = refl
+  said (loadList n kinds rules) z = refl
   said (putRow k row) z = refl
   said (putRecord k bytes) z = refl
   said (drop k) z = refl

@@ -10,11 +10,12 @@ use lib.ListN.{length}
 use borrow.Author.Tests.{le-ltb, ltb-false, eq-eqb}
 use Rattle.expression.specs.Refusal.{Check, first, accepted, short}
 use Rattle.expression.specs.Limits.{mostTokens, mostRecordBytes}
-use Rattle.expression.specs.Token.{Operators, operators, class}
+use Rattle.expression.specs.Token.{Operators, class}
 use Rattle.expression.specs.Decode.{treeOf}
 use Rattle.expression.specs.Checks.{shortCheck, rowTokens, rowChecks, recordChecks, recordNumber, repairNumber}
 use Rattle.expression.proofs.Cond.{by-cond}
 use Rattle.expression.proofs.Numbers.{passed-first, record-numbered}
+use Rattle.disambiguation.specs.SheetChecks.{operatorsIn}
 use Rattle.places.specs.Store.{slotBytes, held}
 use Rattle.places.proofs.Laws.{held-length}
 use Rattle.monitor.specs.Call.{Call, load, putRow, putRecord, drop, ask, fetchRecord, fetchRow, image, repair}
@@ -73,7 +74,7 @@ module _ (p : Panel) where
   kind-fits : (kind : ℕ) (rest : List ℕ) → Fits (callOf kind rest)
   unfolding callOf loadNumber putRowNumber putRecordNumber dropNumber fetchRecordNumber fetchRowNumber imageNumber recordNumber repairNumber
   kind-fits kind rest =
-      by-cond Fits (eqb kind 1) (λ _. named-fits load rest (λ m l. plain-only (sheetChecks m l ++ (inUseCheck (operators m) at ∷ [])) refl)) (λ _.
+      by-cond Fits (eqb kind 1) (λ _. named-fits load rest (λ m l. plain-only (sheetChecks m l ++ (inUseCheck o (operatorsIn m l) at ∷ [])) refl)) (λ _.
       by-cond Fits (eqb kind 2) (λ _. named-fits putRow rest (λ k l. plain-only (placeCheck k ∷ rowChecks o l) refl)) (λ _.
       by-cond Fits (eqb kind 3) (λ _. alone-fits drop rest (λ k. plain-only (placeCheck k ∷ emptyCheck (at k) ∷ []) refl)) (λ _.
       by-cond Fits (eqb kind 4) (λ _. alone-fits (λ k. ask (fetchRecord k room)) rest record-fits) (λ _.

@@ -62,8 +62,8 @@ module _ (p : Panel) where
   toldBytes (shortestRow bytes out) = told p (shortestRow bytes out) .answer
 
   abbrev pub answerOf : Call → List ℕ
-  answerOf (load n rules) = []
-  answerOf (loadList n rules) = []
+  answerOf (load n bytes) = []
+  answerOf (loadList n kinds rules) = []
   answerOf (putRow k row) = []
   answerOf (putRecord k bytes) = []
   answerOf (drop k) = []

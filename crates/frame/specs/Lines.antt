@@ -5,16 +5,16 @@ use mathlib.Core.List.{List, [], _∷_}
 use mathlib.Core.Option.{Option, none, some}
 use lib.Dec.{ltb}
 use lib.ListN.{length}
-use Rattle.expression.specs.Limits.{mostRuleBytes}
+use Rattle.expression.specs.Limits.{mostOperators, mostRuleBytes}
 use Rattle.expression.specs.Refusal.{oversize}
 use Rattle.monitor.specs.Call.{Call}
 use Rattle.monitor.specs.Panel.{Panel}
 use Rattle.hexadecimal.specs.Text.{bytesOf, textOf}
 use Rattle.frame.specs.Frames.{frameCall, frameAfter, frameReply}
 
--- The longest frame is a sheet's: its kind, n, and the most rule bytes. A line of more than its characters, two a byte, is too long.
+-- The longest frame is a sheet's: its kind, n, the most kind bytes and the most rule bytes. A line of more than its characters, two a byte, is too long.
 abbrev pub mostFrame : ℕ
-mostFrame = 2 + mostRuleBytes
+mostFrame = 2 + mostOperators + mostRuleBytes
 
 abbrev pub mostCharacters : ℕ
 mostCharacters = 2 * mostFrame

@@ -35,6 +35,6 @@ OfCall b line number = (c : Call) × (lineCall line ≡ some c) × Means b c num
 abbrev pub WithFrame : Book → List ℕ → ℕ → Type 0
 WithFrame b line = When (NoPairs line ⊎ ((bytes : List ℕ) × (bytesOf line ≡ some bytes) × NoFrame bytes)) frame (OfCall b line)
 
--- 1: over 12,292 characters; then 12; then the call's numbers.
+-- 1: over 12,356 characters; then 12; then the call's numbers.
 abbrev pub MeansLine : Book → List ℕ → ℕ → Type 0
 MeansLine b line = When (mostCharacters < length line) oversize (WithFrame b line)

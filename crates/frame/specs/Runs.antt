@@ -46,8 +46,8 @@ module _ (b : Book) where
 
   -- and to any call
   abbrev pub Said : Call → List ℕ → Type 0
-  Said (load n rules) answer = answer ≡ []
-  Said (loadList n rules) answer = answer ≡ []
+  Said (load n bytes) answer = answer ≡ []
+  Said (loadList n kinds rules) answer = answer ≡ []
   Said (putRow k row) answer = answer ≡ []
   Said (putRecord k bytes) answer = answer ≡ []
   Said (drop k) answer = answer ≡ []

@@ -1,4 +1,5 @@
 // The lengths of frames, answers and lines, as in the specification's `Lines` and `Contracts`.
+use expression::limits::MOST_OPERATORS;
 use expression::limits::MOST_RULE_BYTES;
 use places::limits::SLOT_BYTES;
 
@@ -8,8 +9,8 @@ pub const MOST_ANSWER: usize = SLOT_BYTES;
 // The characters of the longest reply: the number and the longest answer, two a byte.
 pub const MOST_REPLY: usize = 2 * (1 + MOST_ANSWER);
 
-// The longest frame is a sheet's: its kind, n, and the most rule bytes. A line of more than its characters is too long.
-pub const MOST_FRAME: usize = 2 + MOST_RULE_BYTES;
+// The longest frame is a sheet's: its kind, n, the most kind bytes and the most rule bytes. A line of more than its characters is too long.
+pub const MOST_FRAME: usize = 2 + MOST_OPERATORS as usize + MOST_RULE_BYTES;
 
 pub const MOST_CHARACTERS: usize = 2 * MOST_FRAME;
 

@@ -8,7 +8,6 @@ number-of-spec =
     tie.close
     (tie.spec
     (λ c κs. search number-of-ways)
-    (λ c κs. search number-of-ways)
     (λ c. search number-of-ways)
     (λ c κs. search number-of-ways)
     (λ c. search number-of-ways)

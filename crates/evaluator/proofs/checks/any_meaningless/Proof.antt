@@ -8,10 +8,10 @@ use Rattle.evaluator.proofs.checks.any_meaningless.Statement.{statement
 use Rattle.evaluator.proofs.checks.any_meaningless.Tie as tie
 
 abbrev Inv-loop : tie.InvT-loop
-Inv-loop lent bytes lacks₀ at₀ lacks at = Looked (meaningless lent) bytes lacks at
+Inv-loop sheet lent bytes lacks₀ at₀ lacks at = Looked (meaningless sheet lent) bytes lacks at
 
 abbrev μ-loop : tie.MeasureT-loop
-μ-loop lent bytes lacks₀ at₀ lacks at = length bytes - at
+μ-loop sheet lent bytes lacks₀ at₀ lacks at = length bytes - at
 
 pub any-meaningless-spec : {M : Type 1} → statement M
 any-meaningless-spec =

@@ -9,6 +9,10 @@ is-meaningless-spec =
     (tie.spec
     (λ c. search meaningless-ways)
     (λ c. search meaningless-ways)
+    (λ c κs. search meaningless-ways)
+    (λ c. search meaningless-ways)
+    (λ c κs. search meaningless-ways)
+    (λ c. search meaningless-ways)
     (λ c. search meaningless-ways)
     (λ c κs. search meaningless-ways)
     (λ c. search meaningless-ways))

@@ -9,6 +9,13 @@ lacks-meaning-spec =
     (tie.spec
     (λ c κs. search lacks-meaning-ways)
     (λ c. search lacks-meaning-ways)
+    (λ c κs. search lacks-meaning-ways)
+    (λ c κs. search lacks-meaning-ways)
+    (λ c. search lacks-meaning-ways)
+    (λ c κs. search lacks-meaning-ways)
+    (λ c. search lacks-meaning-ways)
+    (λ c κs. search lacks-meaning-ways)
+    (λ c. search lacks-meaning-ways)
     (λ c. search lacks-meaning-ways)
     (λ c. search lacks-meaning-ways)
     (λ c. search lacks-meaning-ways)

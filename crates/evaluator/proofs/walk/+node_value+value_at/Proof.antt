@@ -3,7 +3,7 @@ use Prim.Native.Nat.{ℕ, _<_}
 use borrow.Fn.Kinds.{In}
 use borrow.Author.Needs.{needs}
 use borrow.Fn.PlainCycle.{Measures, is, falls, and}
-use Rattle.evaluator.proofs.Walking.{nodeDue, operandDue, operator-inside, right-falls, right-evaluable, operator-value, walk-ways}
+use Rattle.evaluator.proofs.Walking.{nodeDue, operandDue, right-falls, right-evaluable, infix-value, walk-ways}
 use Rattle.evaluator.proofs.walk.node_value.Reads as node-value
 use Rattle.evaluator.proofs.walk.node_value.Kinds as node-value-kinds
 use Rattle.evaluator.proofs.walk.+node_value+value_at.Lts-node_value as node-value-lts
@@ -11,6 +11,7 @@ use Rattle.evaluator.proofs.walk.value_at.Reads as value-at
 use Rattle.evaluator.proofs.walk.value_at.Kinds as value-at-kinds
 use Rattle.evaluator.proofs.walk.+node_value+value_at.Lts-value_at as value-at-lts
 use Rattle.evaluator.proofs.meanings.apply.Reads as apply
+use Rattle.evaluator.proofs.meanings.apply_prefix.Reads as apply-prefix
 use Rattle.evaluator.proofs.walk.+node_value+value_at.{statement}
 use Rattle.evaluator.proofs.walk.+node_value+value_at.Tie.{close}
 
@@ -36,17 +37,20 @@ value-at-below t = and 7 value-at-kinds.ps (falls 7 value-at-kinds.ps _<_ μ-val
 pub +node-value+value-at-spec : {M : Type 1} → statement M
 +node-value+value-at-spec =
     close μ-node-value μ-value-at
-    (λ t. node-value-lts.spec (value-at-below t, value-at.Post, apply.Asked, apply.Learnt) (node-value-at t) node-value.Post
+    (λ t. node-value-lts.spec (value-at-below t, value-at.Post, apply-prefix.Asked, apply-prefix.Learnt, apply.Asked, apply.Learnt) (node-value-at t) node-value.Post
     (λ c. search walk-ways)
     (λ c. search walk-ways)
     (λ c κs. (search walk-ways, search walk-ways))
     (λ c. search walk-ways)
-    (λ c κs. (search walk-ways, search walk-ways))
-    (λ c κs. (search (right-falls (c .before .before .before .before .before .before .pre .1 .0), needs), search (right-evaluable (c .before .before .before .before .before .before .pre .1 .0), needs)))
     (λ c. search walk-ways)
-    (λ c. search (operator-inside (c .before .before .before .before .before .before .before .pre .1 .0), needs))
+    (λ c. search walk-ways)
+    (λ c κs. (search walk-ways, search walk-ways))
     (λ c κs. search walk-ways)
-    (λ c. search (operator-value (c .before .before .before .before .before .before .before .before .before .pre .1 .0), needs)))
+    (λ c. search walk-ways)
+    (λ c κs. (search walk-ways, search walk-ways))
+    (λ c κs. (search (right-falls (c .before .before .before .before .before .before .before .before .pre .1 .0), needs), search (right-evaluable (c .before .before .before .before .before .before .before .before .pre .1 .0), needs)))
+    (λ c κs. search walk-ways)
+    (λ c. search (infix-value (c .before .before .before .before .before .before .before .before .before .before .pre .1 .0), needs)))
     (λ t. value-at-lts.spec (node-value-below t, node-value.Post) (value-at-at t) value-at.Post
     (λ c. search walk-ways)
     (λ c κs. (search walk-ways, search walk-ways))

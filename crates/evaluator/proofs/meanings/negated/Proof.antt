@@ -1,0 +1,12 @@
+-- `evaluator::meanings::negated` meets its contract. Assumes nothing.
+use Rattle.evaluator.proofs.Applying.{meaning-ways}
+use Rattle.evaluator.proofs.meanings.negated.Statement.{statement}
+use Rattle.evaluator.proofs.meanings.negated.Tie as tie
+
+pub negated-spec : {M : Type 1} → statement M
+negated-spec =
+    tie.close
+    (tie.spec
+    (λ c κs. search meaning-ways)
+    (λ c κs. search meaning-ways)
+    (λ c. search meaning-ways))
