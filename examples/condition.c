@@ -3,15 +3,16 @@
 
 #include <stdio.h>
 
-enum { OR = 0x00, AND = 0x01, HOLDOVER = 0x80, ANTENNA = 0x81, PEERS = 0x82 };
+enum { OR = 0x00, AND = 0x01, NOT = 0x02, OPERATORS = 3, HOLDOVER = 0x80, ANTENNA = 0x81, PEERS = 0x82 };
 
 /* What each byte of a record means at this site. */
 static const char *name(uint8_t byte) {
     switch (byte) {
     case OR: return "or";
     case AND: return "and";
+    case NOT: return "not";
     case HOLDOVER: return "holdover over four hours";
-    case ANTENNA: return "antenna lost";
+    case ANTENNA: return "antenna there";
     case PEERS: return "no peers";
     default: return "brackets";
     }
@@ -39,26 +40,34 @@ static int print_place(const struct panel *p) {
     return 0;
 }
 
+/* Loads a sheet of "or", "and" and "not" with these rules and those by which "or" and "and" group to the left. */
+static enum panel_number load(struct panel *p, const struct panel_rule *first, const struct panel_rule *second) {
+    static const uint8_t kinds[] = {PANEL_INFIX, PANEL_INFIX, PANEL_PREFIX};
+    const struct panel_rule rules[] = {*first, *second, {PANEL_LEFT, OR, OR}, {PANEL_LEFT, AND, AND}};
+    return panel_load_rules(p, OPERATORS, kinds, sizeof kinds, rules, 4);
+}
+
 int main(void) {
-    /* "and" over "or", each left with itself; then "or" over "and"; then "or" left and right of itself. */
-    static const uint8_t and_first[] = {PANEL_PRIORITY, AND, OR, PANEL_LEFT, AND, AND, PANEL_LEFT, OR, OR};
-    static const uint8_t or_first[] = {PANEL_PRIORITY, OR, AND, PANEL_LEFT, AND, AND, PANEL_LEFT, OR, OR};
-    static const uint8_t both_ways[] = {PANEL_LEFT, OR, OR, PANEL_RIGHT, OR, OR};
-    static const uint8_t row[] = {HOLDOVER, OR, ANTENNA, AND, PEERS};
+    static const struct panel_rule not_over_and = {PANEL_PRIORITY, NOT, AND}, and_over_or = {PANEL_PRIORITY, AND, OR};
+    static const struct panel_rule and_over_not = {PANEL_PRIORITY, AND, NOT}, not_over_or = {PANEL_PRIORITY, NOT, OR};
+    /* As bytes: the kinds, then no rules, or "or" left and right of itself. */
+    static const uint8_t no_rules[] = {PANEL_INFIX, PANEL_INFIX, PANEL_PREFIX};
+    static const uint8_t both_ways[] = {PANEL_INFIX, PANEL_INFIX, PANEL_PREFIX, PANEL_LEFT, OR, OR, PANEL_RIGHT, OR, OR};
+    static const uint8_t row[] = {HOLDOVER, OR, NOT, ANTENNA, AND, PEERS};
     struct panel p = PANEL_FRESH;
 
     printf("before any sheet: %s\n", panel_word(panel_put_row(&p, 3, row, sizeof row)));
-    printf("\"and\" first: %s\n", panel_word(panel_load(&p, 2, and_first, sizeof and_first)));
+    printf("\"not\", \"and\", \"or\": %s\n", panel_word(load(&p, &not_over_and, &and_over_or)));
     printf("the row: %s\n", panel_word(panel_put_row(&p, 3, row, sizeof row)));
     if (print_place(&p) != 0)
         return 1;
 
-    printf("\"or\" first: %s\n", panel_word(panel_load(&p, 2, or_first, sizeof or_first)));
+    printf("\"and\", \"not\", \"or\": %s\n", panel_word(load(&p, &and_over_not, &not_over_or)));
     if (print_place(&p) != 0)
         return 1;
 
-    printf("no rules: %s\n", panel_word(panel_load(&p, 2, NULL, 0)));
-    printf("both ways: %s\n", panel_word(panel_load(&p, 2, both_ways, sizeof both_ways)));
+    printf("no rules: %s\n", panel_word(panel_load(&p, OPERATORS, no_rules, sizeof no_rules)));
+    printf("both ways: %s\n", panel_word(panel_load(&p, OPERATORS, both_ways, sizeof both_ways)));
     printf("fewer operators: %s\n", panel_word(panel_load(&p, 0, NULL, 0)));
     return print_place(&p);
 }

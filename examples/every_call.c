@@ -7,7 +7,7 @@
 
 #include <string.h>
 
-static const uint8_t sheet_a[] = {1, 1, 0, 2, 1, 1, 2, 0, 0};
+static const uint8_t sheet_a[] = {0, 0, 1, 1, 0, 2, 1, 1, 2, 0, 0};
 static const uint8_t row[] = {0x20, 0x80, 0x00, 0x81, 0x21, 0x01, 0x82};
 static const uint8_t record[] = {0x01, 0x20, 0x00, 0x80, 0x81, 0x82};
 
@@ -70,10 +70,14 @@ static void check_operands(const struct panel *p) {
 
 static void check_rules(struct panel *p) {
     static const struct panel_rule rules[] = {{PANEL_PRIORITY, 1, 0}, {PANEL_LEFT, 1, 1}, {PANEL_LEFT, 0, 0}};
+    static const uint8_t kinds[] = {PANEL_INFIX, PANEL_INFIX, PANEL_PREFIX + 1};
     struct panel other = *p;
-    CHECK(panel_load_rules(p, 1, rules, 3) == PANEL_STRANGER && memcmp(p, &other, sizeof other) == 0);
-    CHECK(panel_load_rules(p, 2, NULL, 0) == PANEL_DOUBLE && memcmp(p, &other, sizeof other) == 0);
-    CHECK(panel_load_rules(p, 2, rules, 3) == PANEL_ACCEPTED);
+    CHECK(panel_load_rules(p, 1, kinds, 1, rules, 3) == PANEL_STRANGER && memcmp(p, &other, sizeof other) == 0);
+    CHECK(panel_load_rules(p, 2, kinds, 2, NULL, 0) == PANEL_DOUBLE && memcmp(p, &other, sizeof other) == 0);
+    CHECK(panel_load_rules(p, 2, NULL, 0, rules, 3) == PANEL_TORN && memcmp(p, &other, sizeof other) == 0);
+    CHECK(panel_load_rules(p, 2, kinds, 3, rules, 3) == PANEL_TORN && memcmp(p, &other, sizeof other) == 0);
+    CHECK(panel_load_rules(p, 3, kinds, 3, rules, 3) == PANEL_STRANGER && memcmp(p, &other, sizeof other) == 0);
+    CHECK(panel_load_rules(p, 2, kinds, 2, rules, 3) == PANEL_ACCEPTED);
     CHECK(panel_load(&other, 2, sheet_a, sizeof sheet_a) == PANEL_ACCEPTED);
     CHECK(memcmp(p, &other, sizeof other) == 0);
 }
@@ -90,11 +94,11 @@ static void check_lines(void) {
     struct panel p = PANEL_FRESH;
     char out[PANEL_MOST_REPLY];
     CHECK(panel_reply(&p, NULL, 0, out) == 2 && memcmp(out, "0c", 2) == 0);
-    CHECK(replies(&p, "0102010100020101020000", "00"));
+    CHECK(replies(&p, "01020000010100020101020000", "00"));
     CHECK(replies(&p, "02038000810182", "00"));
     CHECK(replies(&p, "0403", "000080018182"));
     CHECK(replies(&p, "0304", "09"));
-    CHECK(replies(&p, "0102010001020101020000", "00"));
+    CHECK(replies(&p, "01020000010001020101020000", "00"));
     CHECK(replies(&p, "0403", "000100808182"));
     CHECK(replies(&p, "0403\r", "0c"));
     CHECK(panel_reply(&p, "0903", 4, out) == PANEL_MOST_REPLY && memcmp(out, "00050100808182", 14) == 0);
@@ -114,7 +118,8 @@ static void check_places(struct panel *p, uint8_t *out) {
     CHECK(untouched(panel_fetch_row(p, 0, NULL, 0), PANEL_SHORT, out, 300));
     CHECK(wrote(panel_image(p, 15, out, 300), image, sizeof image, out, 300));
     CHECK(untouched(panel_image(p, 15, out, 255), PANEL_SHORT, out, 300));
-    CHECK(panel_load(p, 1, NULL, 0) == PANEL_DOUBLE);
+    CHECK(panel_load(p, 1, NULL, 0) == PANEL_TORN);
+    CHECK(panel_load(p, 1, sheet_a, 1) == PANEL_DOUBLE);
     CHECK(panel_load(p, 0, NULL, 0) == PANEL_IN_USE);
     CHECK(panel_drop(p, 15) == PANEL_ACCEPTED && panel_drop(p, 15) == PANEL_EMPTY);
     CHECK(panel_drop(p, 0) == PANEL_ACCEPTED && panel_drop(p, 255) == PANEL_PLACE);
@@ -127,7 +132,7 @@ static bool gave(struct panel_value evaluated, enum panel_number number, int32_t
 
 /* The row has the tree (80 00 81) 01 82, with 00 a sum and 01 at most. */
 static void check_values(struct panel *p) {
-    static const uint8_t meanings[] = {PANEL_SUM, PANEL_AT_MOST}, strange[] = {PANEL_SUM, PANEL_LARGER + 1};
+    static const uint8_t meanings[] = {PANEL_SUM, PANEL_AT_MOST}, strange[] = {PANEL_SUM, PANEL_NOT};
     static const int32_t high[] = {INT32_MAX, 1, INT32_MAX}, low[] = {-7, -8, INT32_MIN};
     CHECK(gave(panel_evaluate(p, 3, meanings, 2, high, 3), PANEL_EMPTY, 0));
     CHECK(panel_put_row(p, 3, row, sizeof row) == PANEL_ACCEPTED);
@@ -146,14 +151,43 @@ static void check_values(struct panel *p) {
     CHECK(panel_drop(p, 3) == PANEL_ACCEPTED);
 }
 
+/* Two infix operators and 02, which is prefix and binds between them: 01 over 02 over 00. */
+static void check_prefix(struct panel *p, uint8_t *out) {
+    static const uint8_t sheet[] = {PANEL_INFIX, PANEL_INFIX, PANEL_PREFIX, PANEL_PRIORITY, 1, 2, PANEL_PRIORITY, 2, 0,
+                                    PANEL_LEFT, 0, 0, PANEL_LEFT, 1, 1};
+    static const uint8_t changed[] = {PANEL_INFIX, PANEL_INFIX, PANEL_INFIX, PANEL_PRIORITY, 1, 2, PANEL_PRIORITY, 2, 0,
+                                      PANEL_LEFT, 0, 0, PANEL_LEFT, 1, 1, PANEL_LEFT, 2, 2};
+    static const uint8_t tokens[] = {0x02, 0x80, 0x01, 0x81, 0x00, 0x82}, made[] = {0x00, 0x02, 0x01, 0x80, 0x81, 0x82};
+    /* Three conflicts: 00 on top and 02 on the right edge of the left operand of 01, and 00 below 02. */
+    static const uint8_t wrong[] = {0x01, 0x00, 0x80, 0x02, 0x00, 0x81, 0x82, 0x83};
+    static const uint8_t meanings[] = {PANEL_SUM, PANEL_DIFFERENCE, PANEL_MINUS}, no_minus[] = {6, 7, PANEL_LARGER};
+    static const int32_t readings[] = {INT32_MAX, -1, 1};
+    struct panel_part operand;
+    CHECK(panel_load(p, 3, sheet, 2) == PANEL_TORN);
+    CHECK(panel_load(p, 3, sheet, sizeof sheet) == PANEL_ACCEPTED);
+    CHECK(wrote(panel_build(p, tokens, sizeof tokens, out, 300), made, sizeof made, out, 300));
+    CHECK(panel_judge(p, made, sizeof made).count == 0 && panel_judge(p, wrong, sizeof wrong).count == 3);
+    CHECK(wrote(panel_shortest_row(p, made, sizeof made, out, 300), tokens, sizeof tokens, out, 300));
+    operand = panel_operand(p, made + 1, 4, PANEL_LEFT_SIDE);
+    CHECK(operand.number == PANEL_ACCEPTED && operand.offset == 1 && operand.length == 3);
+    CHECK(panel_operand(p, made + 1, 4, PANEL_RIGHT_SIDE).length == 0);
+    CHECK(panel_put_row(p, 3, tokens, sizeof tokens) == PANEL_ACCEPTED);
+    CHECK(gave(panel_evaluate(p, 3, meanings, 3, readings, 3), PANEL_ACCEPTED, -INT32_MAX + 1));
+    CHECK(gave(panel_evaluate(p, 3, no_minus, 3, readings, 3), PANEL_NO_MEANING, 0));
+    CHECK(panel_load(p, 3, changed, sizeof changed) == PANEL_IN_USE);
+    CHECK(panel_drop(p, 3) == PANEL_ACCEPTED);
+    CHECK(panel_load(p, 3, changed, sizeof changed) == PANEL_ACCEPTED);
+}
+
 int main(void) {
     struct panel p;
     uint8_t out[300];
     memset(out, 0xEE, sizeof out);
     panel_fresh(&p);
     CHECK(panel_load(&p, 33, NULL, 0) == PANEL_OVERSIZE);
-    CHECK(panel_load(&p, 2, sheet_a, 8) == PANEL_TORN);
-    CHECK(panel_load(&p, 1, sheet_a, sizeof sheet_a) == PANEL_STRANGER);
+    CHECK(panel_load(&p, 2, sheet_a, 10) == PANEL_TORN);
+    CHECK(panel_load(&p, 1, sheet_a, sizeof sheet_a) == PANEL_TORN);
+    CHECK(panel_load(&p, 1, sheet_a + 1, sizeof sheet_a - 1) == PANEL_STRANGER);
     CHECK(panel_load(&p, 2, sheet_a, sizeof sheet_a) == PANEL_ACCEPTED);
     check_rules(&p);
     check_lines();
@@ -161,6 +195,7 @@ int main(void) {
     check_operands(&p);
     check_places(&p, out);
     check_values(&p);
+    check_prefix(&p, out);
     CHECK(panel_load(&p, 0, NULL, 0) == PANEL_ACCEPTED);
     for (int number = PANEL_ACCEPTED; number <= PANEL_NO_READING; number++)
         CHECK(strncmp(panel_word((enum panel_number)number), "unknown", 7) != 0);

@@ -15,23 +15,18 @@
  *  - A list of length 0 may be lent as NULL. No other pointer may be NULL: no panel, no other list, no output of a reply.
  *  - What a call only reads may overlap. What it writes must not overlap anything else that is lent to it.
  *
- * Tokens are bytes: operators up to 1F, the brackets 20 and 21, readings from 80 up. Tokens that make up an expression are
- * a row. A record writes a tree as bytes, each node before its operands; a bracket node is 20 and the tree inside.
- * docs/REFERENCE.md of the repository says it in full.
+ * Tokens are bytes: operators up to 1F, the brackets 20 and 21, readings from 80 up. An infix operator stands between two
+ * operands, a prefix operator before its only one. Tokens that make up an expression are a row. A record writes a tree as
+ * bytes, each node before its operands; a bracket node is 20 and the tree inside. docs/REFERENCE.md of the repository says
+ * it in full.
  */
 #ifndef TIHVOMEN_PANEL_H
 #define TIHVOMEN_PANEL_H
 
 #include "panel_exports.h"
+#include "panel_kinds.h"
 #include "panel_numbers.h"
 #include "panel_sizes.h"
-
-/* The kind of a rule, its first byte; the operators a and b are its second and third. */
-enum panel_rule_kind {
-    PANEL_PRIORITY = 1, /* a over b, and over all that b is over: none of them is the top of an operand of a */
-    PANEL_LEFT = 2,     /* a left b: b is not the top of a's right operand */
-    PANEL_RIGHT = 3     /* a right b: b is not the top of a's left operand */
-};
 
 /* The operand that is asked for. */
 enum panel_side {
@@ -106,24 +101,26 @@ PANEL_NODISCARD static inline unsigned panel_operators(const struct panel *p) {
 }
 
 /*
- * The sheet of n operators and the rules, three bytes each, takes the old one's place, and each held tree is rebuilt: it
- * is then the one that its row has under the new sheet. A sheet is accepted only if each row over its operators, however
- * long, has one conflict-free tree and no second. Numbers: 1, 2, 3, 4, 5, 11.
+ * The sheet of n operators takes the old one's place, and each held tree is rebuilt: it is then the one that its row has
+ * under the new sheet. The bytes are n kinds of operators, then the rules, three bytes each. A sheet is accepted only if
+ * each row over its operators, however long, has one conflict-free tree and no second. Numbers: 1, 2, 3, 4, 5, 11.
  */
 PANEL_NODISCARD static inline enum panel_number panel_load(
-    struct panel *p, unsigned n, const uint8_t *rules, size_t length) {
-    return (enum panel_number)tihvomen_load(p->sheet.words, p->places, n, panel_from(rules, length), length);
+    struct panel *p, unsigned n, const uint8_t *kinds_and_rules, size_t length) {
+    const uint8_t *from = panel_from(kinds_and_rules, length);
+    return (enum panel_number)tihvomen_load(p->sheet.words, p->places, n, from, length);
 }
 
 /*
- * The same with the rules as a list of records: the same number and the same panel as with their bytes. Numbers: 1, 3, 4,
- * 5, 11.
+ * The same with the rules as a list of records and the kinds as a list beside it: the same number and the same panel as
+ * with their bytes; any number of kinds but n is 2. Numbers: 1, 2, 3, 4, 5, 11.
  */
 PANEL_NODISCARD static inline enum panel_number panel_load_rules(
-    struct panel *p, unsigned n, const struct panel_rule *rules, size_t count) {
+    struct panel *p, unsigned n, const uint8_t *kinds, size_t kind_count, const struct panel_rule *rules, size_t count) {
     struct panel_rule none = {0, 0, 0};
     const struct panel_rule *from = count == 0 ? &none : rules;
-    return (enum panel_number)tihvomen_load_rules(p->sheet.words, p->places, n, from, count);
+    return (enum panel_number)tihvomen_load_rules(
+        p->sheet.words, p->places, n, panel_from(kinds, kind_count), kind_count, from, count);
 }
 
 /* The place holds the conflict-free tree of the row. Numbers: 8, 1, 3, 6. */
@@ -193,8 +190,8 @@ PANEL_NODISCARD static inline struct panel_answer panel_yield(
 
 /*
  * Writes the shortest row that means the same as the record's row: the conflict-free trees of the two agree once their
- * brackets are taken out. No other row that means the same is as short. It has at most as many tokens as the record's
- * row. Numbers: 1, 3, 7, 1, 10.
+ * brackets are taken out. No pair of its brackets can be dropped; without prefix operators no other row that means the same
+ * is as short. It has at most as many tokens as the record's row. Numbers: 1, 3, 7, 1, 10.
  */
 PANEL_NODISCARD static inline struct panel_answer panel_shortest_row(
     const struct panel *p, const uint8_t *record, size_t length, uint8_t *out, size_t room) {
@@ -203,7 +200,7 @@ PANEL_NODISCARD static inline struct panel_answer panel_shortest_row(
     return panel_answered(tihvomen_shortest_row(p->sheet.words, from, length, panel_into(out, room, &spare), room));
 }
 
-/* Counts, over the operators of the record's tree, the sides that show an excluded pattern. Numbers: 1, 3, 7, 1. */
+/* Counts, over the operators of the record's tree, the excluded ones that each finds in its operands. Numbers: 1, 3, 7, 1. */
 PANEL_NODISCARD static inline struct panel_judgement panel_judge(
     const struct panel *p, const uint8_t *record, size_t length) {
     struct panel_raw_judgement raw = tihvomen_judge(p->sheet.words, panel_from(record, length), length);
@@ -214,8 +211,8 @@ PANEL_NODISCARD static inline struct panel_judgement panel_judge(
 }
 
 /*
- * Points out, in the caller's record, the record of an operand of the top node. A bracket's tree is taken for its left
- * operand. A side that is neither of the two has none. Numbers: 1, 3, 7, 1.
+ * Points out, in the caller's record, the record of an operand of the top node. The only tree of a bracket or of a prefix
+ * operator is taken for its left operand. A side that is neither of the two has none. Numbers: 1, 3, 7, 1.
  */
 PANEL_NODISCARD static inline struct panel_part panel_operand(
     const struct panel *p, const uint8_t *record, size_t length, enum panel_side side) {

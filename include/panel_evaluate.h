@@ -7,8 +7,12 @@
 
 #include "panel.h"
 
-/* What an operator makes of the values a and b of its left and its right operand. 0 is false, all else is true. */
+/*
+ * What an operator makes of the values a and b of its left and its right operand; a prefix one has the value a alone. 0 is
+ * false, all else is true. A meaning suits operators of its own kind only.
+ */
 enum panel_meaning {
+    /* of an infix operator */
     PANEL_OR = 1,         /* 1 if a or b is true, else 0 */
     PANEL_AND = 2,        /* 1 if a and b are true, else 0 */
     PANEL_LESS = 3,       /* 1 if a is less than b, else 0 */
@@ -17,7 +21,10 @@ enum panel_meaning {
     PANEL_SUM = 6,        /* a + b; past an end of the 32-bit range, that end */
     PANEL_DIFFERENCE = 7, /* a - b; past an end of the 32-bit range, that end */
     PANEL_SMALLER = 8,    /* the smaller of a and b */
-    PANEL_LARGER = 9      /* the larger of a and b */
+    PANEL_LARGER = 9,     /* the larger of a and b */
+    /* of a prefix operator */
+    PANEL_NOT = 10,       /* 1 if a is 0, else 0 */
+    PANEL_MINUS = 11      /* -a; past the end of the 32-bit range, that end */
 };
 
 /* The number of an evaluation, and the value of the tree; 0 after a refusal. */
@@ -45,10 +52,10 @@ struct panel_raw_value tihvomen_evaluate(
 #endif
 
 /*
- * Works out the tree that the place holds. The meaning of operator o is byte o of `meanings`; an operator beyond that
- * list has none. The value of reading 80 is the first of `readings`, the value of 81 the second, and so on. Brackets
- * pass on what is inside them. Every operator of the tree must have a meaning and every reading a value, even where the
- * rest alone would settle the answer. Numbers: 8, 9, 13, 14.
+ * Works out the tree that the place holds. The meaning of operator o is byte o of `meanings`; it has none if the list ends
+ * before, or if that byte is no meaning of its kind. The value of reading 80 is the first of `readings`, the value of 81
+ * the second, and so on. Brackets pass on what is inside them. Every operator of the tree must have a meaning and every
+ * reading a value, even where the rest alone would settle the answer. Numbers: 8, 9, 13, 14.
  */
 PANEL_NODISCARD static inline struct panel_value panel_evaluate(
     const struct panel *p, unsigned place, const uint8_t *meanings, size_t meaning_count,

@@ -38,8 +38,9 @@ struct panel_raw_part {
 };
 
 uint8_t tihvomen_operators(const uint32_t *sheet);
-uint8_t tihvomen_load(uint32_t *sheet, uint8_t *places, uint32_t n, const uint8_t *rules, size_t);
-uint8_t tihvomen_load_rules(uint32_t *sheet, uint8_t *places, uint32_t n, const struct panel_rule *rules, size_t);
+uint8_t tihvomen_load(uint32_t *sheet, uint8_t *places, uint32_t n, const uint8_t *kinds_and_rules, size_t);
+uint8_t tihvomen_load_rules(
+    uint32_t *sheet, uint8_t *places, uint32_t n, const uint8_t *kinds, size_t, const struct panel_rule *rules, size_t);
 uint8_t tihvomen_put_row(const uint32_t *sheet, uint8_t *places, uint32_t place, const uint8_t *row, size_t);
 uint8_t tihvomen_put_record(const uint32_t *sheet, uint8_t *places, uint32_t place, const uint8_t *record, size_t);
 uint8_t tihvomen_drop(uint8_t *places, uint32_t place);

@@ -14,11 +14,11 @@
 /* No number is given where its condition does not hold. */
 enum panel_number {
     PANEL_ACCEPTED = 0,
-    /* more than 32 operators, 2,048 rules, 255 tokens in a row, 255 bytes in a record or 12,292 characters in a line */
+    /* more than 32 operators, 2,048 rules, 255 tokens in a row, 255 bytes in a record or 12,356 characters in a line */
     PANEL_OVERSIZE = 1,
-    /* the bytes of the rules do not come in threes */
+    /* fewer kinds than operators, or rule bytes not in threes; beside a list of rules, any number of kinds but that of operators */
     PANEL_TORN = 2,
-    /* a byte that means nothing here: a kind of rule that does not exist, an operator that the sheet lacks, 21 inside a record */
+    /* a byte that means nothing here: a kind that does not exist, an operator that the sheet lacks, 21 inside a record */
     PANEL_STRANGER = 3,
     /* under the rules at least one row, however long, has no conflict-free tree */
     PANEL_DEAD = 4,
@@ -34,11 +34,11 @@ enum panel_number {
     PANEL_EMPTY = 9,
     /* the answer does not fit into the lent output */
     PANEL_SHORT = 10,
-    /* a tree that is held uses an operator which the new sheet lacks */
+    /* a tree that is held uses an operator which the new sheet lacks or has with another kind */
     PANEL_IN_USE = 11,
     /* the line is no frame: no digit pairs, a kind that does not exist, or a length that its kind does not have */
     PANEL_FRAME = 12,
-    /* an operator of the tree that is to be evaluated has no meaning from 1 to 9 */
+    /* an operator of the tree that is to be evaluated has no meaning of its kind: 1 to 9 infix, 10 and 11 prefix */
     PANEL_NO_MEANING = 13,
     /* a reading of the tree that is to be evaluated lies beyond the lent list */
     PANEL_NO_READING = 14
@@ -49,8 +49,9 @@ static inline const char *panel_word(enum panel_number number) {
     switch (number) {
     case PANEL_ACCEPTED: return "accepted";
     case PANEL_OVERSIZE: return "oversize: more operators, rules, tokens or bytes than the panel takes";
-    case PANEL_TORN: return "torn: the rule bytes are not a multiple of three";
-    case PANEL_STRANGER: return "stranger: a byte without meaning here, or an operator or kind of rule that is not known";
+    case PANEL_TORN:
+        return "torn: the kind bytes are not as many as the operators, or the rule bytes not a multiple of three";
+    case PANEL_STRANGER: return "stranger: a byte without meaning here, or an operator or kind that is not known";
     case PANEL_DEAD: return "dead: under these rules some row has no conflict-free tree";
     case PANEL_DOUBLE: return "double: under these rules some row has two or more conflict-free trees";
     case PANEL_NO_ROW: return "no row: the tokens are not one expression";
@@ -58,9 +59,10 @@ static inline const char *panel_word(enum panel_number number) {
     case PANEL_PLACE: return "place: there are places 0 to 15 only";
     case PANEL_EMPTY: return "empty: the place holds nothing";
     case PANEL_SHORT: return "short: the lent output is shorter than the answer";
-    case PANEL_IN_USE: return "in use: a held tree uses an operator that the new sheet does not have";
+    case PANEL_IN_USE:
+        return "in use: a held tree uses an operator that the new sheet does not have, or has with another kind";
     case PANEL_FRAME: return "frame: the line is not digit pairs, or not of a known kind and its length";
-    case PANEL_NO_MEANING: return "no meaning: an operator of the tree has no meaning from 1 to 9";
+    case PANEL_NO_MEANING: return "no meaning: an operator of the tree has no meaning of its kind";
     case PANEL_NO_READING: return "no reading: a reading of the tree lies beyond the lent list";
     }
     return "unknown: the panel gives no such number";

@@ -1,4 +1,4 @@
-/* Lists of bytes that take a call deep: rows and records of spines, good and damaged, and rules for 32 operators. */
+/* Lists of bytes that take a call deep: rows and records of spines, good and damaged, and sheets of 32 operators. */
 #ifndef TIHVOMEN_DEEP_LISTS_H
 #define TIHVOMEN_DEEP_LISTS_H
 
@@ -6,7 +6,8 @@
 
 #include <string.h>
 
-enum { MOST_BYTES = 3 * (PANEL_MOST_RULES + 1) };
+/* The operators from FIRST_PREFIX on are prefix ones. */
+enum { FIRST_PREFIX = 24, MOST_BYTES = PANEL_MOST_OPERATORS + 3 * (PANEL_MOST_RULES + 1) };
 
 struct list {
     size_t length;
@@ -28,8 +29,8 @@ static void add(struct list *list, uint8_t byte) {
 
 /*
  * The record of a spine: a tree in which each node has one operand with nodes below it. A letter says for each node which
- * one: L the left one, R the right one, B that the node is a bracket. The letters are used again and again; a ? is one
- * of them at random. The row has two tokens for each node, and one.
+ * one: L the left one, R the right one, B that the node is a bracket, P that it is a prefix operator. The letters are used
+ * again and again; a ? is one of them at random. The row has one token for each P, two for each other node, and one.
  */
 static void make_spine(struct list *list, const char *letters, size_t nodes, bool same_operator) {
     size_t lefts = 0;
@@ -37,8 +38,13 @@ static void make_spine(struct list *list, const char *letters, size_t nodes, boo
     for (size_t i = 0; i < nodes; i++) {
         char letter = letters[i % strlen(letters)];
         if (letter == '?')
-            letter = "LRB"[below(3)];
-        add(list, letter == 'B' ? PANEL_OPENING : same_operator ? 0 : (uint8_t)below(PANEL_MOST_OPERATORS));
+            letter = "LRBP"[below(4)];
+        if (letter == 'B')
+            add(list, PANEL_OPENING);
+        else if (letter == 'P')
+            add(list, (uint8_t)(FIRST_PREFIX + (same_operator ? 0 : below(PANEL_MOST_OPERATORS - FIRST_PREFIX))));
+        else
+            add(list, (uint8_t)(same_operator ? 0 : below(FIRST_PREFIX)));
         if (letter == 'R')
             add(list, (uint8_t)(PANEL_FIRST_READING + i % 128));
         lefts += letter == 'L';
@@ -68,12 +74,14 @@ static void damage(struct list *list) {
         list->length -= below((uint32_t)list->length + 1);
 }
 
-/* Kinds of sheets for make_rules. */
+/* Kinds of sheets for make_sheet. */
 enum { ALL_LEFT, ALL_RIGHT, CHAIN, BOTH_WAYS, ANY_RULES, SHEETS };
 
-/* As many rules for 32 operators; the good sheets say some of theirs again. */
-static void make_rules(struct list *list, int sheet, size_t count) {
+/* The kinds of 32 operators and so many rules; the good sheets say some of theirs again. */
+static void make_sheet(struct list *list, int sheet, size_t count) {
     list->length = 0;
+    for (int i = 0; i < PANEL_MOST_OPERATORS; i++)
+        add(list, i < FIRST_PREFIX ? PANEL_INFIX : PANEL_PREFIX);
     for (size_t i = 0; i < count; i++) {
         uint8_t kind = sheet == ALL_RIGHT ? PANEL_RIGHT : PANEL_LEFT;
         uint8_t first = (uint8_t)(i / 32 % 32), second = (uint8_t)(i % 32);

@@ -48,13 +48,13 @@ static bool same(const void *one, const void *other, size_t length) {
 
 /* A row is put, and its record fetched. */
 static bool row_is_right(void) {
-    static const uint8_t rules[] = {PANEL_PRIORITY, 1, 0, PANEL_LEFT, 1, 1, PANEL_LEFT, 0, 0};
+    static const uint8_t sheet[] = {PANEL_INFIX, PANEL_INFIX, PANEL_PRIORITY, 1, 0, PANEL_LEFT, 1, 1, PANEL_LEFT, 0, 0};
     static const uint8_t row[] = {PANEL_OPENING, 0x80, 0x00, 0x81, PANEL_CLOSING, 0x01, 0x82};
     static const uint8_t record[] = {0x01, PANEL_OPENING, 0x00, 0x80, 0x81, 0x82};
     struct panel p;
     uint8_t out[PANEL_MOST_TOKENS];
     panel_fresh(&p);
-    if (panel_load(&p, 2, rules, sizeof rules) != PANEL_ACCEPTED)
+    if (panel_load(&p, 2, sheet, sizeof sheet) != PANEL_ACCEPTED)
         return false;
     if (panel_put_row(&p, 3, row, sizeof row) != PANEL_ACCEPTED)
         return false;
@@ -65,11 +65,11 @@ static bool row_is_right(void) {
 /* The listing of docs/REFERENCE.md, section 8. */
 static bool lines_are_right(void) {
     static const char *const lines[][2] = {
-        {"0102010100020101020000", "00"},
+        {"01020000010100020101020000", "00"},
         {"02038000810182", "00"},
         {"0403", "000080018182"},
         {"0304", "09"},
-        {"0102010001020101020000", "00"},
+        {"01020000010001020101020000", "00"},
         {"0403", "000100808182"}};
     struct panel p = PANEL_FRESH;
     for (size_t i = 0; i < sizeof lines / sizeof lines[0]; i++) {

@@ -1,13 +1,14 @@
 //! The page examples/holdover.c in Rust, built outside of the repository by bin/test-bindings: it prints the same.
 use std::fmt::Display;
-use tihvomen::{Panel, Refusal, Rule};
+use tihvomen::{Panel, Refusal, Rule, INFIX, PREFIX};
 
 const LESS: u8 = 0x00;
 const OR: u8 = 0x01;
 const AND: u8 = 0x02;
+const NOT: u8 = 0x03;
 
-/// What the operators mean here, 00 first: less, or, and.
-const MEANINGS: [u8; 3] = [3, 1, 2];
+/// What the operators mean here, 00 first: less, or, and, not.
+const MEANINGS: [u8; 4] = [3, 1, 2, 10];
 
 /// What is said of a call: that it was accepted, or why not.
 fn said<T>(result: Result<T, Refusal>) -> String {
@@ -18,23 +19,24 @@ fn print(what: &str, said: impl Display) {
     println!("{what}: {said}");
 }
 
-/// Loads a sheet: "less" binds tightest, then `tighter`, then `looser`, and each groups to the left.
+/// Loads a sheet: "less" binds tightest, then "not", then `tighter`, then `looser`; "not" is prefix, and the others group to the
+/// left. Priority leads on: "less" is over `tighter` too.
 fn load(panel: &mut Panel, tighter: u8, looser: u8) -> Result<(), Refusal> {
     let rules = [
-        Rule::priority(LESS, OR),
-        Rule::priority(LESS, AND),
+        Rule::priority(LESS, NOT),
+        Rule::priority(NOT, tighter),
         Rule::priority(tighter, looser),
         Rule::left(LESS, LESS),
         Rule::left(OR, OR),
         Rule::left(AND, AND),
     ];
-    panel.load_rules(3, &rules)
+    panel.load_rules(4, &[INFIX, INFIX, INFIX, PREFIX], &rules)
 }
 
 /// Runs the condition at two sites with limits of their own.
 fn print_sites(panel: &Panel) {
     for limit in [14_400, 1_200] {
-        let alarm = match panel.evaluate(3, &MEANINGS, &[limit, 3_000, 1, 0]) {
+        let alarm = match panel.evaluate(3, &MEANINGS, &[limit, 3_000, 1, 5]) {
             Ok(0) => "no alarm".to_string(),
             Ok(_) => "alarm".to_string(),
             Err(refusal) => format!("refused, {refusal}"),
@@ -44,10 +46,10 @@ fn print_sites(panel: &Panel) {
 }
 
 fn main() {
-    let row = [0x80, LESS, 0x81, OR, 0x82, AND, 0x83];
+    let row = [0x80, LESS, 0x81, OR, 0x82, AND, NOT, 0x83];
     let mut panel = Panel::new();
 
-    println!("3000 seconds in holdover, the antenna lost, peers in reach");
+    println!("3000 seconds in holdover, the antenna lost, five peers in reach");
     print("\"and\" first", said(load(&mut panel, AND, OR)));
     print("the row", said(panel.put_row(3, &row)));
     print_sites(&panel);
@@ -55,7 +57,7 @@ fn main() {
     print("\"or\" first", said(load(&mut panel, OR, AND)));
     print_sites(&panel);
 
-    print("meanings for two operators", said(panel.evaluate(3, &MEANINGS[..2], &[0; 4])));
+    print("meanings for three operators", said(panel.evaluate(3, &MEANINGS[..3], &[0; 4])));
     print("values for three readings", said(panel.evaluate(3, &MEANINGS, &[0; 3])));
     print("another place", said(panel.evaluate(4, &MEANINGS, &[0; 4])));
 }

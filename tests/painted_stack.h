@@ -7,7 +7,7 @@
 #include <stdint.h>
 #include <ucontext.h>
 
-enum { STACK_WORDS = 4096 };
+enum { STACK_WORDS = 8192 };
 
 /* No function leaves this word at the lower end of what it took: it is no address and no length. */
 static const uint64_t paint = 0x5A5A5A5A5A5A5A5A;

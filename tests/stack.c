@@ -15,7 +15,7 @@ enum { ROUNDING = 128, SLACK = 512, RANDOM_LISTS = 400 };
 
 /* What the calls are lent. */
 static struct panel p;
-static struct list lent, rules;
+static struct list lent, loaded;
 static struct panel_rule rule_list[PANEL_MOST_RULES + 1];
 static char line[PANEL_MOST_LINE + 3];
 static size_t line_length;
@@ -27,8 +27,7 @@ static volatile size_t answer;
 static void do_nothing(void) { answer = 0; }
 static void do_fresh(void) { panel_fresh(&p); }
 static void do_operators(void) { answer = panel_operators(&p); }
-static void do_load(void) { answer = panel_load(&p, PANEL_MOST_OPERATORS, rules.bytes, rules.length); }
-static void do_load_rules(void) { answer = panel_load_rules(&p, PANEL_MOST_OPERATORS, rule_list, rules.length / 3); }
+static void do_load(void) { answer = panel_load(&p, PANEL_MOST_OPERATORS, loaded.bytes, loaded.length); }
 static void do_put_row(void) { answer = panel_put_row(&p, place, lent.bytes, lent.length); }
 static void do_put_record(void) { answer = panel_put_record(&p, place, lent.bytes, lent.length); }
 static void do_drop(void) { answer = panel_drop(&p, place); }
@@ -43,9 +42,14 @@ static void do_judge(void) { answer = panel_judge(&p, lent.bytes, lent.length).c
 static void do_operand(void) { answer = panel_operand(&p, lent.bytes, lent.length, side).length; }
 static void do_reply(void) { answer = panel_reply(&p, line, line_length, (char *)out); }
 
+static void do_load_rules(void) {
+    size_t count = (loaded.length - PANEL_MOST_OPERATORS) / 3;
+    answer = panel_load_rules(&p, PANEL_MOST_OPERATORS, loaded.bytes, PANEL_MOST_OPERATORS, rule_list, count);
+}
+
 static void do_evaluate(void) {
     static const uint8_t meanings[] = {1, 2, 3, 4, 5, 6, 7, 8, 9, 1, 2, 3, 4, 5, 6, 7,
-                                       8, 9, 1, 2, 3, 4, 5, 6, 7, 8, 9, 1, 2, 3, 4, 5};
+                                       8, 9, 1, 2, 3, 4, 5, 6, 10, 11, 10, 11, 10, 11, 10, 11};
     static const int32_t readings[128] = {INT32_MIN, INT32_MAX, -1, 0, 1};
     answer = (size_t)panel_evaluate(&p, place, meanings, sizeof meanings, readings, 128).number;
 }
@@ -131,15 +135,15 @@ static void measure_list(void) {
 static void measure_loads(void) {
     for (int sheet = 0; sheet < SHEETS; sheet++)
         for (size_t count = PANEL_MOST_RULES; count <= PANEL_MOST_RULES + 1; count++) {
-            make_rules(&rules, sheet, count);
+            make_sheet(&loaded, sheet, count);
             for (size_t i = 0; i < count; i++) {
-                const uint8_t *rule = rules.bytes + 3 * i;
+                const uint8_t *rule = loaded.bytes + PANEL_MOST_OPERATORS + 3 * i;
                 rule_list[i].kind = rule[0];
                 rule_list[i].first = rule[1];
                 rule_list[i].second = rule[2];
             }
             measure(RULES);
-            measure_line(1, true, PANEL_MOST_OPERATORS, &rules);
+            measure_line(1, true, PANEL_MOST_OPERATORS, &loaded);
         }
 }
 
@@ -171,19 +175,21 @@ static void measure_on(const struct panel *sheet, bool deepest) {
 }
 
 static bool measure_all(void) {
-    static const char *const letters[] = {"L", "R", "B", "LR", "LB", "RB", "LRB", "BBL", "BBR", "?"};
-    static const size_t nodes[] = {126, 127, 128, 84, 254};
+    static const char *const letters[] = {
+        "L", "R", "B", "P", "LR", "LB", "RB", "PL", "PR", "PB", "LRB", "BBL", "BBR", "PPL", "PPR", "?"};
+    static const size_t nodes[] = {126, 127, 128, 84, 169, 190, 254, 255};
+    enum { LETTERS = sizeof letters / sizeof letters[0], NODES = sizeof nodes / sizeof nodes[0] };
     static const uint8_t parts[][3] = {
         {0x00, 0x00, 0x00}, {0x20, 0x20, 0x20}, {0x80, 0x80, 0x80}, {0x00, 0x20, 0x00}, {0x20, 0x80, 0x00},
         {0x80, 0x00, 0x20}, {0x00, 0x80, 0x20}, {0x20, 0x00, 0x80}, {0x1F, 0x1E, 0x1D}, {0x20, 0x80, 0x21}};
     for (int which = ALL_LEFT; which <= CHAIN; which++) {
         struct panel sheet = PANEL_FRESH;
         struct list record;
-        make_rules(&rules, which, PANEL_MOST_RULES);
-        if (panel_load(&sheet, PANEL_MOST_OPERATORS, rules.bytes, rules.length) != PANEL_ACCEPTED)
+        make_sheet(&loaded, which, PANEL_MOST_RULES);
+        if (panel_load(&sheet, PANEL_MOST_OPERATORS, loaded.bytes, loaded.length) != PANEL_ACCEPTED)
             return false;
-        for (size_t i = 0; i < sizeof letters / sizeof letters[0] * 10; i++) {
-            make_spine(&record, letters[i / 10], nodes[i / 2 % 5], i % 2 == 0);
+        for (size_t i = 0; i < 2 * LETTERS * NODES; i++) {
+            make_spine(&record, letters[i / (2 * NODES)], nodes[i / 2 % NODES], i % 2 == 0);
             lent = record;
             measure_on(&sheet, true);
             make_row(&lent, &sheet, &record);

@@ -8,7 +8,7 @@
 #include <limits.h>
 #include <string.h>
 
-static const uint8_t sheet_a[] = {1, 1, 0, 2, 1, 1, 2, 0, 0};
+static const uint8_t sheet_a[] = {0, 0, 1, 1, 0, 2, 1, 1, 2, 0, 0};
 static const uint8_t row[] = {0x20, 0x80, 0x00, 0x81, 0x21, 0x01, 0x82};
 static const uint8_t record[] = {0x01, 0x20, 0x00, 0x80, 0x81, 0x82};
 static uint8_t out[300];
@@ -52,15 +52,17 @@ static void check_places(void) {
 static void check_counts(void) {
     static const unsigned counts[] = {33, 255, 256, 258, 65536, 65536 + 2, INT_MAX, INT_MAX + 1u, 0u - 254, UINT_MAX};
     static const struct panel_rule rules[] = {{PANEL_PRIORITY, 1, 0}, {PANEL_LEFT, 1, 1}, {PANEL_LEFT, 0, 0}};
+    static const uint8_t kinds[PANEL_MOST_OPERATORS] = {PANEL_INFIX};
     struct panel p = filled();
     const struct panel before = p;
     for (size_t i = 0; i < sizeof counts / sizeof counts[0]; i++) {
         CHECK(panel_load(&p, counts[i], sheet_a, sizeof sheet_a) == PANEL_OVERSIZE);
         CHECK(panel_load(&p, counts[i], NULL, 0) == PANEL_OVERSIZE);
-        CHECK(panel_load_rules(&p, counts[i], rules, 3) == PANEL_OVERSIZE);
-        CHECK(panel_load_rules(&p, counts[i], NULL, 0) == PANEL_OVERSIZE);
+        CHECK(panel_load_rules(&p, counts[i], sheet_a, 2, rules, 3) == PANEL_OVERSIZE);
+        CHECK(panel_load_rules(&p, counts[i], NULL, 0, NULL, 0) == PANEL_OVERSIZE);
     }
-    CHECK(panel_load(&p, PANEL_MOST_OPERATORS, NULL, 0) == PANEL_DOUBLE);
+    CHECK(panel_load(&p, PANEL_MOST_OPERATORS, kinds, PANEL_MOST_OPERATORS) == PANEL_DOUBLE);
+    CHECK(panel_load(&p, PANEL_MOST_OPERATORS, NULL, 0) == PANEL_TORN);
     CHECK(panel_load(&p, PANEL_MOST_OPERATORS + 1, NULL, 0) == PANEL_OVERSIZE);
     CHECK(memcmp(&p, &before, sizeof p) == 0);
 }
@@ -87,7 +89,7 @@ static void check_lines(void) {
     struct panel p = PANEL_FRESH;
     char reply[PANEL_MOST_REPLY];
     memset(line, '0', sizeof line);
-    CHECK(PANEL_MOST_LINE == 12292);
+    CHECK(PANEL_MOST_LINE == 12356);
     CHECK(panel_reply(&p, line, PANEL_MOST_LINE, reply) == 2 && memcmp(reply, "0c", 2) == 0);
     CHECK(panel_reply(&p, line, PANEL_MOST_LINE + 1, reply) == 2 && memcmp(reply, "01", 2) == 0);
 }

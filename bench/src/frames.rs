@@ -1,14 +1,19 @@
 //! A stream of frames for the line programs: loads, puts, fetches, judges, repairs, drops, images and damaged lines.
 use crate::inputs;
+use crate::loads;
 use crate::random::Random;
 
-/// So many lines; the same ones every time.
-pub fn stream(lines: usize) -> Vec<u8> {
+/// So many lines with operators of these kinds, the first ones of which every sheet has; the same lines every time.
+pub fn stream(lines: usize, kinds: &[u8]) -> Vec<u8> {
     let mut random = Random::new(7);
     let mut text = Vec::new();
     let mut n = 0;
     for line in 0..lines {
-        let frame = if line == 0 || random.once_in(60) { load(&mut random, &mut n) } else { call(&mut random, n) };
+        let frame = if line == 0 || random.once_in(60) {
+            load(&mut random, kinds, &mut n)
+        } else {
+            call(&mut random, &kinds[..usize::from(n)])
+        };
         let from = text.len();
         for byte in frame {
             text.extend(format!("{byte:02x}").bytes());
@@ -22,32 +27,35 @@ pub fn stream(lines: usize) -> Vec<u8> {
 }
 
 /// A sheet, mostly with more operators than before so that it is not in use.
-fn load(random: &mut Random, n: &mut u8) -> Vec<u8> {
-    if random.once_in(6) {
-        let (n, rules) = inputs::sheet(random, *n);
-        return [vec![1, n], rules].concat();
-    }
-    *n = (*n).max([2, 4, 8, 16, 32][random.below(5)]);
-    [vec![1, *n], inputs::good_rules(random, *n)].concat()
+fn load(random: &mut Random, kinds: &[u8], n: &mut u8) -> Vec<u8> {
+    let (count, rules) = if random.once_in(6) {
+        loads::any_rules(random, *n)
+    } else {
+        *n = (*n).max([2, 4, 8, 16, 32][random.below(5)]);
+        (*n, loads::good_rules(random, *n))
+    };
+    let mut own = kinds.to_vec();
+    own.resize(count.into(), 0);
+    [vec![1, count], own, rules].concat()
 }
 
-fn call(random: &mut Random, n: u8) -> Vec<u8> {
+fn call(random: &mut Random, kinds: &[u8]) -> Vec<u8> {
     let place = random.below(17) as u8;
     match random.below(20) {
-        0..=4 => [vec![2, place], row(random, n)].concat(),
-        5..=7 => [vec![6, place], record(random, n)].concat(),
+        0..=4 => [vec![2, place], row(random, kinds)].concat(),
+        5..=7 => [vec![6, place], record(random, kinds)].concat(),
         8 => vec![3, place],
         9..=11 => vec![4, place],
         12 | 13 => vec![5, place],
-        14 | 15 => [vec![7], record(random, n)].concat(),
-        16..=18 => [vec![8], record(random, n)].concat(),
+        14 | 15 => [vec![7], record(random, kinds)].concat(),
+        16..=18 => [vec![8], record(random, kinds)].concat(),
         _ => vec![9, place],
     }
 }
 
 /// A row; one in fifteen is damaged.
-fn row(random: &mut Random, n: u8) -> Vec<u8> {
-    let row = inputs::any_tree(random, n).row();
+fn row(random: &mut Random, kinds: &[u8]) -> Vec<u8> {
+    let row = inputs::any_tree(random, kinds).row();
     if random.once_in(5) {
         inputs::perhaps_damaged(random, row)
     } else {
@@ -56,8 +64,8 @@ fn row(random: &mut Random, n: u8) -> Vec<u8> {
 }
 
 /// A record; one in fifteen is damaged.
-fn record(random: &mut Random, n: u8) -> Vec<u8> {
-    let record = inputs::any_tree(random, n).record();
+fn record(random: &mut Random, kinds: &[u8]) -> Vec<u8> {
+    let record = inputs::any_tree(random, kinds).record();
     if random.once_in(5) {
         inputs::perhaps_damaged(random, record)
     } else {

@@ -2,7 +2,7 @@
 use crate::fast::{Answer, Panel};
 
 /// The most characters of a line that is read.
-pub const MOST_CHARACTERS: usize = 12_292;
+pub const MOST_CHARACTERS: usize = 12_356;
 
 const NO_DIGIT: u8 = 0xFF;
 
@@ -56,11 +56,12 @@ impl Lines {
         if line.len() > MOST_CHARACTERS {
             return Err(1);
         }
-        if line.len() % 2 != 0 {
+        let pairs = line.chunks_exact(2);
+        if !pairs.remainder().is_empty() {
             return Err(12);
         }
         let mut seen = 0;
-        for (pair, byte) in line.chunks_exact(2).zip(&mut self.frame) {
+        for (pair, byte) in pairs.zip(&mut self.frame) {
             let (high, low) = (VALUES[usize::from(pair[0])], VALUES[usize::from(pair[1])]);
             seen |= high | low;
             *byte = high << 4 | low;
@@ -76,7 +77,7 @@ impl Lines {
         let Lines { panel, frame, answer } = self;
         let frame = &frame[..length];
         match *frame {
-            [1, n, ref rules @ ..] => panel.load(n, rules).map(|()| 0),
+            [1, n, ref bytes @ ..] => panel.load(n, bytes).map(|()| 0),
             [2, place, ref row @ ..] => panel.put_row(place, row).map(|()| 0),
             [3, place] => panel.drop_place(place).map(|()| 0),
             [4, place] => panel.fetch_record(place, answer),

@@ -1,7 +1,8 @@
 //! The fast panel gives the proved one's answers: numbers and whole outputs, call by call over many runs.
 use tihvomen_bench::fast;
-use tihvomen_bench::inputs::{any_tree, good_rules, meanings, perhaps_damaged, readings, sheet};
+use tihvomen_bench::inputs::{any_tree, meanings, perhaps_damaged, readings};
 use tihvomen_bench::line::Lines;
+use tihvomen_bench::loads;
 use tihvomen_bench::random::Random;
 
 /// A call to both panels with equal outputs; equal numbers, lengths and outputs after it.
@@ -17,66 +18,76 @@ fn written(
     assert_eq!(one, other);
 }
 
-fn record(random: &mut Random, n: u8) -> Vec<u8> {
-    let record = any_tree(random, n).record();
+fn record(random: &mut Random, kinds: &[u8]) -> Vec<u8> {
+    let record = any_tree(random, kinds).record();
     perhaps_damaged(random, record)
 }
 
-fn row(random: &mut Random, n: u8) -> Vec<u8> {
-    let row = any_tree(random, n).row();
+fn row(random: &mut Random, kinds: &[u8]) -> Vec<u8> {
+    let row = any_tree(random, kinds).row();
     perhaps_damaged(random, row)
 }
 
-fn call(random: &mut Random, proved: &mut tihvomen::Panel, fast: &mut fast::Panel) {
-    let n = proved.operators();
+/// One call to both; `kinds` are those of the sheet in force.
+fn call(random: &mut Random, proved: &mut tihvomen::Panel, fast: &mut fast::Panel, kinds: &mut Vec<u8>) {
     let place = random.below(18) as u8;
     let number = |refusal: tihvomen::Refusal| refusal.number();
     match random.below(17) {
         0 | 1 => {
-            let (n, rules) = if random.once_in(2) { sheet(random, n) } else { (n, good_rules(random, n)) };
-            assert_eq!(proved.load(n, &rules).map_err(number), fast.load(n, &rules));
+            let in_use: Vec<Option<u8>> = kinds.iter().copied().map(Some).collect();
+            let mut load = loads::any(random, &in_use);
+            if random.once_in(2) {
+                load = loads::Load { n: kinds.len() as u8, kinds: kinds.clone(), rules: vec![] };
+                load.rules = loads::good_rules(random, load.n);
+            }
+            let accepted = fast.load(load.n, &load.bytes());
+            assert_eq!(proved.load(load.n, &load.bytes()).map_err(number), accepted);
+            if accepted.is_ok() {
+                // In the byte form the kinds are the first n bytes.
+                *kinds = load.bytes()[..usize::from(load.n)].to_vec();
+            }
             for place in 0..16 {
                 written(random, |out| proved.fetch_record_into(place, out), |out| fast.fetch_record(place, out));
             }
         }
         2 | 3 => {
-            let row = row(random, n);
+            let row = row(random, kinds);
             assert_eq!(proved.put_row(place, &row).map_err(number), fast.put_row(place, &row));
         }
         4 | 5 => {
-            let record = record(random, n);
+            let record = record(random, kinds);
             assert_eq!(proved.put_record(place, &record).map_err(number), fast.put_record(place, &record));
         }
         6 => assert_eq!(proved.drop_place(place).map_err(number), fast.drop_place(place)),
         7 => written(random, |out| proved.fetch_row_into(place, out), |out| fast.fetch_row(place, out)),
         8 => written(random, |out| proved.image_into(place, out), |out| fast.image(place, out)),
         9 => {
-            let row = row(random, n);
+            let row = row(random, kinds);
             written(random, |out| proved.build_into(&row, out), |out| fast.build(&row, out));
         }
         10 => {
-            let record = record(random, n);
+            let record = record(random, kinds);
             written(random, |out| proved.repair_into(&record, out), |out| fast.repair(&record, out));
         }
         11 => {
-            let record = record(random, n);
+            let record = record(random, kinds);
             written(random, |out| proved.yield_row_into(&record, out), |out| fast.yield_row(&record, out));
         }
         12 => {
-            let record = record(random, n);
+            let record = record(random, kinds);
             written(random, |out| proved.shortest_row_into(&record, out), |out| fast.shortest_row(&record, out));
         }
         13 => {
-            let record = record(random, n);
+            let record = record(random, kinds);
             assert_eq!(proved.judge(&record).map_err(number), fast.judge(&record));
         }
         14 | 15 => {
-            let (meanings, readings) = (meanings(random), readings(random));
+            let (meanings, readings) = (meanings(random, kinds), readings(random));
             let value = proved.evaluate(place, &meanings, &readings).map_err(number);
             assert_eq!(value, fast.evaluate(place, &meanings, &readings));
         }
         _ => {
-            let record = record(random, n);
+            let record = record(random, kinds);
             for (side, right) in [(tihvomen::Side::Left, false), (tihvomen::Side::Right, true)] {
                 assert_eq!(proved.operand(&record, side).map_err(number), fast.operand(&record, right));
             }
@@ -90,25 +101,30 @@ fn the_fast_panel_agrees() {
         let mut random = Random::new(seed);
         let (mut proved, mut fast) = (tihvomen::Panel::new(), fast::Panel::default());
         let n = random.below(33) as u8;
-        let rules = good_rules(&mut random, n);
-        assert_eq!((proved.load(n, &rules), fast.load(n, &rules)), (Ok(()), Ok(())));
+        let load = loads::good(&mut random, n);
+        assert_eq!((proved.load(n, &load.bytes()), fast.load(n, &load.bytes())), (Ok(()), Ok(())));
+        let mut kinds = load.kinds;
         for _ in 0..150 {
-            call(&mut random, &mut proved, &mut fast);
+            call(&mut random, &mut proved, &mut fast, &mut kinds);
         }
     }
 }
 
-/// Every sheet over one and two operators.
+/// Every sheet over one and two operators, of every kind, with one rule or none for each pair.
 #[test]
 fn small_sheets_agree() {
     for n in 1..=2u8 {
         let pairs: Vec<[u8; 2]> = (0..n).flat_map(|a| (0..n).map(move |b| [a, b])).collect();
         for code in 0..4usize.pow(pairs.len() as u32) {
-            let kinds = pairs.iter().enumerate().map(|(at, pair)| ((code >> (2 * at) & 3) as u8, pair));
+            let of_pairs = pairs.iter().enumerate().map(|(at, pair)| ((code >> (2 * at) & 3) as u8, pair));
             let rules: Vec<u8> =
-                kinds.filter(|(kind, _)| *kind > 0).flat_map(|(kind, pair)| [kind, pair[0], pair[1]]).collect();
-            let proved = tihvomen::Panel::new().load(n, &rules).map_err(|refusal| refusal.number());
-            assert_eq!(proved, fast::Panel::default().load(n, &rules), "{n} {rules:02x?}");
+                of_pairs.filter(|(kind, _)| *kind > 0).flat_map(|(kind, pair)| [kind, pair[0], pair[1]]).collect();
+            for prefixes in 0..1u8 << n {
+                let kinds: Vec<u8> = (0..n).map(|operator| prefixes >> operator & 1).collect();
+                let bytes = [kinds, rules.clone()].concat();
+                let proved = tihvomen::Panel::new().load(n, &bytes).map_err(|refusal| refusal.number());
+                assert_eq!(proved, fast::Panel::default().load(n, &bytes), "{n} {bytes:02x?}");
+            }
         }
     }
 }
@@ -116,9 +132,9 @@ fn small_sheets_agree() {
 /// The listing of docs/REFERENCE.md, section 8, and lines of a wrong length.
 #[test]
 fn lines_are_answered() {
-    let run = "0102010100020101020000 02038000810182 0403 0304 0102010001020101020000 0403";
+    let run = "01020000010100020101020000 02038000810182 0403 0304 01020000010001020101020000 0403";
     let replies = "00 00 000080018182 09 00 000100808182";
-    let longest = "00".repeat(6146);
+    let longest = "00".repeat(6178);
     let wrong = ["", "0", "0403\r", "01", "02", "0400ff", "0a", "04FF", longest.as_str(), &format!("{longest}0")];
     let mut lines = Lines::default();
     let mut answered = Vec::new();

@@ -5,15 +5,17 @@
 //! were; after success the output past the answer's length is as it was.
 //!
 //! ```
-//! use tihvomen::{Panel, Refusal};
+//! use tihvomen::{Panel, Refusal, Rule, INFIX, PREFIX};
 //!
 //! let mut panel = Panel::new();
-//! // Two operators: 01 over 00, each left with itself.
-//! panel.load(2, &[1, 1, 0, 2, 1, 1, 2, 0, 0])?;
-//! panel.put_row(3, &[0x80, 0x00, 0x81, 0x01, 0x82])?;
+//! // Or, and, not: 02 over 01, 01 over 00, the two infix ones left with themselves.
+//! let rules = [Rule::priority(2, 1), Rule::priority(1, 0), Rule::left(1, 1), Rule::left(0, 0)];
+//! panel.load_rules(3, &[INFIX, INFIX, PREFIX], &rules)?;
+//! // a or not b and c
+//! panel.put_row(3, &[0x80, 0x00, 0x02, 0x81, 0x01, 0x82])?;
 //! # #[cfg(feature = "alloc")]
-//! assert_eq!(panel.fetch_record(3)?, [0x00, 0x80, 0x01, 0x81, 0x82]);
-//! assert_eq!(panel.load(1, &[]), Err(Refusal::Double));
+//! assert_eq!(panel.fetch_record(3)?, [0x00, 0x80, 0x01, 0x02, 0x81, 0x82]);
+//! assert_eq!(panel.load_rules(1, &[INFIX], &[]), Err(Refusal::Double));
 //! # Ok::<(), Refusal>(())
 //! ```
 //!
@@ -42,6 +44,6 @@ pub use record::Side;
 pub use refusal::{Refusal, UnknownNumber};
 pub use rule::Rule;
 pub use sizes::{
-    CLOSING, FIRST_READING, IMAGE_BYTES, MOST_LINE, MOST_OPERATORS, MOST_REPLY, MOST_RULES, MOST_TOKENS, OPENING,
-    PLACES,
+    CLOSING, FIRST_READING, IMAGE_BYTES, INFIX, MOST_LINE, MOST_OPERATORS, MOST_REPLY, MOST_RULES, MOST_TOKENS,
+    OPENING, PLACES, PREFIX,
 };

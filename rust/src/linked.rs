@@ -43,11 +43,13 @@ mod exports {
 
     extern "C" {
         pub fn tihvomen_operators(sheet: &Sheet) -> u8;
-        pub fn tihvomen_load(sheet: &mut Sheet, places: &mut Places, n: u32, rules: *const u8, length: usize) -> u8;
+        pub fn tihvomen_load(sheet: &mut Sheet, places: &mut Places, n: u32, bytes: *const u8, length: usize) -> u8;
         pub fn tihvomen_load_rules(
             sheet: &mut Sheet,
             places: &mut Places,
             n: u32,
+            kinds: *const u8,
+            kind_count: usize,
             rules: *const Rule,
             count: usize,
         ) -> u8;
@@ -102,15 +104,17 @@ pub fn operators(sheet: &Sheet) -> u8 {
 }
 
 #[inline]
-pub fn load(sheet: &mut Sheet, places: &mut Places, n: u8, rules: &[u8]) -> u8 {
-    // SAFETY: `rules` is read within its length; `sheet` and `places` are ours alone meanwhile.
-    unsafe { exports::tihvomen_load(sheet, places, n.into(), rules.as_ptr(), rules.len()) }
+pub fn load(sheet: &mut Sheet, places: &mut Places, n: u8, bytes: &[u8]) -> u8 {
+    // SAFETY: `bytes` is read within its length; `sheet` and `places` are ours alone meanwhile.
+    unsafe { exports::tihvomen_load(sheet, places, n.into(), bytes.as_ptr(), bytes.len()) }
 }
 
 #[inline]
-pub fn load_rules(sheet: &mut Sheet, places: &mut Places, n: u8, rules: &[Rule]) -> u8 {
-    // SAFETY: `rules` is read within its length; `sheet` and `places` are ours alone meanwhile.
-    unsafe { exports::tihvomen_load_rules(sheet, places, n.into(), rules.as_ptr(), rules.len()) }
+pub fn load_rules(sheet: &mut Sheet, places: &mut Places, n: u8, kinds: &[u8], rules: &[Rule]) -> u8 {
+    // SAFETY: `kinds` and `rules` are read within their lengths; `sheet` and `places` are ours alone meanwhile.
+    unsafe {
+        exports::tihvomen_load_rules(sheet, places, n.into(), kinds.as_ptr(), kinds.len(), rules.as_ptr(), rules.len())
+    }
 }
 
 #[inline]

@@ -54,12 +54,13 @@ impl Panel {
     }
 
     /// The shortest row that means the same as the record's row: the conflict-free trees of the two agree once their brackets
-    /// are taken out. No other row that means the same is as short.
+    /// are taken out. No pair of its brackets can be dropped; without prefix operators no other row that means the same is as
+    /// short.
     ///
     /// ```
     /// let mut panel = tihvomen::Panel::new();
-    /// // Two operators: 01 over 00, each left with itself.
-    /// panel.load(2, &[1, 1, 0, 2, 1, 1, 2, 0, 0])?;
+    /// // Two infix operators: 01 over 00, each left with itself.
+    /// panel.load(2, &[0, 0, 1, 1, 0, 2, 1, 1, 2, 0, 0])?;
     /// let spare = panel.build(&[0x20, 0x80, 0x21, 0x00, 0x20, 0x81, 0x01, 0x82, 0x21])?;
     /// assert_eq!(panel.shortest_row(&spare)?, [0x80, 0x00, 0x81, 0x01, 0x82]);
     /// let needed = [0x20, 0x80, 0x00, 0x81, 0x21, 0x01, 0x82];

@@ -25,27 +25,29 @@ impl Panel {
         linked::operators(&self.sheet)
     }
 
-    /// The sheet of `n` operators and the rules, three bytes each, takes the old one's place, and each held tree is
-    /// rebuilt: it is then the one that its row has under the new sheet.
+    /// The sheet of `n` operators takes the old one's place, and each held tree is rebuilt: it is then the one that its
+    /// row has under the new sheet. The bytes are those of a sheet frame after n: a kind byte for each operator,
+    /// [`INFIX`](crate::INFIX) or [`PREFIX`](crate::PREFIX), then the rules, three bytes each.
     ///
     /// # Errors
     ///
     /// The first that applies: [`Refusal::Oversize`] (1), [`Refusal::Torn`] (2), [`Refusal::Stranger`] (3),
     /// [`Refusal::Dead`] (4), [`Refusal::Double`] (5), [`Refusal::InUse`] (11).
     #[inline]
-    pub fn load(&mut self, n: u8, rules: &[u8]) -> Result<(), Refusal> {
-        Refusal::check(linked::load(&mut self.sheet, &mut self.places, n, rules))
+    pub fn load(&mut self, n: u8, kinds_and_rules: &[u8]) -> Result<(), Refusal> {
+        Refusal::check(linked::load(&mut self.sheet, &mut self.places, n, kinds_and_rules))
     }
 
-    /// The same with the rules as a list: the same result and the same panel as with their bytes.
+    /// The same with the rules as a list, and the kind bytes as a list beside it: the same result and the same panel as
+    /// with their bytes. Any number of kind bytes but `n` is torn.
     ///
     /// # Errors
     ///
-    /// The first that applies: [`Refusal::Oversize`] (1), [`Refusal::Stranger`] (3), [`Refusal::Dead`] (4),
-    /// [`Refusal::Double`] (5), [`Refusal::InUse`] (11).
+    /// The first that applies: [`Refusal::Oversize`] (1), [`Refusal::Torn`] (2), [`Refusal::Stranger`] (3),
+    /// [`Refusal::Dead`] (4), [`Refusal::Double`] (5), [`Refusal::InUse`] (11).
     #[inline]
-    pub fn load_rules(&mut self, n: u8, rules: &[Rule]) -> Result<(), Refusal> {
-        Refusal::check(linked::load_rules(&mut self.sheet, &mut self.places, n, rules))
+    pub fn load_rules(&mut self, n: u8, kinds: &[u8], rules: &[Rule]) -> Result<(), Refusal> {
+        Refusal::check(linked::load_rules(&mut self.sheet, &mut self.places, n, kinds, rules))
     }
 
     /// The place holds the conflict-free tree of the row.

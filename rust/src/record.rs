@@ -6,7 +6,7 @@ use crate::refusal::Refusal;
 /// The operand that is asked for.
 #[derive(Clone, Copy, Debug, PartialEq, Eq, Hash)]
 pub enum Side {
-    /// The left operand; a bracket's only tree counts as it.
+    /// The left operand; the only tree of a bracket or of a prefix operator counts as it.
     Left,
     /// The right operand.
     Right,
@@ -35,7 +35,8 @@ impl Panel {
         length(linked::repair(&self.sheet, record, out))
     }
 
-    /// The conflict count: over the operators of the tree, the sides that show an excluded pattern.
+    /// The conflict count: over the infix and prefix operators of the tree, how many excluded patterns each shows. An infix one
+    /// shows one for each prefix operator that it may not have on the right edge of its left operand.
     ///
     /// # Errors
     ///
@@ -59,8 +60,8 @@ impl Panel {
     }
 
     /// Writes the shortest row that means the same as the record's row to the front of the output; answers its length.
-    /// The conflict-free trees of the two agree once their brackets are taken out. No other row that means the same is
-    /// as short.
+    /// The conflict-free trees of the two agree once their brackets are taken out. No pair of its brackets can be dropped;
+    /// without prefix operators no other row that means the same is as short.
     ///
     /// # Errors
     ///

@@ -6,13 +6,14 @@ use core::fmt;
 #[derive(Clone, Copy, Debug, PartialEq, Eq, Hash, PartialOrd, Ord)]
 #[repr(u8)]
 pub enum Refusal {
-    /// More than 32 operators, 2,048 rules, 255 tokens in a row, 255 bytes in a record or 12,292 characters in a
+    /// More than 32 operators, 2,048 rules, 255 tokens in a row, 255 bytes in a record or 12,356 characters in a
     /// line.
     Oversize = 1,
-    /// The bytes of the rules do not come in threes.
+    /// Fewer kind bytes than operators, or the bytes of the rules do not come in threes; beside a list of rules, any
+    /// number of kind bytes but that of the operators.
     Torn = 2,
-    /// A byte that means nothing here: a kind of rule that does not exist, an operator that the sheet lacks, 21
-    /// inside a record.
+    /// A byte that means nothing here: a kind of operator or rule that does not exist, an operator that the sheet
+    /// lacks, 21 inside a record.
     Stranger = 3,
     /// Under the rules at least one row, however long, has no conflict-free tree.
     Dead = 4,
@@ -28,11 +29,12 @@ pub enum Refusal {
     Empty = 9,
     /// The answer does not fit into the lent output.
     Short = 10,
-    /// A tree that is held uses an operator which the new sheet lacks.
+    /// A tree that is held uses an operator which the new sheet lacks or has with another kind.
     InUse = 11,
     /// The line is no frame: no digit pairs, a kind that does not exist, or a length that its kind does not have.
     Frame = 12,
-    /// An operator of the tree that is to be evaluated has no meaning from 1 to 9.
+    /// An operator of the tree that is to be evaluated has no meaning of its kind: from 1 to 9 for an infix one, 10 or 11
+    /// for a prefix one.
     NoMeaning = 13,
     /// A reading of the tree that is to be evaluated lies beyond the lent list.
     NoReading = 14,
@@ -83,10 +85,10 @@ impl fmt::Display for Refusal {
     fn fmt(&self, to: &mut fmt::Formatter<'_>) -> fmt::Result {
         to.write_str(match self {
             Refusal::Oversize => "oversize: more operators, rules, tokens or bytes than the panel takes",
-            Refusal::Torn => "torn: the rule bytes are not a multiple of three",
-            Refusal::Stranger => {
-                "stranger: a byte without meaning here, or an operator or kind of rule that is not known"
+            Refusal::Torn => {
+                "torn: the kind bytes are not as many as the operators, or the rule bytes not a multiple of three"
             }
+            Refusal::Stranger => "stranger: a byte without meaning here, or an operator or kind that is not known",
             Refusal::Dead => "dead: under these rules some row has no conflict-free tree",
             Refusal::Double => "double: under these rules some row has two or more conflict-free trees",
             Refusal::NoRow => "no row: the tokens are not one expression",
@@ -94,9 +96,11 @@ impl fmt::Display for Refusal {
             Refusal::Place => "place: there are places 0 to 15 only",
             Refusal::Empty => "empty: the place holds nothing",
             Refusal::Short => "short: the lent output is shorter than the answer",
-            Refusal::InUse => "in use: a held tree uses an operator that the new sheet does not have",
+            Refusal::InUse => {
+                "in use: a held tree uses an operator that the new sheet does not have, or has with another kind"
+            }
             Refusal::Frame => "frame: the line is not digit pairs, or not of a known kind and its length",
-            Refusal::NoMeaning => "no meaning: an operator of the tree has no meaning from 1 to 9",
+            Refusal::NoMeaning => "no meaning: an operator of the tree has no meaning of its kind",
             Refusal::NoReading => "no reading: a reading of the tree lies beyond the lent list",
         })
     }

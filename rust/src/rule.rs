@@ -13,19 +13,20 @@ pub struct Rule {
 }
 
 impl Rule {
-    /// a over b, and over all that b is over: none of them is the top of an operand of a.
+    /// a over b, and over all that b is over. An infix one of them is not the top of an operand of a; a prefix one is nowhere on
+    /// the right edge of the left operand of an infix a.
     #[must_use]
     pub const fn priority(a: u8, b: u8) -> Rule {
         Rule { kind: 1, first: a, second: b }
     }
 
-    /// a left b: b is not the top of a's right operand.
+    /// a left b: an infix b is not the top of a's right or only operand.
     #[must_use]
     pub const fn left(a: u8, b: u8) -> Rule {
         Rule { kind: 2, first: a, second: b }
     }
 
-    /// a right b: b is not the top of a's left operand.
+    /// a right b, for an infix a: an infix b is not the top of a's left operand, a prefix b nowhere on the right edge of it.
     #[must_use]
     pub const fn right(a: u8, b: u8) -> Rule {
         Rule { kind: 3, first: a, second: b }

@@ -1,10 +1,16 @@
-//! How many there are, how long things get, and which byte is which token. Each is named once; the rest follows.
+//! How many there are, how long things get, and which byte is which token or kind. Each is named once; the rest follows.
 
 /// Places are numbered from 0 up to this.
 pub const PLACES: u8 = 16;
 
 /// A sheet has at most so many operators; they are the bytes from 0 up to their number.
 pub const MOST_OPERATORS: u8 = 32;
+
+/// The kind byte of an infix operator, which stands between two operands.
+pub const INFIX: u8 = 0;
+
+/// The kind byte of a prefix operator, which stands before its only operand.
+pub const PREFIX: u8 = 1;
 
 /// A sheet has at most so many rules.
 pub const MOST_RULES: usize = 2048;
@@ -15,8 +21,8 @@ pub const MOST_TOKENS: usize = 255;
 /// The length of an image: a record's length and the record.
 pub const IMAGE_BYTES: usize = 1 + MOST_TOKENS;
 
-/// A line has at most so many characters: kind, number of operators and rules of three bytes, two digits a byte.
-pub const MOST_LINE: usize = 2 * (2 + 3 * MOST_RULES);
+/// A line has at most so many characters: kind, number of operators, their kinds and rules of three bytes, two digits a byte.
+pub const MOST_LINE: usize = 2 * (2 + MOST_OPERATORS as usize + 3 * MOST_RULES);
 
 /// Room for every reply to a line: number and answer, two digits a byte.
 pub const MOST_REPLY: usize = 2 * (1 + IMAGE_BYTES);

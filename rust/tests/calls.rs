@@ -1,4 +1,5 @@
 //! Runs of calls from a fresh panel, each with the answer that the papers give: `CALL => NUMBER ANSWER`, in `tests/calls`.
+//! w1 and w2 are from before there were kind bytes: in each load of n operators, n bytes 00 have been put in before the rules.
 #![cfg(feature = "alloc")]
 use tihvomen::{Panel, Refusal};
 
@@ -28,7 +29,7 @@ fn make(panel: &mut Panel, call: &[&str]) -> Result<String, Refusal> {
     let silent = |result: Result<(), Refusal>| result.map(|()| String::new());
     let digits = |bytes: Vec<u8>| bytes.iter().map(|byte| format!("{byte:02x}")).collect();
     match call {
-        ["load", n, rules] => silent(panel.load(number(n), &bytes(rules))),
+        ["load", n, rest] => silent(panel.load(number(n), &bytes(rest))),
         ["put", place, row] => silent(panel.put_row(number(place), &bytes(row))),
         ["record", place, record] => silent(panel.put_record(number(place), &bytes(record))),
         ["drop", place] => silent(panel.drop_place(number(place))),
@@ -62,4 +63,9 @@ fn shortest_rows() {
 #[test]
 fn values_of_conditions() {
     run(include_str!("../../tests/calls/w2.calls"));
+}
+
+#[test]
+fn shortest_rows_and_values_with_prefix_operators() {
+    run(include_str!("../../tests/calls/w5.calls"));
 }

@@ -1,9 +1,10 @@
-//! Document 01's cases, with the chains of priority that document 02 adds, and the calls that give their answers as vectors.
+//! Document 01's cases, with the chains of priority and the kind bytes that document 02 adds, and the calls that give their answers
+//! as vectors.
 #![cfg(feature = "alloc")]
-use tihvomen::{Panel, Refusal, Side, IMAGE_BYTES, PLACES};
+use tihvomen::{Panel, Refusal, Side, IMAGE_BYTES, INFIX, PLACES, PREFIX};
 
-/// Two operators: 01 over 00, each left with itself.
-const SHEET_A: [u8; 9] = [1, 1, 0, 2, 1, 1, 2, 0, 0];
+/// Two infix operators: 01 over 00, each left with itself.
+const SHEET_A: [u8; 11] = [0, 0, 1, 1, 0, 2, 1, 1, 2, 0, 0];
 
 fn panel_with_sheet_a() -> Panel {
     let mut panel = Panel::default();
@@ -44,7 +45,7 @@ fn repair_6_and_damage_7_8() {
 
 #[test]
 fn sheets_9_to_14() {
-    let load = |n, rules: &[u8]| Panel::new().load(n, rules);
+    let load = |n: u8, rules: &[u8]| Panel::new().load(n, &[&vec![INFIX; n.into()], rules].concat());
     let round = [2, 0, 0, 2, 1, 1, 2, 2, 2, 1, 0, 1, 1, 1, 2, 1, 2, 0];
     assert_eq!(load(1, &[]), Err(Refusal::Double));
     assert_eq!(load(1, &[2, 0, 0, 3, 0, 0]), Err(Refusal::Dead));
@@ -62,18 +63,53 @@ fn sheets_9_to_14() {
     assert_eq!(panel.build(&long), Err(Refusal::Oversize));
 }
 
-/// "over 6,144 rule bytes": more than a line can bring. 1 comes before 2, so it does not matter that 6,145 is no multiple of three.
+/// "over 6,144 rule bytes", the kind bytes not counted. 1 comes before 2, so it does not matter that 6,145 is no multiple of three.
 #[test]
 fn rule_bytes_at_the_limit() {
-    let rules = SHEET_A.repeat(683);
+    let bytes = [&SHEET_A[..2], &SHEET_A[2..].repeat(683)].concat();
     let mut panel = Panel::new();
-    assert_eq!(panel.load(2, &rules[..6144]), Ok(()));
+    assert_eq!(panel.load(2, &bytes[..6146]), Ok(()));
     let before = panel.clone();
-    for length in [6145, 6146, 6147] {
-        assert_eq!(panel.load(2, &rules[..length]), Err(Refusal::Oversize));
+    for length in [6147, 6148, 6149] {
+        assert_eq!(panel.load(2, &bytes[..length]), Err(Refusal::Oversize));
     }
-    assert_eq!(panel.load(2, &rules[..6143]), Err(Refusal::Torn));
+    assert_eq!(panel.load(2, &bytes[..6145]), Err(Refusal::Torn));
     assert!(panel == before);
+}
+
+/// "Fewer than n kind bytes is 2": there are then no rule bytes. What stands after n kind bytes are rules. "An unknown kind byte is 3."
+#[test]
+fn kind_bytes() {
+    let load = |n, bytes: &[u8]| Panel::new().load(n, bytes);
+    assert_eq!(load(3, &[]), Err(Refusal::Torn));
+    assert_eq!(load(3, &[INFIX, 9]), Err(Refusal::Torn));
+    assert_eq!(load(33, &[]), Err(Refusal::Oversize));
+    assert_eq!(load(3, &[PREFIX; 3]), Ok(()));
+    assert_eq!(load(3, &[PREFIX; 4]), Err(Refusal::Torn));
+    assert_eq!(load(3, &[PREFIX; 6]), Ok(()));
+    assert_eq!(load(2, &[PREFIX, 2]), Err(Refusal::Stranger));
+    assert_eq!(load(2, &[255, PREFIX, 1]), Err(Refusal::Torn));
+    assert_eq!(load(1, &[PREFIX, INFIX, INFIX, INFIX]), Err(Refusal::Stranger));
+    // Not double before there is an infix operator.
+    assert_eq!(load(2, &[PREFIX, INFIX]), Err(Refusal::Double));
+    assert_eq!(load(2, &[PREFIX, INFIX, 2, 1, 1]), Err(Refusal::Double));
+    assert_eq!(load(2, &[PREFIX, INFIX, 2, 1, 1, 2, 0, 1]), Ok(()));
+    assert_eq!(load(2, &[PREFIX, INFIX, 2, 1, 1, 2, 0, 1, 3, 1, 0]), Err(Refusal::Dead));
+}
+
+/// 11 "is also given where a held tree uses an operator whose kind the new sheet changes".
+#[test]
+fn kinds_in_use() {
+    let mut panel = Panel::new();
+    panel.load(2, &[PREFIX, PREFIX]).unwrap();
+    panel.put_row(0, &[1, 1, 0x80]).unwrap();
+    let before = panel.clone();
+    assert_eq!(panel.load(2, &[PREFIX, INFIX, 2, 1, 1, 1, 0, 1]), Err(Refusal::InUse));
+    assert_eq!(panel.load(2, &[INFIX, INFIX, 2, 1, 1, 1, 0, 1, 2, 0, 0]), Err(Refusal::InUse));
+    assert_eq!(panel.load(1, &[PREFIX]), Err(Refusal::InUse));
+    assert!(panel == before);
+    assert_eq!(panel.load(2, &[INFIX, PREFIX, 2, 0, 0, 1, 0, 1]), Ok(()));
+    assert_eq!(panel.fetch_record(0).unwrap(), [1, 1, 0x80]);
 }
 
 #[test]
@@ -95,13 +131,13 @@ fn places_hold_trees_under_changing_sheets() {
     let row = [0x80, 0, 0x81, 1, 0x82];
     panel.put_row(3, &row).unwrap();
     let kept = panel.clone();
-    panel.load(2, &[1, 0, 1, 2, 1, 1, 2, 0, 0]).unwrap();
+    panel.load(2, &[0, 0, 1, 0, 1, 2, 1, 1, 2, 0, 0]).unwrap();
     assert_eq!(panel.fetch_record(3).unwrap(), [1, 0, 0x80, 0x81, 0x82]);
     assert_eq!(kept.fetch_record(3).unwrap(), [0, 0x80, 1, 0x81, 0x82]);
     assert_eq!(panel.fetch_row(3).unwrap(), row);
     assert_eq!(panel.image(3).unwrap()[..6], [5, 1, 0, 0x80, 0x81, 0x82]);
     assert_eq!(panel.image(0), Ok([0; IMAGE_BYTES]));
-    assert_eq!(panel.load(1, &[2, 0, 0]), Err(Refusal::InUse));
+    assert_eq!(panel.load(1, &[INFIX, 2, 0, 0]), Err(Refusal::InUse));
     assert_eq!(panel.fetch_row(PLACES), Err(Refusal::Place));
     assert_eq!((panel.drop_place(3), panel.drop_place(3)), (Ok(()), Err(Refusal::Empty)));
     assert_eq!(format!("{kept:?}"), "Panel { operators: 2, held: [(3, [0, 128, 1, 129, 130])] }");

@@ -1,31 +1,37 @@
-//! Conditions that are run: what each meaning makes of two values, the ends of the range, brackets, depth, refusals.
+//! Conditions that are run: what each meaning makes of its values, the ends of the range, brackets, depth, refusals.
 #![cfg(feature = "alloc")]
 use tihvomen::{Panel, Refusal, MOST_TOKENS, PLACES};
 
 const LOWEST: i32 = i32::MIN;
 const HIGHEST: i32 = i32::MAX;
 
-/// Operator o means o + 1.
-const MEANINGS: [u8; 9] = [1, 2, 3, 4, 5, 6, 7, 8, 9];
+/// Operator o means o + 1. The first nine are infix, the last two prefix.
+const MEANINGS: [u8; 11] = [1, 2, 3, 4, 5, 6, 7, 8, 9, 10, 11];
+const KINDS: [u8; 11] = [0, 0, 0, 0, 0, 0, 0, 0, 0, 1, 1];
 const OR: u8 = 0;
 const AND: u8 = 1;
 const LESS: u8 = 2;
 const SUM: u8 = 5;
 const DIFFERENCE: u8 = 6;
 const LARGER: u8 = 8;
+const NOT: u8 = 9;
+const MINUS: u8 = 10;
 
-/// The kinds of rule by which all nine operators group with each other.
+/// The kinds of rule by which all operators group with each other. By the first, a prefix operator takes as little as it can, by the
+/// second as much.
 const LEFT: u8 = 2;
 const RIGHT: u8 = 3;
 
-fn rules(kind: u8) -> Vec<u8> {
-    (0..9).flat_map(|a| (0..9).flat_map(move |b| [kind, a, b])).collect()
+/// The kinds and the rules of the sheet.
+fn sheet(kind: u8) -> Vec<u8> {
+    let rules: Vec<u8> = (0..11).flat_map(|a| (0..11).flat_map(move |b| [kind, a, b])).collect();
+    [&KINDS[..], &rules].concat()
 }
 
 /// A panel that holds the row's tree at place 3.
 fn holding(kind: u8, row: &[u8]) -> Panel {
     let mut panel = Panel::new();
-    panel.load(9, &rules(kind)).unwrap();
+    panel.load(11, &sheet(kind)).unwrap();
     panel.put_row(3, row).unwrap();
     panel
 }
@@ -65,6 +71,40 @@ fn each_meaning() {
     }
 }
 
+/// "Meaning 10, not, and 11, minus"; "minus of the lowest number is the highest".
+#[test]
+fn each_meaning_of_a_prefix_operator() {
+    for (a, not, minus) in
+        [(0, 1, 0), (1, 0, -1), (-7, 0, 7), (HIGHEST, 0, -HIGHEST), (LOWEST, 0, HIGHEST), (LOWEST + 1, 0, HIGHEST)]
+    {
+        assert_eq!(value(&[NOT, 0x80], &[a]), Ok(not));
+        assert_eq!(value(&[MINUS, 0x80], &[a]), Ok(minus));
+        assert_eq!(value(&[NOT, NOT, 0x80], &[a]), Ok(1 - not));
+        assert_eq!(value(&[MINUS, MINUS, 0x80], &[a]), Ok(if a == LOWEST { -HIGHEST } else { a }));
+        assert_eq!(value(&[MINUS, NOT, 0x80], &[a]), Ok(-not));
+    }
+    // The sheet says what the operator takes, unless brackets do.
+    let (bare, readings) = ([MINUS, 0x80, DIFFERENCE, 0x81], [7, 5]);
+    let mut panel = holding(LEFT, &bare);
+    assert_eq!(panel.evaluate(3, &MEANINGS, &readings), Ok(-12));
+    panel.load(11, &sheet(RIGHT)).unwrap();
+    assert_eq!(panel.evaluate(3, &MEANINGS, &readings), Ok(-2));
+    assert_eq!(value(&[MINUS, 0x20, 0x80, DIFFERENCE, 0x81, 0x21], &readings), Ok(-2));
+}
+
+/// "13 is also given where an operator's meaning doesn't suit its kind."
+#[test]
+fn meanings_of_the_other_kind() {
+    for meaning in 0..=255 {
+        let mut meanings = MEANINGS;
+        meanings[usize::from(SUM)] = meaning;
+        meanings[usize::from(NOT)] = meaning;
+        let unless_in = |range: std::ops::RangeInclusive<u8>| (!range.contains(&meaning)).then_some(Refusal::NoMeaning);
+        assert_eq!(holding(LEFT, &[0x80, SUM, 0x80]).evaluate(3, &meanings, &[3]).err(), unless_in(1..=9), "{meaning}");
+        assert_eq!(holding(LEFT, &[NOT, 0x80]).evaluate(3, &meanings, &[3]).err(), unless_in(10..=11), "{meaning}");
+    }
+}
+
 /// Not only at the top: what is past an end there may come back from it above.
 #[test]
 fn the_range_ends_at_each_node() {
@@ -84,7 +124,7 @@ fn brackets_and_sheets_group() {
     let (bare, readings) = ([0x80, DIFFERENCE, 0x81, DIFFERENCE, 0x82], [7, 5, 3]);
     let mut panel = holding(LEFT, &bare);
     assert_eq!(panel.evaluate(3, &MEANINGS, &readings), Ok(-1));
-    panel.load(9, &rules(RIGHT)).unwrap();
+    panel.load(11, &sheet(RIGHT)).unwrap();
     assert_eq!(panel.evaluate(3, &MEANINGS, &readings), Ok(5));
     assert_eq!(value(&[0x80, DIFFERENCE, 0x20, 0x81, DIFFERENCE, 0x82, 0x21], &readings), Ok(5));
     assert_eq!(value(&[0x20, 0x20, 0x80, 0x21, DIFFERENCE, 0x81, 0x21, DIFFERENCE, 0x82], &readings), Ok(-1));
@@ -125,6 +165,9 @@ fn deepest_trees() {
     }
     let nested = [[0x20].repeat(127), vec![0x80], [0x21].repeat(127)].concat();
     assert_eq!(value(&nested, &[-5]), Ok(-5));
+    for (operator, expected) in [(NOT, 1), (MINUS, -5)] {
+        assert_eq!(value(&[vec![operator; 254], vec![0x80]].concat(), &[-5]), Ok(expected));
+    }
 }
 
 #[test]

@@ -1,8 +1,10 @@
 //! Every call with arrays of fixed length alone: what the library gives without its feature `alloc`.
-use tihvomen::{Panel, Refusal, Rule, Side, UnknownNumber, IMAGE_BYTES, MOST_REPLY, MOST_TOKENS, PLACES};
+use tihvomen::{
+    Panel, Refusal, Rule, Side, UnknownNumber, IMAGE_BYTES, INFIX, MOST_REPLY, MOST_TOKENS, PLACES, PREFIX,
+};
 
-/// Two operators: 01 over 00, each left with itself.
-const SHEET_A: [u8; 9] = [1, 1, 0, 2, 1, 1, 2, 0, 0];
+/// Two infix operators: 01 over 00, each left with itself.
+const SHEET_A: [u8; 11] = [0, 0, 1, 1, 0, 2, 1, 1, 2, 0, 0];
 
 /// Case 5, as a row and as a record.
 const ROW: [u8; 7] = [0x20, 0x80, 0, 0x81, 0x21, 1, 0x82];
@@ -38,16 +40,22 @@ fn sheets_and_places() {
 
     let rules = [Rule::priority(1, 0), Rule::left(1, 1), Rule::left(0, 0)];
     let mut by_list = Panel::default();
-    by_list.load_rules(2, &rules).unwrap();
+    by_list.load_rules(2, &[INFIX, INFIX], &rules).unwrap();
     by_list.put_record(3, &RECORD).unwrap();
     assert_eq!(by_list, panel);
 
     assert_eq!(panel.fetch_record_into(3, &mut [0; 5]), Err(Refusal::Short));
-    assert_eq!(panel.load(1, &[2, 0, 0]), Err(Refusal::InUse));
+    assert_eq!(panel.load(1, &[INFIX, 2, 0, 0]), Err(Refusal::InUse));
+    assert_eq!(panel.load_rules(2, &[PREFIX, INFIX], &[Rule::priority(0, 1), rules[1]]), Err(Refusal::InUse));
     assert_eq!((panel.drop_place(3), panel.drop_place(3)), (Ok(()), Err(Refusal::Empty)));
     assert_eq!(panel.image(3), Ok([0; IMAGE_BYTES]));
-    assert_eq!(panel.load_rules(1, &[Rule::left(0, 0), Rule::right(0, 0)]), Err(Refusal::Dead));
-    assert_eq!(panel.load_rules(1, &[Rule::right(0, 0)]), Ok(()));
+    assert_eq!(panel.load_rules(1, &[INFIX], &[Rule::left(0, 0), Rule::right(0, 0)]), Err(Refusal::Dead));
+    assert_eq!(panel.load_rules(1, &[INFIX], &[Rule::right(0, 0)]), Ok(()));
+    for kinds in [&[][..], &[INFIX, INFIX], &[9, 9]] {
+        assert_eq!(panel.load_rules(1, kinds, &[Rule::left(0, 9)]), Err(Refusal::Torn));
+    }
+    assert_eq!(panel.load_rules(1, &[9], &[Rule::left(0, 0)]), Err(Refusal::Stranger));
+    assert_eq!(panel.load_rules(1, &[PREFIX], &[]), Ok(()));
 }
 
 #[test]
@@ -95,7 +103,7 @@ fn values() {
 fn lines() {
     let mut panel = Panel::new();
     let mut out = [b'?'; MOST_REPLY];
-    assert_eq!(panel.reply_into(b"0102010100020101020000", &mut out), "00");
+    assert_eq!(panel.reply_into(b"01020000010100020101020000", &mut out), "00");
     assert_eq!(panel.reply_into(b"020320800081210182", &mut out), "00");
     assert_eq!(panel.reply_into(b"0403", &mut out), "00012000808182");
     assert_eq!(panel.reply_into(b"0400", &mut out), "09");

@@ -1,10 +1,10 @@
 //! Places over 15 and more than 32 operators: refused for every value that the argument can have, before all else.
-use tihvomen::{Panel, Refusal, Rule, MOST_OPERATORS, MOST_RULES, PLACES};
+use tihvomen::{Panel, Refusal, Rule, INFIX, MOST_OPERATORS, MOST_RULES, PLACES, PREFIX};
 
-/// Two operators: 01 over 00, each left with itself; a tree at every place.
+/// Two infix operators: 01 over 00, each left with itself; a tree at every place.
 fn filled() -> Panel {
     let mut panel = Panel::new();
-    panel.load(2, &[1, 1, 0, 2, 1, 1, 2, 0, 0]).unwrap();
+    panel.load(2, &[0, 0, 1, 1, 0, 2, 1, 1, 2, 0, 0]).unwrap();
     for place in 0..PLACES {
         panel.put_row(place, &[0x80 + place, 0, 0x81, 1, 0x82]).unwrap();
     }
@@ -66,13 +66,16 @@ fn more_than_32_operators() {
     for mut panel in [Panel::new(), filled()] {
         let before = panel.clone();
         for n in MOST_OPERATORS + 1..=u8::MAX {
-            // None, one that is right, torn bytes, a kind that does not exist.
+            let kinds = vec![INFIX; n.into()];
+            // No rule, one that is right, torn bytes, a kind that does not exist; with kind bytes and without.
             for rules in [&[][..], &[2, 0, 0], &[2, 0], &[9, 0, 0]] {
+                assert_eq!(panel.load(n, &[&kinds, rules].concat()), Err(Refusal::Oversize));
                 assert_eq!(panel.load(n, rules), Err(Refusal::Oversize));
             }
             for rule in [Rule::left(0, 0), Rule { kind: 9, first: 0, second: 0 }] {
-                assert_eq!(panel.load_rules(n, &[]), Err(Refusal::Oversize));
-                assert_eq!(panel.load_rules(n, &[rule]), Err(Refusal::Oversize));
+                assert_eq!(panel.load_rules(n, &kinds, &[]), Err(Refusal::Oversize));
+                assert_eq!(panel.load_rules(n, &kinds, &[rule]), Err(Refusal::Oversize));
+                assert_eq!(panel.load_rules(n, &[], &[rule]), Err(Refusal::Oversize));
             }
         }
         assert_eq!(panel, before);
@@ -83,12 +86,16 @@ fn more_than_32_operators() {
 fn up_to_32_operators_and_2048_rules() {
     for n in 0..=MOST_OPERATORS {
         let rules: Vec<Rule> = (0..n).flat_map(|a| (0..n).map(move |b| Rule::left(a, b))).collect();
-        let mut panel = Panel::new();
-        assert_eq!(panel.load_rules(n, &rules), Ok(()));
-        assert_eq!(panel.operators(), n);
+        for kind in [INFIX, PREFIX] {
+            let mut panel = Panel::new();
+            assert_eq!(panel.load_rules(n, &vec![kind; n.into()], &rules), Ok(()));
+            assert_eq!(panel.operators(), n);
+        }
     }
     let mut panel = Panel::new();
     let rules = [Rule::left(0, 0); MOST_RULES + 1];
-    assert_eq!(panel.load_rules(1, &rules), Err(Refusal::Oversize));
-    assert_eq!(panel.load_rules(1, &rules[1..]), Ok(()));
+    assert_eq!(panel.load_rules(1, &[INFIX], &rules), Err(Refusal::Oversize));
+    assert_eq!(panel.load_rules(1, &[], &rules), Err(Refusal::Oversize));
+    assert_eq!(panel.load_rules(1, &[], &rules[1..]), Err(Refusal::Torn));
+    assert_eq!(panel.load_rules(1, &[INFIX], &rules[1..]), Ok(()));
 }

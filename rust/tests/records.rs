@@ -8,7 +8,7 @@ use tihvomen::{Panel, Refusal, Side};
 /// Sheet A, which excludes L(1,0), R(1,0), R(0,0) and R(1,1).
 fn panel_with_sheet_a() -> Panel {
     let mut panel = Panel::new();
-    panel.load(2, &[1, 1, 0, 2, 1, 1, 2, 0, 0]).unwrap();
+    panel.load(2, &[0, 0, 1, 1, 0, 2, 1, 1, 2, 0, 0]).unwrap();
     panel
 }
 
@@ -49,6 +49,40 @@ fn short_records() {
     answers(&[0x20, 0, 0x80, 0x81], &[0x20, 0x80, 0, 0x81, 0x21], 0, &[0, 0x80, 0x81], &[]);
     let bracketed = [1, 0x20, 0, 0x80, 0x81, 0x82];
     answers(&bracketed, &[0x20, 0x80, 0, 0x81, 0x21, 1, 0x82], 0, &bracketed[1..5], &[0x82]);
+}
+
+/// Three infix operators and a prefix one: 02 over 01, 01 over 00, 00 over 03, so that 03 takes as much as it can.
+#[test]
+fn prefix_operators() {
+    let mut panel = Panel::new();
+    let rules = [1, 2, 1, 1, 1, 0, 1, 0, 3, 2, 2, 2, 2, 1, 1, 2, 0, 0];
+    panel.load(4, &[&[0, 0, 0, 1], &rules[..]].concat()).unwrap();
+    // The operand of a prefix operator counts as its left one.
+    let only = [3, 3, 0x80];
+    assert_eq!(panel.operand(&only, Side::Left), Ok(&only[1..]));
+    assert_eq!(panel.operand(&only, Side::Right), Ok(&[][..]));
+    assert_eq!(panel.yield_row(&only).unwrap(), only);
+    // 03 stands three nodes down on the right edge of the left operand of 00.
+    let edge = [0, 0, 0x80, 1, 0x81, 2, 0x82, 3, 0x83, 0x84];
+    let row = [0x80, 0, 0x81, 1, 0x82, 2, 3, 0x83, 0, 0x84];
+    assert_eq!((panel.judge(&edge), panel.yield_row(&edge).unwrap()), (Ok(1), row.to_vec()));
+    assert_eq!(panel.repair(&edge).unwrap(), [0, 0x80, 1, 0x81, 2, 0x82, 3, 0, 0x83, 0x84]);
+    assert_eq!(panel.operand(&edge, Side::Left), Ok(&edge[1..9]));
+    // A bracket ends the edge. Each node on it counts. On the right of an infix operator a prefix one may stand.
+    assert_eq!(panel.judge(&[0, 0, 0x80, 1, 0x81, 0x20, 2, 0x82, 3, 0x83, 0x84]), Ok(0));
+    assert_eq!(panel.judge(&[0, 3, 3, 3, 0x80, 0x81]), Ok(3));
+    assert_eq!(panel.judge(&[0, 0x80, 3, 0x81]), Ok(0));
+    // One pair of brackets is enough, and it is put around the left operand of 00, where the edge is looked at.
+    let bracketed = [0x20, 0x80, 0, 3, 0x81, 0x21, 0, 0x82];
+    assert_eq!(panel.shortest_row(&[0, 0x20, 0, 0x80, 0x20, 3, 0x81, 0x82]).unwrap(), bracketed);
+    refused(&panel, &[3], Refusal::NoTree);
+    refused(&panel, &[3, 0x80, 0x81], Refusal::NoTree);
+    refused(&panel, &[0, 3, 0x80], Refusal::NoTree);
+    // 254 prefix operators before a reading; 252 on the right edge of the left operand of 00.
+    let longest = [[3].repeat(254), vec![0x80]].concat();
+    assert_eq!((panel.judge(&longest), panel.yield_row(&longest).unwrap()), (Ok(0), longest.clone()));
+    assert_eq!(panel.judge(&[&[0], &[3].repeat(252)[..], &[0x80, 0x81]].concat()), Ok(252));
+    refused(&panel, &[&[3], &longest[..]].concat(), Refusal::Oversize);
 }
 
 /// 255 bytes and 255 tokens at most: combs of 127 operators, and 127 brackets.

@@ -1,16 +1,19 @@
 //! Makes the calls whose instructions are counted, each once for every input: trees of 255 tokens under eight groups of operators.
+//! With the word `prefixed` as argument, trees with prefix operators.
 use tihvomen::{Panel, Side};
-use tihvomen_bench::cases::{meanings, readings, records, rows, rules, SHAPES};
+use tihvomen_bench::cases::{kinds, meanings, readings, records, rows, sheet, Shape, SHAPES};
 
 const TOKENS: usize = 255;
 
 fn main() {
+    let prefixed = std::env::args().nth(1).is_some_and(|word| word == "prefixed");
+    let shapes = if prefixed { vec![Shape::Prefixed] } else { SHAPES.map(|(_, shape)| shape).to_vec() };
     let mut panel = Panel::new();
     let mut out = [0; 300];
-    let (meanings, readings) = (meanings(), readings());
-    assert!(panel.load(32, &rules(8)).is_ok());
+    let (meanings, readings) = (meanings(&kinds(prefixed)), readings());
+    assert!(panel.load(32, &sheet(prefixed, 8)).is_ok());
     let mut made = 0;
-    for (_, shape) in SHAPES {
+    for shape in shapes {
         for (row, record) in rows(TOKENS, shape).iter().zip(&records(TOKENS, shape)) {
             let accepted = [
                 panel.build_into(row, &mut out).is_ok(),

@@ -1,7 +1,7 @@
 //! Prints a table of nanoseconds a call: the proved panel, the fast one, and the ratio.
 use std::hint::black_box;
 use tihvomen::{Refusal, Side};
-use tihvomen_bench::cases::{meanings, readings, records, rows, rules, Shape, SHAPES, TOKENS};
+use tihvomen_bench::cases::{kinds, meanings, readings, records, rows, sheet, Shape, SHAPES, TOKENS};
 use tihvomen_bench::fast::{self, Answer};
 use tihvomen_bench::timing::by_turns;
 
@@ -44,9 +44,9 @@ fn written(
     line(name, inputs, |input| proved(input, &mut one), |input| fast(input, &mut other));
 }
 
-fn load(both: &mut Both, name: &str, groups: u8) {
+fn load(both: &mut Both, name: &str, prefixed: bool, groups: u8) {
     let Both { proved, fast } = both;
-    line(name, &[rules(groups)], |rules| proved.load(32, rules), |rules| fast.load(32, rules));
+    line(name, &[sheet(prefixed, groups)], |sheet| proved.load(32, sheet), |sheet| fast.load(32, sheet));
 }
 
 /// Build, repair, judge, yield, the shortest row and the right operand.
@@ -80,22 +80,33 @@ fn places(both: &mut Both, size: &str, tokens: usize, shape: Shape) {
     written(&format!("fetch row, {size}"), &places, fetch_row, |place, out| fast.fetch_row(place[0], out));
     let image = |place: &[u8], out: &mut [u8]| proved.image_into(place[0], out);
     written(&format!("image, {size}"), &places, image, |place, out| fast.image(place[0], out));
-    let (meanings, readings) = (meanings(), readings());
+    let (meanings, readings) = (meanings(&kinds(shape == Shape::Prefixed)), readings());
     let evaluate = |place: &[u8]| proved.evaluate(place[0], &meanings, &readings);
     line(&format!("evaluate, {size}"), &places, evaluate, |place| fast.evaluate(place[0], &meanings, &readings));
 }
 
+fn fresh() -> Both {
+    Both { proved: tihvomen::Panel::new(), fast: fast::Panel::default() }
+}
+
 fn main() {
     println!("| call | proved, ns | fast, ns | ratio |\n|---|---|---|---|");
-    let mut both = Both { proved: tihvomen::Panel::new(), fast: fast::Panel::default() };
-    load(&mut both, "load, 32 operators, 1,024 rules", 1);
-    load(&mut both, "load, 32 operators, 576 rules", 8);
+    let mut both = fresh();
+    load(&mut both, "load, 32 operators, 1,024 rules", false, 1);
+    load(&mut both, "load, 32 operators, 576 rules", false, 8);
     for tokens in TOKENS {
         for (shape_name, shape) in SHAPES {
             let size = format!("{tokens} tokens, {shape_name}");
             trees(&both, &size, tokens, shape);
             places(&mut both, &size, tokens, shape);
         }
-        load(&mut both, &format!("load, 576 rules, under sixteen trees of {tokens} tokens"), 8);
+        load(&mut both, &format!("load, 576 rules, under sixteen trees of {tokens} tokens"), false, 8);
+    }
+    both = fresh();
+    load(&mut both, "load, 32 operators, 8 of them prefix, 576 rules", true, 8);
+    for tokens in [63, 255] {
+        let size = format!("{tokens} tokens, random, with prefix operators");
+        trees(&both, &size, tokens, Shape::Prefixed);
+        places(&mut both, &size, tokens, Shape::Prefixed);
     }
 }

@@ -1,11 +1,14 @@
 //! Running a condition: one pass from the record's end with a stack of values. No jump depends on a meaning.
-use super::sheet::OPENING;
+use super::sheet::{Sheet, OPENING};
 
 /// For each meaning when it answers 1. The bit's number adds up 1 for a not 0, 2 for b not 0, 4 for a < b, 8 for a = b.
 const TRUTHS: [u16; 16] = [0, 0xEEEE, 0x8888, 0xF0F0, 0xFFF0, 0xFF00, 0, 0, 0, 0, 0, 0, 0, 0, 0, 0];
 
+/// The meaning "not" of a prefix operator; the next is "minus".
+const NOT: u8 = 10;
+
 /// The value of a held record, or 13 or 14, which are found on the way.
-pub fn evaluate(bytes: &[u8], meanings: &[u8], readings: &[i32]) -> Result<i32, u8> {
+pub fn evaluate(sheet: &Sheet, bytes: &[u8], meanings: &[u8], readings: &[i32]) -> Result<i32, u8> {
     let mut meaning_of = [0; 32];
     for (to, &meaning) in meaning_of.iter_mut().zip(meanings) {
         *to = meaning;
@@ -19,6 +22,10 @@ pub fn evaluate(bytes: &[u8], meanings: &[u8], readings: &[i32]) -> Result<i32, 
             top += 1;
             highest = highest.max(byte);
             value = readings.get(usize::from(byte & 0x7F)).copied().unwrap_or(0);
+        } else if byte < OPENING && sheet.is_prefix(byte) {
+            let meaning = meaning_of[usize::from(byte)];
+            meant &= meaning.wrapping_sub(NOT) < 2;
+            value = if meaning == NOT { i32::from(value == 0) } else { value.saturating_neg() };
         } else if byte < OPENING {
             top = top.wrapping_sub(1);
             let meaning = meaning_of[usize::from(byte)];

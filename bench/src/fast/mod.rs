@@ -1,6 +1,7 @@
 //! The panel for speed: bit rows, a stack of waiting operators, no recursion, no allocation. A call answers a length or a number.
 
 mod evaluate;
+mod prefixed;
 mod record;
 mod row;
 mod sheet;
@@ -25,10 +26,11 @@ impl Default for Panel {
 
 impl Panel {
     #[inline(never)]
-    pub fn load(&mut self, n: u8, rules: &[u8]) -> Result<(), u8> {
-        let sheet = sheet::load(n, rules)?;
-        // Only fewer operators than before can leave one in use behind.
-        if n < self.sheet.n && self.in_use(n) {
+    pub fn load(&mut self, n: u8, bytes: &[u8]) -> Result<(), u8> {
+        let sheet = sheet::load(n, bytes)?;
+        // The operators that the new sheet lacks, or has with another kind.
+        let gone = self.sheet.all & (!sheet.all | self.sheet.prefixes ^ sheet.prefixes);
+        if gone != 0 && self.in_use(gone) {
             return Err(11);
         }
         self.sheet = sheet;
@@ -38,20 +40,22 @@ impl Panel {
         Ok(())
     }
 
-    fn in_use(&self, n: u8) -> bool {
-        let held = |image: &[u8; 256]| image[1..1 + usize::from(image[0])].iter().any(|&byte| byte < 32 && byte >= n);
+    /// Whether a held tree uses one of these operators.
+    fn in_use(&self, operators: u32) -> bool {
+        let is_one = |byte: u8| byte < 32 && operators >> byte & 1 == 1;
+        let held = |image: &[u8; 256]| image[1..1 + usize::from(image[0])].iter().any(|&byte| is_one(byte));
         self.places.iter().any(held)
     }
 
     /// The held tree becomes the conflict-free tree of its row.
     fn rebuild(&mut self, place: usize) {
         let (length, tokens) = (usize::from(self.places[place][0]), usize::from(self.tokens[place]));
-        // A tree of at most one operator stays as it is.
+        // A tree of at most three bytes is the only one of its row.
         if length <= 3 {
             return;
         }
         let mut row = [0; 256];
-        record::write_row(&self.places[place][1..1 + length], &mut row);
+        record::write_row(&self.sheet, &self.places[place][1..1 + length], &mut row);
         row::build(&self.sheet, &row[..tokens], &mut self.places[place][1..1 + length]);
     }
 
@@ -72,7 +76,7 @@ impl Panel {
         }
         let tokens = record::check(&self.sheet, bytes)?;
         let mut row = [0; 256];
-        record::write_row(bytes, &mut row);
+        record::write_row(&self.sheet, bytes, &mut row);
         self.store(usize::from(place), &row[..tokens], bytes.len());
         Ok(())
     }
@@ -113,7 +117,7 @@ impl Panel {
     pub fn fetch_row(&self, place: u8, out: &mut [u8]) -> Answer {
         let record = self.held(place)?;
         let tokens = usize::from(self.tokens[usize::from(place)]);
-        record::write_row(record, out.get_mut(..tokens).ok_or(10)?);
+        record::write_row(&self.sheet, record, out.get_mut(..tokens).ok_or(10)?);
         Ok(tokens)
     }
 
@@ -136,7 +140,7 @@ impl Panel {
         let tokens = record::check(&self.sheet, bytes)?;
         let out = out.get_mut(..bytes.len()).ok_or(10)?;
         let mut row = [0; 256];
-        record::write_row(bytes, &mut row);
+        record::write_row(&self.sheet, bytes, &mut row);
         row::build(&self.sheet, &row[..tokens], out);
         Ok(bytes.len())
     }
@@ -144,7 +148,7 @@ impl Panel {
     #[inline(never)]
     pub fn yield_row(&self, bytes: &[u8], out: &mut [u8]) -> Answer {
         let tokens = record::check(&self.sheet, bytes)?;
-        record::write_row(bytes, out.get_mut(..tokens).ok_or(10)?);
+        record::write_row(&self.sheet, bytes, out.get_mut(..tokens).ok_or(10)?);
         Ok(tokens)
     }
 
@@ -152,9 +156,13 @@ impl Panel {
     pub fn shortest_row(&self, bytes: &[u8], out: &mut [u8]) -> Answer {
         let tokens = record::check(&self.sheet, bytes)?;
         let (mut row, mut tree) = ([0; 256], [0; 256]);
-        record::write_row(bytes, &mut row);
+        record::write_row(&self.sheet, bytes, &mut row);
         row::build(&self.sheet, &row[..tokens], &mut tree[..bytes.len()]);
-        let length = record::write_shortest(&self.sheet, &tree[..bytes.len()], &mut row);
+        let tree = &tree[..bytes.len()];
+        let length = match self.sheet.prefixes {
+            0 => record::write_shortest(&self.sheet, tree, &mut row),
+            _ => prefixed::write_shortest(&self.sheet, tree, &mut row),
+        };
         out.get_mut(..length).ok_or(10)?.copy_from_slice(&row[..length]);
         Ok(length)
     }
@@ -162,17 +170,20 @@ impl Panel {
     #[inline(never)]
     pub fn judge(&self, bytes: &[u8]) -> Result<u8, u8> {
         record::check(&self.sheet, bytes)?;
-        Ok(record::conflicts(&self.sheet, bytes))
+        Ok(match self.sheet.prefixes {
+            0 => record::conflicts(&self.sheet, bytes),
+            _ => prefixed::conflicts(&self.sheet, bytes),
+        })
     }
 
     #[inline(never)]
     pub fn operand<'a>(&self, bytes: &'a [u8], right: bool) -> Result<&'a [u8], u8> {
         record::check(&self.sheet, bytes)?;
-        Ok(record::operand(bytes, right))
+        Ok(record::operand(&self.sheet, bytes, right))
     }
 
     #[inline(never)]
     pub fn evaluate(&self, place: u8, meanings: &[u8], readings: &[i32]) -> Result<i32, u8> {
-        evaluate::evaluate(self.held(place)?, meanings, readings)
+        evaluate::evaluate(&self.sheet, self.held(place)?, meanings, readings)
     }
 }

@@ -1,4 +1,4 @@
-//! Records: each of check, count and row is one pass.
+//! Records: each of check, count and row is one pass. Counts and shortest rows are for sheets of infix operators alone.
 use super::sheet::{Sheet, CLOSING, NONE, OPENING, STRANGE};
 
 /// How many tokens the record's row has, or 1, 3, 7 or 1.
@@ -13,7 +13,7 @@ pub fn check(sheet: &Sheet, bytes: &[u8]) -> Result<usize, u8> {
         lowest = lowest.min(need);
         strange |= sheet.class[usize::from(byte)] | (u8::from(byte == CLOSING) * STRANGE);
         brackets += usize::from(byte == OPENING);
-        need += step(byte);
+        need += sheet.step(byte);
     }
     if strange & STRANGE != 0 {
         return Err(3);
@@ -25,12 +25,6 @@ pub fn check(sheet: &Sheet, bytes: &[u8]) -> Result<usize, u8> {
         return Err(1);
     }
     Ok(bytes.len() + brackets)
-}
-
-/// How many trees more are to come after a byte: one for an operator, one less for a reading.
-#[inline]
-fn step(byte: u8) -> i32 {
-    i32::from(byte < OPENING) - i32::from(byte >= 0x80)
 }
 
 /// The conflict count of an accepted record: from the right end, with a stack of the trees' tops.
@@ -45,20 +39,20 @@ pub fn conflicts(sheet: &Sheet, bytes: &[u8]) -> u8 {
         // Both rows are 0 at NONE, and no row has bit NONE.
         count += u64::from(sheet.open[usize::from(left)]) >> operator & 1;
         count += u64::from(sheet.closes[usize::from(operator)]) >> right & 1;
-        top = top.wrapping_sub(step(byte) as u8);
+        top = top.wrapping_sub(u8::from(byte < OPENING).wrapping_sub(u8::from(byte >= 0x80)));
         tops[usize::from(top)] = operator;
     }
     count as u8
 }
 
 /// Writes the row of an accepted record at the front of `out`.
-pub fn write_row(bytes: &[u8], out: &mut [u8]) {
+pub fn write_row(sheet: &Sheet, bytes: &[u8], out: &mut [u8]) {
     // What follows the operand that is being written: its operator, or a closing bracket.
     let mut after = [0u8; 256];
     let mut top = 0u8;
     let mut at = 0;
     for &byte in bytes {
-        if byte < OPENING {
+        if byte < OPENING && !sheet.is_prefix(byte) {
             top += 1;
             after[usize::from(top)] = byte;
             continue;
@@ -68,6 +62,8 @@ pub fn write_row(bytes: &[u8], out: &mut [u8]) {
         if byte == OPENING {
             top += 1;
             after[usize::from(top)] = CLOSING;
+        }
+        if byte <= OPENING {
             continue;
         }
         while top > 0 {
@@ -122,12 +118,13 @@ pub fn write_shortest(sheet: &Sheet, bytes: &[u8], out: &mut [u8; 256]) -> usize
 }
 
 /// The operand of an accepted record's top node.
-pub fn operand(bytes: &[u8], right: bool) -> &[u8] {
-    match (bytes[0], right) {
-        (0..OPENING, _) => {
+pub fn operand<'a>(sheet: &Sheet, bytes: &'a [u8], right: bool) -> &'a [u8] {
+    match (sheet.step(bytes[0]), right) {
+        // An infix operator.
+        (1, _) => {
             let mut need = 1;
             let past = bytes[1..].iter().position(|&byte| {
-                need += step(byte);
+                need += sheet.step(byte);
                 need == 0
             });
             let middle = 2 + past.unwrap_or(0);
@@ -137,7 +134,8 @@ pub fn operand(bytes: &[u8], right: bool) -> &[u8] {
                 &bytes[1..middle]
             }
         }
-        (OPENING, false) => &bytes[1..],
+        // A bracket or a prefix operator.
+        (0, false) => &bytes[1..],
         _ => &[],
     }
 }

@@ -50,6 +50,12 @@ pub fn build(sheet: &Sheet, row: &[u8], out: &mut [u8]) {
                 out[at] = waiting[usize::from(top)];
                 top -= 1;
             }
+            // A prefix operator has all of its operand then.
+            if sheet.is_prefix(token) {
+                at -= 1;
+                out[at] = token;
+                continue;
+            }
             top += 1;
             waiting[usize::from(top)] = token;
         } else if token == CLOSING {

@@ -14,10 +14,13 @@ pub const ASKS: u8 = 2;
 /// It has no meaning under the sheet.
 pub const STRANGE: u8 = 4;
 
-/// Bit b of `closes[a]`: R(a,b) is excluded. Bit a of `open[b]`: L(a,b) is. Both are 0 at `NONE`.
+/// Bit b of `closes[a]`: R(a,b) is excluded. Bit a of `open[b]`: L(a,b) is. Both are 0 at `NONE`, and have no bit of a prefix
+/// operator.
 #[derive(Clone)]
 pub struct Sheet {
-    pub n: u8,
+    /// Which operators there are, and which of them are prefix operators.
+    pub all: u32,
+    pub prefixes: u32,
     pub closes: [u32; 33],
     pub open: [u32; 33],
     pub class: [u8; 256],
@@ -25,7 +28,19 @@ pub struct Sheet {
 
 impl Sheet {
     pub fn fresh() -> Sheet {
-        Sheet { n: 0, closes: [0; 33], open: [0; 33], class: CLASSES }
+        Sheet { all: 0, prefixes: 0, closes: [0; 33], open: [0; 33], class: CLASSES }
+    }
+
+    /// How many trees more are to come in a record after a byte: one for an infix operator, one less for a reading.
+    #[inline]
+    pub fn step(&self, byte: u8) -> i32 {
+        let class = self.class[usize::from(byte)];
+        i32::from(class >> 1 & 1) - i32::from(class & 1)
+    }
+
+    #[inline]
+    pub fn is_prefix(&self, operator: u8) -> bool {
+        self.prefixes >> (operator & 31) & 1 == 1
     }
 }
 
@@ -41,17 +56,22 @@ const CLASSES: [u8; 256] = {
     class
 };
 
-/// The sheet, or 1, 2, 3, 4 or 5.
-pub fn load(n: u8, rules: &[u8]) -> Result<Sheet, u8> {
+/// The sheet of n operators, n kind bytes and rules; or 1, 2, 3, 4 or 5.
+pub fn load(n: u8, bytes: &[u8]) -> Result<Sheet, u8> {
+    let rules = bytes.get(usize::from(n)..).unwrap_or(&[]);
     if n > 32 || rules.len() > 6144 {
         return Err(1);
     }
-    if rules.len() % 3 != 0 {
+    if bytes.len() < usize::from(n) || rules.len() % 3 != 0 {
         return Err(2);
+    }
+    let (mut prefixes, mut strange) = (0u32, false);
+    for (operator, &kind) in bytes[..usize::from(n)].iter().enumerate() {
+        strange |= kind > 1;
+        prefixes |= u32::from(kind & 1) << operator;
     }
     // By kind: bit b of row a for a rule of a and b, and bit a of row b.
     let (mut ahead, mut back) = ([[0u32; 32]; 4], [[0u32; 32]; 4]);
-    let mut strange = false;
     for rule in rules.chunks_exact(3) {
         let (kind, a, b) = (rule[0], rule[1], rule[2]);
         strange |= kind.wrapping_sub(1) > 2 || a >= n || b >= n;
@@ -63,15 +83,16 @@ pub fn load(n: u8, rules: &[u8]) -> Result<Sheet, u8> {
     }
     chain(&mut ahead[1][..usize::from(n)]);
     chain(&mut back[1][..usize::from(n)]);
-    let mut sheet = Sheet { n, ..Sheet::fresh() };
-    for a in 0..32 {
-        sheet.closes[a] = ahead[1][a] | ahead[2][a];
-        sheet.open[a] = back[1][a] | back[3][a];
-    }
     let all = ((1u64 << n) - 1) as u32;
+    let infix = all & !prefixes;
+    let mut sheet = Sheet { all, prefixes, ..Sheet::fresh() };
+    for a in 0..32 {
+        sheet.closes[a] = (ahead[1][a] | ahead[2][a]) & infix;
+        sheet.open[a] = (back[1][a] | back[3][a]) & infix;
+    }
     let (closes, open) = (&sheet.closes[..usize::from(n)], &sheet.open[..usize::from(n)]);
     let mut both = 0;
-    let mut either = all;
+    let mut either = infix;
     for (&closes, &open) in closes.iter().zip(open) {
         both |= closes & open;
         either &= closes | open;
@@ -79,10 +100,12 @@ pub fn load(n: u8, rules: &[u8]) -> Result<Sheet, u8> {
     if both != 0 {
         return Err(4);
     }
-    if either != all || !is_level(closes) {
+    if either != infix || !is_level(closes, infix) {
         return Err(5);
     }
-    sheet.class[..usize::from(n)].fill(ASKS);
+    for operator in 0..n {
+        sheet.class[usize::from(operator)] = if sheet.is_prefix(operator) { BEGINS | ASKS } else { ASKS };
+    }
     Ok(sheet)
 }
 
@@ -96,13 +119,13 @@ fn chain(rows: &mut [u32]) {
     }
 }
 
-/// If a closes before b, b's row lies within a's, else a's within b's.
-fn is_level(closes: &[u32]) -> bool {
+/// If a closes before an infix b, b's row lies within a's, else a's within b's.
+fn is_level(closes: &[u32], infix: u32) -> bool {
     let mut outside = 0;
     for &of_a in closes {
         for (b, &of_b) in closes.iter().enumerate() {
             let inner = if of_a >> b & 1 == 1 { of_b } else { of_a };
-            outside |= (of_a ^ of_b) & inner;
+            outside |= (of_a ^ of_b) & inner & (infix >> b & 1).wrapping_neg();
         }
     }
     outside == 0

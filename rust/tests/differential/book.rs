@@ -1,13 +1,13 @@
-//! Document 01's book: it is fed the calls alone and finds every number and answer itself.
+//! Document 01's book, with document 02's requests: it is fed the calls alone and finds every number and answer itself.
 use crate::evaluate::evaluate;
 use crate::expression::Expression;
 use crate::sheet::Sheet;
-use crate::tree::{is_operator, is_reading, Side, Tree, CLOSING, OPENING};
+use crate::tree::{is_of_kind, is_operator, is_reading, Side, Tree, CLOSING, INFIX, OPENING, PREFIX};
 
-/// A call with its arguments. `room` is the length of the lent output.
+/// A call with its arguments. `bytes` are the kinds and rules of a sheet, `room` is the length of the lent output.
 #[derive(Clone, Debug)]
 pub enum Call {
-    Load { n: u8, rules: Vec<u8> },
+    Load { n: u8, bytes: Vec<u8> },
     PutRow { place: u8, row: Vec<u8> },
     PutRecord { place: u8, record: Vec<u8> },
     Drop { place: u8 },
@@ -43,14 +43,14 @@ pub struct Book {
 
 impl Book {
     pub fn new() -> Book {
-        Book { sheet: Sheet::of_rules(0, &[]), slots: Default::default() }
+        Book { sheet: Sheet::of_rules(&[], &[]), slots: Default::default() }
     }
 
     /// What the call is answered, read off the book as it stands before the call.
     pub fn reply(&self, call: &Call) -> Reply {
         let mut offset = 0;
         let found = match call {
-            Call::Load { n, rules } => self.load(*n, rules).map(|_| Vec::new()),
+            Call::Load { n, bytes } => self.load(*n, bytes).map(|_| Vec::new()),
             Call::PutRow { place, row } => self.place(*place).and_then(|_| self.row(row)).map(|_| Vec::new()),
             Call::PutRecord { place, record } => {
                 self.place(*place).and_then(|_| self.record(record)).map(|_| Vec::new())
@@ -88,10 +88,13 @@ impl Book {
             return;
         }
         match call {
-            Call::Load { n, rules } => self.sheet = Sheet::of_rules(*n, rules),
+            Call::Load { n, bytes } => {
+                let (kinds, rules) = bytes.split_at(usize::from(*n));
+                self.sheet = Sheet::of_rules(kinds, rules);
+            }
             Call::PutRow { place, row } => self.slots[usize::from(*place)] = Some(row.clone()),
             Call::PutRecord { place, record } => {
-                self.slots[usize::from(*place)] = Tree::of_record(record).map(|tree| tree.row());
+                self.slots[usize::from(*place)] = self.sheet.tree_of_record(record).map(|tree| tree.row());
             }
             Call::Drop { place } => self.slots[usize::from(*place)] = None,
             _ => (),
@@ -113,30 +116,35 @@ impl Book {
     }
 
     /// Sheet: 1, 2, 3, 4, 5, 11.
-    fn load(&self, n: u8, rules: &[u8]) -> Result<(), u8> {
+    fn load(&self, n: u8, bytes: &[u8]) -> Result<(), u8> {
+        let count = usize::from(n);
+        let rules = bytes.get(count..).unwrap_or(&[]);
         if n > 32 || rules.len() > 6144 {
             return Err(1);
         }
-        if rules.len() % 3 != 0 {
+        if bytes.len() < count || rules.len() % 3 != 0 {
             return Err(2);
         }
-        if rules.chunks(3).any(|rule| !(1..=3).contains(&rule[0]) || rule[1] >= n || rule[2] >= n) {
+        let kinds = &bytes[..count];
+        let strange_kind = kinds.iter().any(|kind| ![INFIX, PREFIX].contains(kind));
+        if strange_kind || rules.chunks(3).any(|rule| !(1..=3).contains(&rule[0]) || rule[1] >= n || rule[2] >= n) {
             return Err(3);
         }
-        match Sheet::of_rules(n, rules).verdict() {
+        match Sheet::of_rules(kinds, rules).verdict() {
             0 => (),
             verdict => return Err(verdict),
         }
-        if self.used() > n {
+        let used = self.kinds_in_use();
+        if (0..).zip(used).any(|(operator, kind)| kind.is_some_and(|kind| !is_of_kind(kinds, operator, kind))) {
             return Err(11);
         }
         Ok(())
     }
 
-    /// How many operators a sheet must have for the held trees: one more than the highest in use.
-    pub fn used(&self) -> u8 {
-        let tokens = self.slots.iter().flatten().flatten();
-        tokens.filter(|&&token| is_operator(token)).map(|token| token + 1).max().unwrap_or(0)
+    /// The kinds of the operators that held trees use, in the operators' order; none for the others.
+    pub fn kinds_in_use(&self) -> Vec<Option<u8>> {
+        let is_used = |operator: u8| self.slots.iter().flatten().flatten().any(|&token| token == operator);
+        (0..).zip(&self.sheet.kinds).map(|(operator, &kind)| is_used(operator).then_some(kind)).collect()
     }
 
     /// Row: 1, 3, 6.
@@ -147,7 +155,7 @@ impl Book {
         if row.iter().any(|&token| !self.has_meaning(token)) {
             return Err(3);
         }
-        if Expression::of_row(row).is_none() {
+        if Expression::of_row(row, &self.sheet.kinds).is_none() {
             return Err(6);
         }
         Ok(row.to_vec())
@@ -161,7 +169,7 @@ impl Book {
         if record.iter().any(|&byte| !self.has_meaning(byte) || byte == CLOSING) {
             return Err(3);
         }
-        let tree = Tree::of_record(record).ok_or(7)?;
+        let tree = self.sheet.tree_of_record(record).ok_or(7)?;
         if tree.row().len() > 255 {
             return Err(1);
         }
@@ -169,7 +177,7 @@ impl Book {
     }
 
     fn has_meaning(&self, token: u8) -> bool {
-        is_operator(token) && token < self.sheet.n || token == OPENING || token == CLOSING || is_reading(token)
+        is_operator(token) && token < self.sheet.n() || token == OPENING || token == CLOSING || is_reading(token)
     }
 
     /// The place's slot: 8.

@@ -1,16 +1,17 @@
 //! A random call, and the same call made to the library.
 use crate::book::{Book, Call, Reply};
 use crate::inputs;
+use crate::loads;
 use crate::random::Random;
-use crate::tree::Side;
+use crate::tree::{Side, INFIX, PREFIX};
 use tihvomen::{Panel, Refusal};
 
 /// A call that makes sense to try on the panel that the book stands for. `last` is an earlier call's answer.
 pub fn any_call(random: &mut Random, book: &Book, last: &[u8]) -> Call {
     let mut call = match random.below(30) {
         0 | 1 => {
-            let (n, rules) = inputs::sheet(random, book.used());
-            Call::Load { n, rules }
+            let load = loads::any(random, &book.kinds_in_use());
+            Call::Load { n: load.n, bytes: load.bytes() }
         }
         2..=4 => Call::PutRow { place: place(random, book), row: row(random, book, last) },
         5..=7 => Call::PutRecord { place: place(random, book), record: record(random, book, last) },
@@ -24,7 +25,8 @@ pub fn any_call(random: &mut Random, book: &Book, last: &[u8]) -> Call {
         21 | 22 => Call::Judge { record: record(random, book, last) },
         23 | 24 => Call::ShortestRow { record: record(random, book, last), room: usize::MAX },
         25..=28 => {
-            let (meanings, readings) = (inputs::meanings(random), inputs::readings(random));
+            let meanings = inputs::meanings(random, &book.sheet.kinds);
+            let readings = inputs::readings(random);
             Call::Evaluate { place: place(random, book), meanings, readings }
         }
         _ => {
@@ -75,21 +77,24 @@ fn place(random: &mut Random, book: &Book) -> u8 {
     }
 }
 
-/// The operators that an input uses: the sheet's, now and then one more.
-fn operators(random: &mut Random, book: &Book) -> u8 {
-    if random.once_in(12) {
-        (book.sheet.n + 1).min(32)
-    } else {
-        book.sheet.n
+/// The kinds of the operators that an input uses: the sheet's; now and then one operator more, or one of another kind.
+fn kinds(random: &mut Random, book: &Book) -> Vec<u8> {
+    let mut kinds = book.sheet.kinds.clone();
+    let at = random.below(kinds.len());
+    match random.below(24) {
+        0 | 1 if kinds.len() < 32 => kinds.push(random.below(2) as u8),
+        2 if !kinds.is_empty() => kinds[at] ^= INFIX ^ PREFIX,
+        _ => (),
     }
+    kinds
 }
 
 fn row(random: &mut Random, book: &Book, last: &[u8]) -> Vec<u8> {
     if random.once_in(10) {
         return last.to_vec();
     }
-    let n = operators(random, book);
-    let row = inputs::any_tree(random, n).row();
+    let kinds = kinds(random, book);
+    let row = inputs::any_tree(random, &kinds).row();
     inputs::perhaps_damaged(random, row)
 }
 
@@ -97,15 +102,15 @@ fn record(random: &mut Random, book: &Book, last: &[u8]) -> Vec<u8> {
     if random.once_in(10) {
         return last.to_vec();
     }
-    let n = operators(random, book);
-    let record = inputs::any_tree(random, n).record();
+    let kinds = kinds(random, book);
+    let record = inputs::any_tree(random, &kinds).record();
     inputs::perhaps_damaged(random, record)
 }
 
 /// Makes the call to the library. The whole lent output is checked: the answer, then what stood there before.
 pub fn make(random: &mut Random, panel: &mut Panel, call: &Call) -> Reply {
     match call {
-        Call::Load { n, rules } => silent(panel.load(*n, rules)),
+        Call::Load { n, bytes } => silent(panel.load(*n, bytes)),
         Call::PutRow { place, row } => silent(panel.put_row(*place, row)),
         Call::PutRecord { place, record } => silent(panel.put_record(*place, record)),
         Call::Drop { place } => silent(panel.drop_place(*place)),

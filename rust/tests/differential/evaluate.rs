@@ -1,5 +1,5 @@
 //! The value of a tree, as the request words it: in wide numbers, node by node, held within the range at each.
-use crate::tree::{is_operator, is_reading, Tree};
+use crate::tree::{is_reading, Tree};
 use std::collections::BTreeSet;
 
 const LOWEST: i64 = -2_147_483_648;
@@ -7,15 +7,27 @@ const HIGHEST: i64 = 2_147_483_647;
 
 /// The value of the tree: 13, 14.
 pub fn evaluate(tree: &Tree, meanings: &[u8], readings: &[i32]) -> Result<i32, u8> {
-    let operators: BTreeSet<u8> = tree.record().into_iter().filter(|&byte| is_operator(byte)).collect();
     let atoms: BTreeSet<u8> = tree.record().into_iter().filter(|&byte| is_reading(byte)).collect();
-    if operators.iter().any(|&operator| !matches!(meanings.get(usize::from(operator)), Some(1..=9))) {
+    if !suits(tree, meanings) {
         return Err(13);
     }
     if atoms.iter().any(|&atom| readings.get(position(atom)).is_none()) {
         return Err(14);
     }
     Ok(value(tree, meanings, readings).try_into().expect("a value is within the range"))
+}
+
+/// Each operator of the tree has a meaning of its kind: 1 to 9 with two trees, 10 and 11 with one.
+fn suits(tree: &Tree, meanings: &[u8]) -> bool {
+    let meaning = |operator: &u8| meanings.get(usize::from(*operator));
+    match tree {
+        Tree::Reading(_) => true,
+        Tree::Bracket(inner) => suits(inner, meanings),
+        Tree::Prefix(operator, only) => matches!(meaning(operator), Some(10 | 11)) && suits(only, meanings),
+        Tree::Node(operator, left, right) => {
+            matches!(meaning(operator), Some(1..=9)) && suits(left, meanings) && suits(right, meanings)
+        }
+    }
 }
 
 /// Where the value of a reading stands in the lent list.
@@ -27,6 +39,14 @@ fn value(tree: &Tree, meanings: &[u8], readings: &[i32]) -> i64 {
     match tree {
         Tree::Reading(reading) => readings[position(*reading)].into(),
         Tree::Bracket(inner) => value(inner, meanings, readings),
+        Tree::Prefix(operator, only) => {
+            let a = value(only, meanings, readings);
+            match meanings[usize::from(*operator)] {
+                10 => i64::from(a == 0),
+                11 => (-a).clamp(LOWEST, HIGHEST),
+                meaning => unreachable!("{meaning} is no meaning of a prefix operator"),
+            }
+        }
         Tree::Node(operator, left, right) => {
             let (a, b) = (value(left, meanings, readings), value(right, meanings, readings));
             worked_out(meanings[usize::from(*operator)], a, b)
@@ -45,6 +65,6 @@ fn worked_out(meaning: u8, a: i64, b: i64) -> i64 {
         7 => (a - b).clamp(LOWEST, HIGHEST),
         8 => a.min(b),
         9 => a.max(b),
-        _ => unreachable!("{meaning} is no meaning"),
+        _ => unreachable!("{meaning} is no meaning of an infix operator"),
     }
 }

@@ -1,23 +1,37 @@
-//! Rows by document 01's grammar, and all trees of a row.
-use crate::tree::{is_operator, is_reading, Tree, CLOSING, OPENING};
+//! Rows by document 01's grammar with document 02's prefix operators, and all trees of a row.
+use crate::tree::{is_of_kind, is_reading, Tree, CLOSING, INFIX, OPENING, PREFIX};
 
-/// Operand, then any number of operator and operand: one operand more than operators.
+/// Rows of more pieces mostly have more trees than can be looked at.
+const MANY_PIECES: usize = 20;
+
+/// A row without what stands in brackets: operands with prefix operators before them, and infix operators between them.
 #[derive(Clone, Debug)]
 pub struct Expression {
-    pub operands: Vec<Operand>,
-    pub operators: Vec<u8>,
+    pub pieces: Vec<Piece>,
 }
 
 #[derive(Clone, Debug)]
-pub enum Operand {
+pub enum Piece {
     Reading(u8),
     Bracketed(Expression),
+    Prefix(u8),
+    Infix(u8),
+}
+
+impl Piece {
+    /// The operator, where the piece is one.
+    pub fn operator(&self) -> Option<u8> {
+        match self {
+            Piece::Prefix(operator) | Piece::Infix(operator) => Some(*operator),
+            _ => None,
+        }
+    }
 }
 
 impl Expression {
     /// The tokens as one expression, where they are one.
-    pub fn of_row(row: &[u8]) -> Option<Expression> {
-        match read_expression(row)? {
+    pub fn of_row(row: &[u8], kinds: &[u8]) -> Option<Expression> {
+        match read_expression(row, kinds)? {
             (expression, []) => Some(expression),
             _ => None,
         }
@@ -25,79 +39,89 @@ impl Expression {
 
     /// All trees of the row, conflict-free or not.
     pub fn all_trees(&self) -> Vec<Tree> {
-        self.trees_between(0, self.operators.len())
+        trees(&self.pieces)
     }
 
-    /// All trees of the operands from `first` up to `last`, both counted.
-    fn trees_between(&self, first: usize, last: usize) -> Vec<Tree> {
-        if first == last {
-            return self.operands[first].all_trees();
+    /// How many trees the row has, or a number over the limit where there are more; a row of many pieces is not counted.
+    pub fn tree_count(&self, limit: usize) -> usize {
+        let pieces = &self.pieces;
+        if pieces.len() > MANY_PIECES {
+            return limit + 1;
         }
-        let mut trees = Vec::new();
-        for top in first..last {
-            for left in self.trees_between(first, top) {
-                for right in self.trees_between(top + 1, last) {
-                    trees.push(Tree::Node(self.operators[top], Box::new(left.clone()), Box::new(right)));
+        // counts[first][past]: of the pieces from the first up to one past the last.
+        let mut counts = vec![vec![0; pieces.len() + 1]; pieces.len() + 1];
+        for first in (0..pieces.len()).rev() {
+            for past in first + 1..=pieces.len() {
+                let mut count = match &pieces[first] {
+                    Piece::Reading(_) => usize::from(past == first + 1),
+                    Piece::Bracketed(inner) if past == first + 1 => inner.tree_count(limit),
+                    Piece::Prefix(_) => counts[first + 1][past],
+                    _ => 0,
+                };
+                for top in first + 1..past {
+                    if let Piece::Infix(_) = pieces[top] {
+                        count = (count + counts[first][top] * counts[top + 1][past]).min(limit + 1);
+                    }
+                }
+                counts[first][past] = count;
+            }
+        }
+        counts[0][pieces.len()]
+    }
+}
+
+/// All trees of some pieces: a piece alone; a prefix operator over all the rest; an infix operator over what stands on both sides.
+fn trees(pieces: &[Piece]) -> Vec<Tree> {
+    let mut found = match pieces {
+        [Piece::Reading(reading)] => vec![Tree::Reading(*reading)],
+        [Piece::Bracketed(inner)] => inner.all_trees().into_iter().map(|tree| Tree::Bracket(Box::new(tree))).collect(),
+        [Piece::Prefix(operator), rest @ ..] => {
+            trees(rest).into_iter().map(|tree| Tree::Prefix(*operator, Box::new(tree))).collect()
+        }
+        _ => Vec::new(),
+    };
+    for (top, piece) in pieces.iter().enumerate() {
+        if let Piece::Infix(operator) = piece {
+            for left in trees(&pieces[..top]) {
+                for right in trees(&pieces[top + 1..]) {
+                    found.push(Tree::Node(*operator, Box::new(left.clone()), Box::new(right)));
                 }
             }
         }
-        trees
     }
-
-    /// How many trees the row has, or a number over the limit where there are more.
-    pub fn tree_count(&self, limit: usize) -> usize {
-        // Catalan's numbers: the trees over so many operators.
-        let shapes = [1, 1, 2, 5, 14, 42, 132, 429];
-        let Some(&own) = shapes.get(self.operators.len()) else {
-            return limit + 1;
-        };
-        let inner = self.operands.iter().map(|operand| match operand {
-            Operand::Reading(_) => 1,
-            Operand::Bracketed(inner) => inner.tree_count(limit),
-        });
-        inner.fold(own, |product, count| (product * count).min(limit + 1))
-    }
+    found
 }
 
-impl Operand {
-    fn all_trees(&self) -> Vec<Tree> {
-        match self {
-            Operand::Reading(reading) => vec![Tree::Reading(*reading)],
-            Operand::Bracketed(inner) => {
-                let trees = inner.all_trees().into_iter();
-                trees.map(|tree| Tree::Bracket(Box::new(tree))).collect()
-            }
-        }
-    }
-}
-
-/// An expression from the front of the tokens, as long as can be, and what is left.
-fn read_expression(tokens: &[u8]) -> Option<(Expression, &[u8])> {
-    let (operand, mut rest) = read_operand(tokens)?;
-    let mut expression = Expression { operands: vec![operand], operators: Vec::new() };
+/// Operand, then any number of infix operator and operand, from the front of the tokens, as long as can be; and what is left.
+fn read_expression<'a>(tokens: &'a [u8], kinds: &[u8]) -> Option<(Expression, &'a [u8])> {
+    let (mut pieces, mut rest) = read_operand(tokens, kinds)?;
     while let Some((&operator, after)) = rest.split_first() {
-        if !is_operator(operator) {
+        if !is_of_kind(kinds, operator, INFIX) {
             break;
         }
-        let (operand, after) = read_operand(after)?;
-        expression.operators.push(operator);
-        expression.operands.push(operand);
+        let (operand, after) = read_operand(after, kinds)?;
+        pieces.push(Piece::Infix(operator));
+        pieces.extend(operand);
         rest = after;
     }
-    Some((expression, rest))
+    Some((Expression { pieces }, rest))
 }
 
-/// A reading, or 20, expression, 21.
-fn read_operand(tokens: &[u8]) -> Option<(Operand, &[u8])> {
+/// A reading; or 20, expression, 21; or a prefix operator and an operand.
+fn read_operand<'a>(tokens: &'a [u8], kinds: &[u8]) -> Option<(Vec<Piece>, &'a [u8])> {
     let (&first, rest) = tokens.split_first()?;
     if is_reading(first) {
-        return Some((Operand::Reading(first), rest));
+        return Some((vec![Piece::Reading(first)], rest));
+    }
+    if is_of_kind(kinds, first, PREFIX) {
+        let (operand, rest) = read_operand(rest, kinds)?;
+        return Some(([vec![Piece::Prefix(first)], operand].concat(), rest));
     }
     if first != OPENING {
         return None;
     }
-    match read_expression(rest)? {
-        (inner, [CLOSING, rest @ ..]) => Some((Operand::Bracketed(inner), rest)),
+    match read_expression(rest, kinds)? {
+        (inner, [CLOSING, rest @ ..]) => Some((vec![Piece::Bracketed(inner)], rest)),
         _ => None,
     }
 }

@@ -1,19 +1,25 @@
 //! The library against an independent implementation: the same calls to both, every number and every byte compared.
 //!
-//! The independent side is written from document 01 in the plainest way. It knows nothing of the library's algorithms.
+//! The independent side is written from documents 01 and 02 in the plainest way. It knows nothing of the library's algorithms.
 #![cfg(feature = "alloc")]
 
 mod book;
+mod both;
 mod calls;
 mod chains;
 mod evaluate;
 mod expression;
 mod forms;
+mod frames;
 mod inputs;
 mod lines;
+mod loads;
 mod random;
 mod runs;
 mod sheet;
+mod shortest;
+mod small;
+mod stored;
 mod theory;
 mod tree;
 

@@ -1,6 +1,7 @@
 //! Whole runs from a fresh panel, held against the book at every call.
 use crate::book::{Book, Call, Reply};
 use crate::calls;
+use crate::loads;
 use crate::random::Random;
 use tihvomen::Panel;
 
@@ -58,7 +59,7 @@ pub fn run(seed: u64, calls: usize, tally: &mut Tally) {
             // Without operators there is little to see: the first call is a sheet that is accepted.
             0 => {
                 let n = random.below(33).min(1 + random.below(33)) as u8;
-                Call::Load { n, rules: crate::inputs::good_rules(&mut random, n) }
+                Call::Load { n, bytes: loads::good(&mut random, n).bytes() }
             }
             _ => calls::any_call(&mut random, &book, &last),
         };
@@ -92,7 +93,7 @@ fn check_panel(book: &Book, before: &Panel, panel: &Panel, call: &Call, number: 
     if number != 0 {
         return;
     }
-    assert_eq!(panel.operators(), book.sheet.n);
+    assert_eq!(panel.operators(), book.sheet.n());
     let written = match call {
         Call::Load { .. } => None,
         Call::PutRow { place, .. } | Call::PutRecord { place, .. } | Call::Drop { place } => Some(*place),

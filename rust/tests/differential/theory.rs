@@ -1,12 +1,18 @@
 //! What the independent side takes from theory, held against longer rows and against all trees of a row.
-use crate::expression::{Expression, Operand};
-use crate::inputs;
+use crate::expression::{Expression, Piece};
+use crate::inputs::{self, Make};
+use crate::loads;
 use crate::random::Random;
 use crate::sheet::{Sheet, ENOUGH_OPERATORS};
 use crate::tree::Side;
 
-/// The sheet of n operators that excludes the patterns whose bits are set: first L, then R, pair by pair.
-fn sheet_of_bits(n: u8, bits: u64) -> Sheet {
+/// The kinds of n operators: a prefix one where the bit is set.
+pub fn kinds_of_bits(n: u8, bits: usize) -> Vec<u8> {
+    (0..n).map(|operator| (bits >> operator & 1) as u8).collect()
+}
+
+/// Rules of n operators that exclude the patterns whose bits are set: first L, then R, pair by pair.
+fn rules_of_bits(n: u8, bits: u64) -> Vec<u8> {
     let mut rules = Vec::new();
     for a in 0..n {
         for b in 0..n {
@@ -19,33 +25,44 @@ fn sheet_of_bits(n: u8, bits: u64) -> Sheet {
             }
         }
     }
-    Sheet::of_rules(n, &rules)
+    rules
 }
 
-/// Every sheet over one and two operators, and many over three: rows with more operators change no verdict.
+fn sheet_of_bits(kinds: &[u8], bits: u64) -> Sheet {
+    Sheet::of_rules(kinds, &rules_of_bits(kinds.len() as u8, bits))
+}
+
+/// Every sheet over one and two operators, and many over three, of every kind: rows with more operators, and with prefix
+/// operators anywhere, change no verdict.
 #[test]
 fn three_operators_decide() {
-    for bits in 0..4 {
-        let sheet = sheet_of_bits(1, bits);
-        assert_eq!(sheet.verdict(), sheet.verdict_upto(7));
+    for prefixes in 0..2 {
+        for bits in 0..4 {
+            let sheet = sheet_of_bits(&kinds_of_bits(1, prefixes), bits);
+            assert_eq!(sheet.verdict(), sheet.verdict_upto(7));
+        }
     }
-    for bits in 0..256 {
-        let sheet = sheet_of_bits(2, bits);
-        assert_eq!(sheet.verdict(), sheet.verdict_upto(6));
+    for prefixes in 0..4 {
+        for bits in 0..256 {
+            let sheet = sheet_of_bits(&kinds_of_bits(2, prefixes), bits);
+            assert_eq!(sheet.verdict(), sheet.verdict_upto(6));
+        }
     }
     let mut random = Random::new(1);
-    let mut seen = [0; 6];
-    for _ in 0..3000 {
-        // Each pair is excluded one way, or now and then both ways or none: sheets near the accepted ones.
-        let bits =
-            (0..9).fold(0, |bits, pair| bits | [1, 2, 1, 2, 1, 2, 1, 2, 1, 2, 0, 3][random.below(12)] << (2 * pair));
-        let sheet = sheet_of_bits(3, turned(bits));
-        seen[usize::from(sheet.verdict())] += 1;
-        assert_eq!(sheet.verdict(), sheet.verdict_upto(5));
+    for prefixes in 0..7 {
+        let mut seen = [0; 6];
+        for _ in 0..if prefixes == 0 { 3000 } else { 500 } {
+            // Each pair is excluded one way, or now and then both ways or none: sheets near the accepted ones.
+            let one_way = [1, 2, 1, 2, 1, 2, 1, 2, 1, 2, 0, 3];
+            let bits = (0..9).fold(0, |bits, pair| bits | one_way[random.below(12)] << (2 * pair));
+            let sheet = sheet_of_bits(&kinds_of_bits(3, prefixes), turned(bits));
+            seen[usize::from(sheet.verdict())] += 1;
+            assert_eq!(sheet.verdict(), sheet.verdict_upto(5));
+        }
+        assert!(seen[0] > 0 && seen[4] > 0 && seen[5] > 0, "{seen:?}");
     }
-    assert!(seen[0] > 0 && seen[4] > 0 && seen[5] > 0, "{seen:?}");
     let fewer = |sheet: &Sheet| sheet.verdict() != sheet.verdict_upto(ENOUGH_OPERATORS - 1);
-    assert!((0..256).any(|bits| fewer(&sheet_of_bits(2, bits))), "two operators are not enough");
+    assert!((0..256).any(|bits| fewer(&sheet_of_bits(&[0, 0], bits))), "two operators are not enough");
 }
 
 /// The bits of L(b,a) and R(a,b) stand side by side in the argument; the answer has L(a,b) and R(a,b) side by side.
@@ -60,34 +77,53 @@ fn turned(bits: u64) -> u64 {
     answer
 }
 
-/// How many conflict-free trees a row has, of any length, counted up to 2: for each stretch of operands and each operator
-/// at its top, the trees of its left part times the trees of its right part.
+/// How many trees have each infix operator at the top; at 32, how many have none there.
+type Tops = [usize; 33];
+
+/// How many conflict-free trees a row has, of any length, counted up to 2: for each stretch of pieces and each infix operator at its
+/// top, the trees of its left part times the trees of its right part. A stretch is counted twice: by itself, and where the infix
+/// operator after it looks along its right edge for prefix operators.
 fn conflict_free_trees(sheet: &Sheet, expression: &Expression) -> usize {
-    let count = expression.operands.len();
-    // counts[first][last][top]: trees of that stretch with the operator `top` at the top; at 32, with none.
-    let mut counts = vec![vec![[0usize; 33]; count]; count];
-    for (at, operand) in expression.operands.iter().enumerate() {
-        counts[at][at][32] = match operand {
-            Operand::Reading(_) => 1,
-            Operand::Bracketed(inner) => conflict_free_trees(sheet, inner),
+    let pieces = &expression.pieces;
+    let mut counts = vec![vec![[[0; 33]; 2]; pieces.len() + 1]; pieces.len()];
+    let allowed = |side, top: u8, tops: &Tops| {
+        let keeps = |below: &usize| *below == 32 || !sheet.excluded(side, top, *below as u8);
+        (0..33).filter(|below| tops[*below] > 0 && keeps(below)).map(|below| tops[below]).sum::<usize>()
+    };
+    for first in (0..pieces.len()).rev() {
+        let alone = match &pieces[first] {
+            Piece::Reading(_) => 1,
+            Piece::Bracketed(inner) => conflict_free_trees(sheet, inner),
+            _ => 0,
         };
-    }
-    for width in 1..count {
-        for first in 0..count - width {
-            let last = first + width;
-            for at in first..last {
-                let top = expression.operators[at];
-                let sum = |side, part: &[usize; 33]| {
-                    let allowed = |below: usize| below == 32 || !sheet.excluded(side, top, below as u8);
-                    (0..33).filter(|&below| part[below] > 0 && allowed(below)).map(|below| part[below]).sum::<usize>()
+        for past in first + 1..=pieces.len() {
+            if matches!(pieces[first], Piece::Infix(_)) || pieces[past - 1].operator().is_some() {
+                continue;
+            }
+            let after = pieces.get(past).and_then(Piece::operator);
+            for (looked_at, looks) in [None, after].into_iter().enumerate() {
+                let mut tops: Tops = [0; 33];
+                tops[32] = match &pieces[first] {
+                    Piece::Prefix(operator) if looks.is_some_and(|top| sheet.excluded(Side::Left, top, *operator)) => 0,
+                    Piece::Prefix(operator) => {
+                        allowed(Side::Right, *operator, &counts[first + 1][past][looked_at]).min(2)
+                    }
+                    _ if past == first + 1 => alone,
+                    _ => 0,
                 };
-                let trees = sum(Side::Left, &counts[first][at]) * sum(Side::Right, &counts[at + 1][last]);
-                let cell = &mut counts[first][last][usize::from(top)];
-                *cell = (*cell + trees).min(2);
+                for at in first + 1..past {
+                    if let Piece::Infix(top) = pieces[at] {
+                        let left = allowed(Side::Left, top, &counts[first][at][1]);
+                        let right = allowed(Side::Right, top, &counts[at + 1][past][looked_at]);
+                        let cell = &mut tops[usize::from(top)];
+                        *cell = (*cell + left * right).min(2);
+                    }
+                }
+                counts[first][past][looked_at] = tops;
             }
         }
     }
-    counts[0][count - 1].iter().sum::<usize>().min(2)
+    counts[0][pieces.len()][0].iter().sum::<usize>().min(2)
 }
 
 /// Under sheets that the verdict accepts, rows up to full length have exactly one conflict-free tree.
@@ -96,11 +132,12 @@ fn accepted_sheets_give_long_rows_one_tree() {
     let mut random = Random::new(2);
     for _ in 0..150 {
         let n = 1 + random.below(32) as u8;
-        let sheet = Sheet::of_rules(n, &inputs::good_rules(&mut random, n));
+        let load = loads::good(&mut random, n);
+        let sheet = Sheet::of_rules(&load.kinds, &load.rules);
         assert_eq!(sheet.verdict(), 0);
         let tokens = [255, 101, 63, 31][random.below(4)];
-        let row = inputs::tree(&mut random, n, tokens, 2, 5).row();
-        let expression = Expression::of_row(&row).unwrap();
+        let row = inputs::tree(&mut random, &Make::of(&load.kinds, 2, 5, 25), tokens).row();
+        let expression = Expression::of_row(&row, &load.kinds).unwrap();
         assert_eq!(conflict_free_trees(&sheet, &expression), 1, "{row:02x?}");
     }
 }
@@ -111,11 +148,14 @@ fn counts_agree_with_all_trees() {
     let mut random = Random::new(3);
     for _ in 0..3000 {
         let n = 1 + random.below(3) as u8;
-        let sheet = sheet_of_bits(n, random.below(1 << 18) as u64);
+        let kinds = kinds_of_bits(n, random.below(8));
+        let sheet = sheet_of_bits(&kinds, random.below(1 << 18) as u64);
         let tokens = 1 + 2 * random.below(7);
-        let row = inputs::tree(&mut random, n, tokens, 2, 15).row();
-        let expression = Expression::of_row(&row).unwrap();
-        let free = expression.all_trees().iter().filter(|tree| sheet.conflicts(tree) == 0).count();
+        let row = inputs::tree(&mut random, &Make::of(&kinds, 2, 15, 25), tokens).row();
+        let expression = Expression::of_row(&row, &kinds).unwrap();
+        let trees = expression.all_trees();
+        assert_eq!(expression.tree_count(usize::MAX - 1), trees.len(), "{row:02x?}");
+        let free = trees.iter().filter(|tree| sheet.conflicts(tree) == 0).count();
         assert_eq!(conflict_free_trees(&sheet, &expression), free.min(2), "{row:02x?}");
     }
 }

@@ -1,0 +1,69 @@
+//! Every sheet of three operators with prefix ones among them, by rules of sides: the number of its load, and under an accepted one
+//! the trees of all short rows.
+use crate::both;
+use crate::theory::kinds_of_bits;
+use crate::tree::{INFIX, PREFIX};
+
+const OPERATORS: u8 = 3;
+
+/// Rows with up to so many operators are built.
+const FEW_OPERATORS: u32 = 4;
+
+/// The row of these operators: a reading before each infix one, and at the end.
+fn row(kinds: &[u8], operators: &[u8]) -> Vec<u8> {
+    let token = |&operator: &u8| match kinds[usize::from(operator)] {
+        PREFIX => vec![operator],
+        _ => vec![0x80, operator],
+    };
+    [operators.iter().flat_map(token).collect(), vec![0x81]].concat()
+}
+
+/// All lists of so many operators.
+fn lists(count: u32) -> impl Iterator<Item = Vec<u8>> {
+    let digit = |code: usize, at: u32| (code / 3usize.pow(at) % 3) as u8;
+    (0..3usize.pow(count)).map(move |code| (0..count).map(|at| digit(code, at)).collect())
+}
+
+/// Each pair of an operator and an infix one on its right is decided in one of four ways: the first closes before the second, yields to
+/// it, neither, both.
+fn numbers(kinds: &[u8]) -> [usize; 6] {
+    let infix = (0..OPERATORS).filter(|&operator| kinds[usize::from(operator)] == INFIX);
+    let pairs: Vec<[u8; 2]> = infix.flat_map(|b| (0..OPERATORS).map(move |a| [a, b])).collect();
+    let mut seen = [0; 6];
+    for code in 0..1usize << (2 * pairs.len()) {
+        let mut rules = Vec::new();
+        for (at, [a, b]) in pairs.iter().enumerate() {
+            if code >> (2 * at) & 1 == 1 {
+                rules.extend([2, *a, *b]);
+            }
+            if code >> (2 * at + 1) & 1 == 1 {
+                rules.extend([3, *b, *a]);
+            }
+        }
+        let (number, sheet, panel) = both::load(kinds, &rules);
+        seen[usize::from(number)] += 1;
+        if number == 0 {
+            for operators in (0..=FEW_OPERATORS).flat_map(lists) {
+                let row = row(kinds, &operators);
+                let record = sheet.tree_of(&row).record();
+                assert_eq!(panel.build(&row), Ok(record), "{row:02x?} under {kinds:02x?} {rules:02x?}");
+            }
+        }
+    }
+    seen
+}
+
+/// With two infix operators some sheets are refused for what a prefix one does to the two; with one, each prefix one is decided alone.
+#[test]
+fn every_sheet_of_three_operators_with_a_prefix_one() {
+    for prefixes in 1..1 << OPERATORS {
+        let kinds = kinds_of_bits(OPERATORS, prefixes);
+        let seen = numbers(&kinds);
+        match kinds.iter().filter(|&&kind| kind == INFIX).count() {
+            0 => assert_eq!(seen, [1, 0, 0, 0, 0, 0]),
+            // Each of three pairs in one of two ways; or one of them both ways; or none both ways and one not at all.
+            1 => assert_eq!(seen, [8, 0, 0, 0, 64 - 27, 27 - 8]),
+            _ => assert!(seen[0] > 0 && seen[4] == 4096 - 729 && seen[5] == 729 - seen[0], "{seen:?}"),
+        }
+    }
+}
