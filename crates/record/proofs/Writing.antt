@@ -136,16 +136,17 @@ module _ (ops : Operators) (bytes : List ℕ) (from : ℕ) {x : Node} (found : x
         let e : u .2 ≡ from + 2 = v .1 ∙ omega arith in
         (u .1, u .3 ∙ ap (λ l. binary o l (u .1)) (v .0), rw e at (u .5))
 
-    pub leaf-full : mostTokens ≤ at + 1 → Writes ops bytes from before at before noTree
+    pub leaf-full : mostTokens - 1 ≤ at → Writes ops bytes from before at before noTree
     leaf-full over =
         none-here before before λ t to k room.
         let u = leaf-tokens t k in
         omega (arith, ap (λ v. length (yield v)) (u .1))
 
-    pub a-leaf-infix : {r : ℕ} (laid last : List ℕ) → laid ≡ set (set before at a) (at + 1) o → Writes ops bytes (from + 2) laid (at + 1 + 1) last r
+    pub a-leaf-infix : {r : ℕ} (laid last : List ℕ) → laid ≡ set (set before at a) (at + 1) o → Writes ops bytes (from + 2) laid (at + 2) last r
         → Writes ops bytes from before at last r
     a-leaf-infix laid last set-is g =
         let two : from + 1 + 1 ≡ from + 2 = omega arith in
+        let later : at + 2 ≡ suc (suc at) = omega arith in
         record {
           wrote = λ t to k room.
               let u = leaf-tokens t k in
@@ -153,8 +154,8 @@ module _ (ops : Operators) (bytes : List ℕ) (from : ℕ) {x : Node} (found : x
               let b = g .wrote (u .0) to (u .2) (omega arith) in (
                 b .0,
                 b .1 ∙ omega arith,
-                b .2 ∙ ap (λ d. sets d (at + 1 + 1) (yield (u .0))) set-is ∙ ap (λ j. sets (set (set before at a) j o) (j + 1) (yield (u .0))) (add-one at)
-                    ∙ ap (λ j. sets (set (set before at a) (suc at) o) j (yield (u .0))) (add-one (suc at)) ∙ ap (λ v. sets before at (yield v)) (sym (u .1)),
+                b .2 ∙ ap (λ d. sets d (at + 2) (yield (u .0))) set-is ∙ ap (λ j. sets (set (set before at a) j o) (at + 2) (yield (u .0))) (add-one at)
+                    ∙ ap (λ j. sets (set (set before at a) (suc at) o) j (yield (u .0))) later ∙ ap (λ v. sets before at (yield v)) (sym (u .1)),
               );
           found = λ e.
               let (v, z, room) = g .found e in

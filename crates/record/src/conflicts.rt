@@ -44,13 +44,13 @@ fn on_top(sheet: &[u32; SHEET_WORDS], above: u8, seer: u8, o: u8) -> usize
     ensures { λ r. ⌜ r ≡ oneIf (showsTop (now (sheet .entry)) above seer o) ⌝ }
     ensures { λ r. ⌜ r ≤ 1 ⌝ }
 {
-    if MOST_OPERATORS <= above {
-        return on_edge(sheet, seer, o);
+    if above < MOST_OPERATORS {
+        if sheet::closes_before(sheet, above, o) {
+            return 1;
+        }
+        return 0;
     }
-    if sheet::closes_before(sheet, above, o) {
-        return 1;
-    }
-    0
+    on_edge(sheet, seer, o)
 }
 
 // The place after the tree times the base, and the count so far with the tree's: at most one for each byte. Each node counts what it
@@ -87,8 +87,8 @@ pub fn count_at(
     let Node::Operator(o) = node else {
         return NO_TREE;
     };
-    let shown = on_top(sheet, above, seer, o);
     let top = node_in(sheet, held, size, at + 1);
+    let shown = on_top(sheet, above, seer, o);
     if let Node::Reading(_) = top {
         return count_at(sheet, held, size, at + 2, o, seer, count + shown);
     }

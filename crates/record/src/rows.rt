@@ -30,15 +30,18 @@ pub fn write_row(
     if size <= at {
         return NO_TREE;
     }
-    if MOST_TOKENS <= to {
-        return NO_TREE;
-    }
     let node = node_in(sheet, held, size, at);
     if let Node::Reading(a) = node {
+        if MOST_TOKENS <= to {
+            return NO_TREE;
+        }
         out[to] = a;
         return (at + 1) * BASE + (to + 1);
     }
     if let Node::Bracket = node {
+        if MOST_TOKENS <= to {
+            return NO_TREE;
+        }
         out[to] = token::OPENING;
         let inner = write_row(sheet, held, size, at + 1, out, to + 1);
         if inner == NO_TREE {
@@ -52,6 +55,9 @@ pub fn write_row(
         return inner + 1;
     }
     if let Node::Prefix(p) = node {
+        if MOST_TOKENS <= to {
+            return NO_TREE;
+        }
         out[to] = p;
         return write_row(sheet, held, size, at + 1, out, to + 1);
     }
@@ -60,13 +66,11 @@ pub fn write_row(
     };
     let top = node_in(sheet, held, size, at + 1);
     if let Node::Reading(a) = top {
-        let past = at + 2;
-        let next = to + 1;
-        if MOST_TOKENS <= next {
+        if MOST_TOKENS - 1 <= to {
             return NO_TREE;
         }
-        set_two(out, to, next, a, o);
-        return write_row(sheet, held, size, past, out, next + 1);
+        set_two(out, to, to + 1, a, o);
+        return write_row(sheet, held, size, at + 2, out, to + 2);
     }
     let left = write_row(sheet, held, size - 1, at + 1, out, to);
     if left == NO_TREE {

@@ -9,6 +9,6 @@ on-top-spec =
     (tie.spec
     (λ c κs. search on-top-ways)
     (λ c. search on-top-ways)
-    (λ c κs. search on-top-ways)
     (λ c. search on-top-ways)
+    (λ c κs. search on-top-ways)
     (λ c. search on-top-ways))
