@@ -1,5 +1,4 @@
 // The panel's calls: the sheet in force and the sixteen places are lent. After a refusal the panel and a lent output are as they were.
-ghost use mathlib.Core.Bool.{Bool};
 ghost use Rattle.monitor.specs.Call.{load, putRow, putRecord, fetchRecord, fetchRow, image, build, repair, yield, shortestRow};
 ghost use Rattle.monitor.specs.Panel.{panel};
 ghost use Rattle.monitor.specs.Contracts.{Changes, Drops, AnswersInto, AnswersUnder, AnswersFrom, Judges, NumbersOperand, FindsOperand, PlacesOperand};

@@ -11,6 +11,7 @@ pub mod BuildLaws
 pub mod InForceBuilds
 pub mod FromTheLeft
 pub mod TokenWays
+pub mod RowTokens
 pub mod ReaderWays
 pub mod RowWays
 pub mod AnswerWays

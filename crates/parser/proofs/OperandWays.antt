@@ -1,11 +1,13 @@
 -- What `take_operand` gives, and what that is to the machine. Assumes nothing.
 use mathlib.Core.Path.{_≡_, refl, sym, ap, subst, _∙_}
-use mathlib.Core.Bool.{Bool, true, cond}
+use mathlib.Core.Bool.{Bool, true, false, not, cond, true≢false, Bool·not-not}
 use mathlib.Core.List.{List, [], _∷_, _++_}
 use Prim.Native.Nat.{ℕ, suc, _+_, _<_, _≤_}
 use native.Mathlib.Omega.{arith}
+use native.Mathlib.Decide.{decLt}
 use lib.ListN.{length, take}
 use lib.Seq.{length-take-le, take-take, take-at}
+use borrow.Author.Tests.{lt-ltb, le-ltb}
 use borrow.Author.Needs.{needs}
 use Rattle.expression.specs.Limits.{mostOperators}
 use Rattle.expression.specs.Token.{Class, Infix, Prefix, Opening, Closing, Reading, Meaningless, opening, closing, Operators, class}
@@ -15,7 +17,7 @@ use Rattle.disambiguation.specs.LeftToRight.{ahead, Stack, opened, waiting, Sta
 use Rattle.sheet.specs.Layout.{operatorsOf, prefixIn}
 use Rattle.sheet.proofs.Laws.{class-in}
 use Rattle.parser.specs.Notes.{note, notesOf, notesBelow, notesAt}
-use Rattle.parser.specs.Reading.{next, Goes, Waits, Noted, Takes, Adds, StartsOperand}
+use Rattle.parser.specs.Reading.{infixIn, next, Goes, Waits, Noted, Takes, Adds, StartsOperand}
 use Rattle.parser.specs.declared.build.Front.{Front}
 use Rattle.parser.proofs.Shares.{share-byte}
 use Rattle.parser.proofs.Closing.{length-notesAt}
@@ -114,18 +116,43 @@ module _ (ops : Operators) (closes : ℕ → ℕ → Bool) (c : ℕ) {words word
       operand-goes (have s t) n h = absurd (where-read (class ops c) refl no-infix not-closing s t h)
       operand-goes stuck n h = absurd h
 
-  -- a token from 20 on that is no closing bracket
-  pub operand-taken : mostOperators ≤ c → (c ≡ closing → ⊥) → Takes ops closes c words f words′ g
-  operand-taken h not-closing = taken-as-operand (λ e. omega (arith, infix-byte ops c e .0)) not-closing
+-- ---- is_infix
+module _ (sheet : List ℕ) (c : ℕ) where
+  pub no-operator : mostOperators ≤ c → false ≡ infixIn sheet c
+  unfolding infixIn
+  no-operator h = simp (le-ltb c mostOperators h)
 
--- a prefix operator
-module _ (sheet : List ℕ) (closes : ℕ → ℕ → Bool) (c : ℕ) {words words′ : List ℕ} {f g : Front} {p : Bool} where
-  pub prefix-taken : f .count < length words → StartsOperand c words f words′ g → c < mostOperators → p ≡ prefixIn sheet c → p ≡ true
-      → Takes (operatorsOf sheet) closes c words f words′ g
-  prefix-taken room starts low kind z =
-      taken-as-operand (operatorsOf sheet) closes c room starts
-      (λ e. let prefix-too = sym e ∙ class-in sheet c low (infix-byte (operatorsOf sheet) c e .1) ∙ ap (λ q. cond q Prefix Infix) (sym kind ∙ z) in let clash : _≡_ {A = ℕ} 0 1 = cc in omega arith)
-      (λ e. omega arith)
+  pub by-kind : {p : Bool} → c < mostOperators → p ≡ prefixIn sheet c → not p ≡ infixIn sheet c
+  unfolding infixIn
+  by-kind h kind = ap not kind ∙ simp (lt-ltb c mostOperators h)
+
+  module _ {p : Bool} (told : p ≡ infixIn sheet c) where
+    pub told-operator : p ≡ true → c < mostOperators
+    told-operator z = go (decLt c mostOperators)
+      where
+        go : Dec (c < mostOperators) → c < mostOperators
+        go (yes h) = h
+        go (no h) = absurd (true≢false (sym z ∙ told ∙ sym (no-operator (omega arith))))
+
+    pub told-infix : p ≡ true → prefixIn sheet c ≡ false
+    told-infix z = sym (Bool·not-not (prefixIn sheet c)) ∙ ap not (by-kind (told-operator z) refl ∙ sym told ∙ z)
+
+pub ruleset infix-ways = (no-operator, by-kind, needs)
+
+-- what is no infix operator of the sheet and no closing bracket
+module _ (sheet : List ℕ) (closes : ℕ → ℕ → Bool) (c : ℕ) where
+  infix-in : class (operatorsOf sheet) c ≡ Infix → infixIn sheet c ≡ true
+  infix-in e =
+      let (low, below) = infix-byte (operatorsOf sheet) c e in
+      sym (by-kind sheet c low refl) ∙ ap not (go (prefixIn sheet c) (sym (class-in sheet c low below) ∙ e))
+    where
+      go : (p : Bool) → cond p Prefix Infix ≡ Infix → p ≡ false
+      go true f = let clash : _≡_ {A = ℕ} 0 1 = cc in absurd (omega arith)
+      go false f = refl
+
+  pub operand-taken : {words words′ : List ℕ} {f g : Front} {p : Bool} → f .count < length words → StartsOperand c words f words′ g → p ≡ infixIn sheet c → p ≡ false
+      → (c ≡ closing → ⊥) → Takes (operatorsOf sheet) closes c words f words′ g
+  operand-taken room starts kind z = taken-as-operand (operatorsOf sheet) closes c room starts (λ e. true≢false (sym (kind ∙ infix-in e) ∙ z))
 
 pub operand-same : (c : ℕ) (words : List ℕ) (f : Front) {words′ : List ℕ} {g : Front} → StartsOperand c words f words′ g → length words′ ≡ length words
 operand-same c words f s = s .adds .same-length

@@ -22,7 +22,7 @@ use Rattle.parser.specs.declared.build.Front.{Front}
 use Rattle.parser.proofs.NoteLaws.{length-notesOf, first-note}
 use Rattle.parser.proofs.Shares.{share-none, share-byte}
 use Rattle.parser.proofs.Closing.{close-over, length-opened, length-notesAt, close-notes, shut-notes, waits-length}
-use Rattle.parser.proofs.OperandWays.{count-is, waits-before, prefix-taken, operand-taken, operand-same}
+use Rattle.parser.proofs.OperandWays.{count-is, waits-before, told-operator, told-infix, operand-taken, operand-same}
 
 pub noted-size : (ops : Operators) (closes : ℕ → ℕ → Bool) (c : ℕ) (words : List ℕ) (f : Front) → Takeable ops closes c words f → length words ≤ mostTokens
 noted-size ops closes c words f k = k .stands .size
@@ -213,7 +213,4 @@ module _ (ops : Operators) (closes : ℕ → ℕ → Bool) (c : ℕ) (words : Li
   pub closing-token : {words′ : List ℕ} {g : Front} → c ≡ closing → Takes ops closes closing words f words′ g → Takes ops closes c words f words′ g
   closing-token e t = rw e t
 
-pub told-infix : (sheet : List ℕ) (c : ℕ) {p : Bool} → p ≡ prefixIn sheet c → p ≡ false → prefixIn sheet c ≡ false
-told-infix sheet c kind z = sym kind ∙ z
-
-pub ruleset token-ways = (told-infix, closing-takeable, closing-token, prefix-taken, operand-taken, operand-same, needs)
+pub ruleset token-ways = (told-operator, told-infix, closing-takeable, closing-token, operand-taken, operand-same, needs)

@@ -19,7 +19,7 @@ use Rattle.expression.proofs.Classes.{by-count}
 use Rattle.expression.proofs.Tests.{any-same}
 use Rattle.expression.proofs.Looking.{Looked, looked-none, looked-more, looked-all}
 use Rattle.parser.specs.Rows.{tokenAt, ReadsExpression, strangerInRow}
-use Rattle.parser.proofs.ReaderWays.{there, row-ends}
+use Rattle.parser.proofs.RowTokens.{there, row-ends}
 
 -- ---- is_strange
 module _ (n c : ℕ) where
@@ -68,6 +68,9 @@ module _ (ops : Operators) (row : List ℕ) where
     unfolding rowNumber strangerInRow
     is-stranger e = simp (le-ltb mostTokens (length row) short, sym s ∙ e)
 
+    pub no-stranger : b ≡ false → strangerInRow ops row ≡ false
+    no-stranger e = sym s ∙ e
+
     by-test : b ≡ false → (t : Bool) → isRow (class ops) row ≡ t → cond (not t) 6 0 ≡ rowNumber ops row
     unfolding rowNumber strangerInRow
     by-test e t f = simp (le-ltb mostTokens (length row) short, sym s ∙ e, f)
@@ -86,4 +89,4 @@ module _ (ops : Operators) (row : List ℕ) where
       unfolding isRow
       is-row q l = by-test e true (ap complete (h .passes q .2 0 ∙ ap (scan (class ops) (done 0)) (drop-of-length-le row l)))
 
-pub ruleset row-ways = (is-oversize, is-stranger, is-no-row, is-longer, is-row, needs)
+pub ruleset row-ways = (is-oversize, is-stranger, no-stranger, is-no-row, is-longer, is-row, needs)

@@ -1,9 +1,10 @@
 -- What each way through `token_of` and `token_at` gives, from what is known on it. Assumes nothing.
 use mathlib.Core.Path.{_≡_, sym, ap, _∙_}
-use mathlib.Core.Bool.{Bool, true, false, cond}
+use mathlib.Core.Bool.{Bool, true, false, cond, true≢false}
 use mathlib.Core.List.{List}
 use Prim.Native.Nat.{ℕ, _<_, _≤_}
 use native.Mathlib.Omega.{arith}
+use native.Mathlib.Decide.{decLt}
 use mir.Val.{Fits}
 use mir.Syntax.{w8}
 use lib.ListN.{length, getD}
@@ -11,9 +12,11 @@ use borrow.Author.Tests.{lt-ltb, le-ltb, ne-eqb}
 use borrow.Author.Needs.{needs}
 use Rattle.expression.specs.Limits.{mostOperators}
 use Rattle.expression.specs.Token.{Infix, Prefix, opening, closing, firstReading, lastReading, Operators, class}
+use Rattle.expression.specs.Checks.{strangeInRow}
+use Rattle.expression.proofs.Tests.{none-at}
 use Rattle.sheet.specs.Layout.{operatorsOf, prefixIn}
 use Rattle.sheet.proofs.Laws.{class-in}
-use Rattle.parser.specs.Rows.{tokenOf, tokenAt, isOperator, isPrefix, isClosing}
+use Rattle.parser.specs.Rows.{tokenOf, tokenAt, isOperator, isPrefix, isClosing, strangerInRow}
 use Rattle.parser.specs.declared.row.Token.{Token}
 use Rattle.parser.specs.declared.row.Token.the-variants as token
 use Rattle.parser.specs.declared.row.Token.the-variants.{Operator, Opening, Closing, Reading, Other, End}
@@ -24,9 +27,14 @@ module _ (ops : Operators) (c : ℕ) where
   is-reading f h =
       simp (le-ltb c mostOperators (omega arith), ne-eqb c opening (λ e. omega arith), ne-eqb c closing (λ e. omega arith), le-ltb c firstReading h, le-ltb lastReading c (omega arith))
 
-  pub is-no-operator : {n : ℕ} → c < mostOperators → n ≡ ops .count → n ≤ c → Other ≡ tokenOf (class ops c)
+  -- an operator that is no stranger is below n
+  known-below : strangeInRow (class ops c) ≡ false → c < mostOperators → c < ops .count
   unfolding class
-  is-no-operator h e g = simp (lt-ltb c mostOperators h, le-ltb c (ops .count) (omega arith))
+  known-below known h = go (decLt c (ops .count))
+    where
+      go : Dec (c < ops .count) → c < ops .count
+      go (yes g) = g
+      go (no g) = absurd (true≢false (sym (simp (lt-ltb c mostOperators h, le-ltb c (ops .count) (omega arith))) ∙ known))
 
   pub is-opening : c ≡ opening → Opening ≡ tokenOf (class ops c)
   unfolding class
@@ -41,9 +49,9 @@ module _ (ops : Operators) (c : ℕ) where
   is-other h g o s = simp (le-ltb c mostOperators g, ne-eqb c opening o, ne-eqb c closing s, lt-ltb c firstReading h)
 
 -- an operator of a sheet, infix or prefix
-module _ (sheet : List ℕ) (c : ℕ) {n : ℕ} {p : Bool} (h : c < mostOperators) (e : n ≡ operatorsOf sheet .count) (g : c < n) (kind : p ≡ prefixIn sheet c) where
+module _ (sheet : List ℕ) (c : ℕ) {p : Bool} (known : strangeInRow (class (operatorsOf sheet) c) ≡ false) (h : c < mostOperators) (kind : p ≡ prefixIn sheet c) where
   of-kind : class (operatorsOf sheet) c ≡ cond p Prefix Infix
-  of-kind = class-in sheet c h (omega arith) ∙ ap (λ q. cond q Prefix Infix) (sym kind)
+  of-kind = class-in sheet c h (known-below (operatorsOf sheet) c known h) ∙ ap (λ q. cond q Prefix Infix) (sym kind)
 
   pub is-prefix : p ≡ true → token.Prefix ≡ tokenOf (class (operatorsOf sheet) c)
   is-prefix z = sym (ap tokenOf (of-kind ∙ ap (λ q. cond q Prefix Infix) z))
@@ -51,7 +59,7 @@ module _ (sheet : List ℕ) (c : ℕ) {n : ℕ} {p : Bool} (h : c < mostOperator
   pub is-operator : p ≡ false → Operator ≡ tokenOf (class (operatorsOf sheet) c)
   is-operator z = sym (ap tokenOf (of-kind ∙ ap (λ q. cond q Prefix Infix) z))
 
-pub ruleset token-of-ways = (is-reading, is-prefix, is-operator, is-no-operator, is-opening, is-closing, is-other, needs)
+pub ruleset token-of-ways = (is-reading, is-prefix, is-operator, is-opening, is-closing, is-other, needs)
 
 module _ (ops : Operators) (row : List ℕ) (at : ℕ) where
   pub is-end : length row ≤ at → End ≡ tokenAt ops row at
@@ -62,7 +70,11 @@ module _ (ops : Operators) (row : List ℕ) (at : ℕ) where
   unfolding tokenAt
   is-token h e = e ∙ simp (lt-ltb at (length row) h)
 
-pub ruleset token-at-ways = (is-end, is-token, needs)
+pub token-known : (ops : Operators) (row : List ℕ) (at : ℕ) → strangerInRow ops row ≡ false → at < length row → strangeInRow (class ops (getD row at 0)) ≡ false
+unfolding strangerInRow
+token-known ops row at known h = none-at (λ c. strangeInRow (class ops c)) row known at h
+
+pub ruleset token-at-ways = (is-end, is-token, token-known, needs)
 
 -- ---- operator_at, prefix_at, closing_at
 pub operator-told : {t u v : Token} {b : Bool} → t ≡ u → t ≡ v → isOperator v ≡ b → b ≡ isOperator u

@@ -11,6 +11,7 @@ use Rattle.expression.specs.Limits.{mostOperators, mostTokens}
 use Rattle.expression.specs.Token.{Infix, Prefix, closing, Operators, class}
 use Rattle.expression.specs.Tree.{Tree, recordOf, Over}
 use Rattle.expression.specs.Checks.{recordBytes}
+use Rattle.sheet.specs.Layout.{prefixIn}
 use Rattle.disambiguation.specs.LeftToRight.{after, ahead, Stack, bottom, opened, waiting, State, due, have, stuck, remains, everything, before, step, made}
 use Rattle.parser.specs.Notes.{note, raised, notesOf, notesBelow, notesAt}
 use Rattle.parser.specs.declared.build.Front.{Front}
@@ -22,6 +23,10 @@ share c = oneIf (not (eqb c closing))
 -- one token more, over a sheet's operators
 abbrev pub next : Operators → (ℕ → ℕ → Bool) → ℕ → State → State
 next ops closes = step closes (class ops)
+
+-- The sheet has operator c as an infix one, if it has it at all.
+unfoldable pub infixIn : List ℕ → ℕ → Bool
+infixIn sheet c = ltb c mostOperators && not (prefixIn sheet c)
 
 -- The machine goes on.
 abbrev pub Goes : State → Type 0

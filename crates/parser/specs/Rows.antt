@@ -63,9 +63,9 @@ module _ (ops : Operators) (row : List ℕ) (at : ℕ) where
   abbrev pub Refuses : Type 0
   Refuses = (d : ℕ) → complete (scan (class ops) (due d) (drop at row)) ≡ false
 
-  -- What a reader of operands finds.
+  -- What a reader of operands finds; one that begins with a prefix operator is not its own to read.
   pub record ReadsOperand (next : ℕ) : Type 0 where
-    pub refuses : next ≡ 0 → Refuses
+    pub refuses : next ≡ 0 → isPrefix (tokenAt ops row at) ≡ false → Refuses
     pub passes : (next ≡ 0 → ⊥) → Passes next
 
   -- What a reader of expressions finds: it goes on as far as it can, so no operator stands where an expression ends.

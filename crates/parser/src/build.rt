@@ -16,7 +16,7 @@ ghost use Rattle.sheet.specs.Layout.{operatorsOf, prefixIn};
 ghost use Rattle.sheet.specs.Relation.{closesIn};
 ghost use Rattle.parser.specs.Build.{built};
 ghost use Rattle.parser.specs.Notes.{laidOut, Inside};
-ghost use Rattle.parser.specs.Reading.{ends, SomeWait, Closes, Takeable, Takes, Adds, StartsOperand, Raisable, Frees, Buildable, Reads};
+ghost use Rattle.parser.specs.Reading.{infixIn, ends, SomeWait, Closes, Takeable, Takes, Adds, StartsOperand, Raisable, Frees, Buildable, Reads};
 
 // How many tokens are noted, and which is the first of the operand that was read last. Right before that one stands what waits nearest.
 pub struct Front {
@@ -110,15 +110,22 @@ fn take_closing(sheet: &[u32; SHEET_WORDS], words: &[u32], from: Front) -> Front
     }
 }
 
+// Operator c is infix, if it is one at all.
+fn is_infix(sheet: &[u32; SHEET_WORDS], c: u8) -> bool
+    ensures { λ r. ⌜ r ≡ infixIn (now (sheet .entry)) c ⌝ }
+{
+    if limits::MOST_OPERATORS <= c {
+        return false;
+    }
+    !sheet::is_prefix(sheet, c)
+}
+
 // The next token from the left is taken.
 fn take_token(sheet: &[u32; SHEET_WORDS], c: u8, words: &mut [u32], from: Front) -> Front
     requires { ⌜ (from .first ≤ from .count) × (from .count < length (now words)) × Takeable (operatorsOf (now sheet)) (closesIn (now sheet)) c (now words) from ⌝ }
     ensures { λ r. ⌜ Takes (operatorsOf (now (sheet .entry))) (closesIn (now (sheet .entry))) c (now (words .entry)) from (now (words .exit)) r ⌝ }
 {
-    if c < limits::MOST_OPERATORS {
-        if sheet::is_prefix(sheet, c) {
-            return take_operand(c, words, from);
-        }
+    if is_infix(sheet, c) {
         return take_operator(sheet, c, words, from);
     }
     if c == token::CLOSING {

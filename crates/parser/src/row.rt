@@ -4,7 +4,7 @@ use expression::refusal;
 use expression::token;
 use sheet::layout::SHEET_WORDS;
 ghost use mathlib.Core.Path.{_≡_};
-ghost use mathlib.Core.Bool.{Bool, false};
+ghost use mathlib.Core.Bool.{false};
 ghost use mathlib.Core.List.{[]};
 ghost use Prim.Native.Nat.{_≤_};
 ghost use lib.ListN.{length};
@@ -26,17 +26,15 @@ pub enum Token {
     End,
 }
 
-// The token that a byte is.
+// The token that a byte is. In a row without strangers an operator is below n.
 fn token_of(sheet: &[u32; SHEET_WORDS], c: u8) -> Token
+    requires { ⌜ strangeInRow (class (operatorsOf (now sheet)) c) ≡ false ⌝ }
     ensures { λ r. ⌜ r ≡ tokenOf (class (operatorsOf (now (sheet .entry))) c) ⌝ }
 {
     if token::FIRST_READING <= c {
         return Token::Reading;
     }
     if c < limits::MOST_OPERATORS {
-        if sheet::operator_count(sheet) <= c {
-            return Token::Other;
-        }
         if sheet::is_prefix(sheet, c) {
             return Token::Prefix;
         }
@@ -53,6 +51,7 @@ fn token_of(sheet: &[u32; SHEET_WORDS], c: u8) -> Token
 
 // The token at a place; End past the row's end.
 fn token_at(sheet: &[u32; SHEET_WORDS], row: &[u8], at: usize) -> Token
+    requires { ⌜ strangerInRow (operatorsOf (now sheet)) (now row) ≡ false ⌝ }
     ensures { λ r. ⌜ r ≡ tokenAt (operatorsOf (now (sheet .entry))) (now (row .entry)) at ⌝ }
 {
     if row.len() <= at {
@@ -63,6 +62,7 @@ fn token_at(sheet: &[u32; SHEET_WORDS], row: &[u8], at: usize) -> Token
 
 // An infix operator stands at a place.
 fn operator_at(sheet: &[u32; SHEET_WORDS], row: &[u8], at: usize) -> bool
+    requires { ⌜ strangerInRow (operatorsOf (now sheet)) (now row) ≡ false ⌝ }
     ensures { λ r. ⌜ r ≡ isOperator (tokenAt (operatorsOf (now (sheet .entry))) (now (row .entry)) at) ⌝ }
 {
     let t = token_at(sheet, row, at);
@@ -79,6 +79,7 @@ fn operator_at(sheet: &[u32; SHEET_WORDS], row: &[u8], at: usize) -> bool
 
 // A prefix operator stands at a place.
 fn prefix_at(sheet: &[u32; SHEET_WORDS], row: &[u8], at: usize) -> bool
+    requires { ⌜ strangerInRow (operatorsOf (now sheet)) (now row) ≡ false ⌝ }
     ensures { λ r. ⌜ r ≡ isPrefix (tokenAt (operatorsOf (now (sheet .entry))) (now (row .entry)) at) ⌝ }
 {
     let t = token_at(sheet, row, at);
@@ -95,6 +96,7 @@ fn prefix_at(sheet: &[u32; SHEET_WORDS], row: &[u8], at: usize) -> bool
 
 // A closing bracket stands at a place.
 fn closing_at(sheet: &[u32; SHEET_WORDS], row: &[u8], at: usize) -> bool
+    requires { ⌜ strangerInRow (operatorsOf (now sheet)) (now row) ≡ false ⌝ }
     ensures { λ r. ⌜ r ≡ isClosing (tokenAt (operatorsOf (now (sheet .entry))) (now (row .entry)) at) ⌝ }
 {
     let t = token_at(sheet, row, at);
@@ -116,13 +118,14 @@ const NOWHERE: usize = 0;
 // operator is an expression too. The row goes on by its one reference, so that the call for what follows an operator is a jump.
 fn expression_end<'a, 'b, 'c>(sheet: &'a [u32; SHEET_WORDS], row: &'b &'c [u8], at: usize) -> usize
     requires { ⌜ length (now (now row)) ≤ mostTokens ⌝ }
+    requires { ⌜ strangerInRow (operatorsOf (now sheet)) (now (now row)) ≡ false ⌝ }
     ensures { λ r. ⌜ ReadsExpression (operatorsOf (now (sheet .entry))) (now (now (row .entry))) at r ⌝ }
 {
-    if prefix_at(sheet, *row, at) {
-        return expression_end(sheet, row, at + 1);
-    }
     let next = operand_end(sheet, row, at);
     if next == NOWHERE {
+        if prefix_at(sheet, *row, at) {
+            return expression_end(sheet, row, at + 1);
+        }
         return NOWHERE;
     }
     if operator_at(sheet, *row, next) {
@@ -131,10 +134,10 @@ fn expression_end<'a, 'b, 'c>(sheet: &'a [u32; SHEET_WORDS], row: &'b &'c [u8], 
     next
 }
 
-// The place after the operand that starts at `at` with no prefix operator: a reading, or an expression in brackets.
+// The place after the operand that starts at `at`, but for a prefix operator: a reading, or an expression in brackets.
 fn operand_end<'a, 'b, 'c>(sheet: &'a [u32; SHEET_WORDS], row: &'b &'c [u8], at: usize) -> usize
     requires { ⌜ length (now (now row)) ≤ mostTokens ⌝ }
-    requires { ⌜ isPrefix (tokenAt (operatorsOf (now sheet)) (now (now row)) at) ≡ false ⌝ }
+    requires { ⌜ strangerInRow (operatorsOf (now sheet)) (now (now row)) ≡ false ⌝ }
     ensures { λ r. ⌜ ReadsOperand (operatorsOf (now (sheet .entry))) (now (now (row .entry))) at r ⌝ }
 {
     let t = token_at(sheet, *row, at);

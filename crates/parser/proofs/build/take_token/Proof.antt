@@ -16,7 +16,4 @@ take-token-spec =
     (λ c. search token-ways)
     (λ c κs. search token-ways)
     (λ c. search token-ways)
-    (λ c. search token-ways)
-    (λ c κs. search token-ways)
-    (λ c. search token-ways)
     (λ c. search token-ways))

@@ -50,22 +50,22 @@ operand-end-below t =
 pub +expression-end+operand-end-spec : {M : Type 1} → statement M
 +expression-end+operand-end-spec =
     close μ-expression-end μ-operand-end (λ t. expression-end-lts.spec (
+      operand-end-below t,
+      operand-end.Post,
       prefix-at-reads.Asked,
       prefix-at-reads.Learnt,
       expression-end-below t,
       expression-end.Post,
-      operand-end-below t,
-      operand-end.Post,
       operator-at-reads.Asked,
       operator-at-reads.Learnt,
     )
     (expression-end-at t)
     expression-end.Post
     (λ c κs. search reader-ways)
-    (λ c. search reader-ways)
     (λ c κs. search reader-ways)
     (λ c. search reader-ways)
     (λ c κs. search reader-ways)
+    (λ c. search reader-ways)
     (λ c. search reader-ways)
     (λ c κs. search reader-ways)
     (λ c. search reader-ways)

@@ -10,8 +10,6 @@ token-of-spec =
     (λ c. search token-of-ways)
     (λ c κs. search token-of-ways)
     (λ c. search token-of-ways)
-    (λ c κs. search token-of-ways)
-    (λ c. search token-of-ways)
     (λ c. search token-of-ways)
     (λ c. search token-of-ways)
     (λ c. search token-of-ways)
