@@ -1,19 +1,21 @@
 -- What each way through the readers of expressions and operands gives, from what is known on it. Assumes nothing.
 use mathlib.Core.Path.{_≡_, refl, sym, ap, _∙_}
-use mathlib.Core.Bool.{Bool, true, false, true≢false}
+use mathlib.Core.Bool.{Bool, true, false, not, true≢false}
 use mathlib.Core.List.{List}
 use Prim.Native.Nat.{ℕ, suc, _+_, _*_, _-_, _<_, _≤_}
 use native.Mathlib.Omega.{arith}
 use mir.Val.{Fits}
-use mir.Syntax.{w64}
-use lib.ListN.{length, drop}
+use mir.Syntax.{w8, w64}
+use lib.ListN.{length, getD, drop}
+use borrow.Author.Tests.{not-false}
 use borrow.Author.Needs.{needs}
 use Rattle.expression.specs.Limits.{mostTokens}
-use Rattle.expression.specs.Token.{Operators, class}
+use Rattle.expression.specs.Token.{firstReading, Operators, class}
 use Rattle.expression.specs.RowTest.{due, done, whereDue, whereDone, complete, scan}
-use Rattle.parser.specs.Rows.{tokenAt, isOperator, isPrefix, isClosing, Passes, Refuses, ReadsOperand, ReadsExpression}
+use Rattle.parser.specs.Rows.{tokenAt, isOperator, isPrefix, isClosing, Passes, Leads, Refuses, ReadsOperand, ReadsExpression}
 use Rattle.parser.specs.declared.row.Token.{Token}
 use Rattle.parser.specs.declared.row.Token.the-variants.{Operator, Prefix, Opening, Closing, Reading, Other, End}
+use Rattle.parser.proofs.TokenWays.{is-reading, is-token}
 use Rattle.parser.proofs.RowTokens.{Found, there, there-is, scan-found, goes-wrong, open-ends, closing-there, operator-there, prefix-there}
 
 module _ (ops : Operators) (row : List ℕ) where
@@ -73,75 +75,121 @@ module _ (ops : Operators) (row : List ℕ) where
       pub opening-fits : length row ≤ mostTokens → t ≡ Opening → Fits w64 (at + 1)
       opening-fits l f = let g = there-is ops row at e f in omega (arith, g .0)
 
+      pub opening-inside : t ≡ Opening → at + 1 ≤ length row
+      opening-inside f = let g = there-is ops row at e f in omega (arith, g .0)
+
       pub reading-fits : length row ≤ mostTokens → t ≡ Reading → Fits w64 (at + 1)
       reading-fits l f = let g = there-is ops row at e f in omega (arith, g .0)
 
       pub opening-falls : {m : ℕ} → 2 * (length row - at) ≡ m → t ≡ Opening → 2 * (length row - (at + 1)) + 1 < m
       opening-falls q f = let g = there-is ops row at e f in omega (arith, g .0)
 
-    -- past a prefix operator
-    module _ {b : Bool} (c : b ≡ isPrefix (tokenAt ops row at)) (v : b ≡ true) where
-      led : (at < length row) × ((d : ℕ) → scan (class ops) (due d) (drop at row) ≡ scan (class ops) (due d) (drop (at + 1) row))
-      led =
-          let g = prefix-there ops row at (tokenAt ops row at) (there ops row at) (sym c ∙ v) in
-          (g .0, λ d. scan-found ops row at Prefix g (due d) ∙ ap (λ x. scan (class ops) (whereDue x d) (drop (at + 1) row)) (g .1))
-
-      pub expression-led : {next : ℕ} → ReadsExpression ops row (at + 1) next → ReadsExpression ops row at next
-      expression-led h =
-          record {
-            refuses = λ q d. ap complete (led .1 d) ∙ h .refuses q d;
-            passes = λ q. let p = h .passes q in (omega (arith, p .0), p .1, λ d. led .1 d ∙ p .2 d);
-            stops = h .stops;
-          }
-
-      pub prefix-fits : length row ≤ mostTokens → Fits w64 (at + 1)
-      prefix-fits l = omega (arith, led .0)
-
-      pub prefix-falls : {m : ℕ} → 2 * (length row - at) + 1 ≡ m → 2 * (length row - (at + 1)) + 1 < m
-      prefix-falls q = omega (arith, led .0)
-
-    -- after an operand
-    module _ {next : ℕ} (h : ReadsOperand ops row at next) where
-      pub expression-refused : {b : Bool} → next ≡ 0 → b ≡ isPrefix (tokenAt ops row at) → b ≡ false → ReadsExpression ops row at 0
-      expression-refused q c v = record { refuses = λ e. h .refuses q (sym c ∙ v); passes = λ f. absurd (f refl); stops = λ f. absurd (f refl) }
-
-      module _ (q : next ≡ 0 → ⊥) {b : Bool} (c : b ≡ isOperator (tokenAt ops row next)) where
-        pub expression-stops : b ≡ false → ReadsExpression ops row at next
-        expression-stops v = record { refuses = λ e. absurd (q e); passes = λ f. h .passes q; stops = λ f. sym c ∙ v }
-
-        -- past an operator that follows
-        further : b ≡ true → (at < next) × (next < length row) × ((d : ℕ) → scan (class ops) (due d) (drop at row) ≡ scan (class ops) (due d) (drop (next + 1) row))
-        further v =
-            let p = h .passes q in
-            let k = operator-there ops row next (tokenAt ops row next) (there ops row next) (sym c ∙ v) in
-            (p .0, k .0, λ d. p .2 d ∙ scan-found ops row next Operator k (done d) ∙ ap (λ x. scan (class ops) (whereDone x d) (drop (next + 1) row)) (k .1))
-
-        pub expression-more : {to : ℕ} → b ≡ true → ReadsExpression ops row (next + 1) to → ReadsExpression ops row at to
-        expression-more {to} v k =
-            let f = further v in
-            record {
-              refuses = λ e d. ap complete (f .2 d) ∙ k .refuses e d;
-              passes = λ g. let p = k .passes g in (omega (arith, f .0, p .0), p .1, λ d. f .2 d ∙ p .2 d);
-              stops = k .stops;
-            }
-
-        pub operator-fits : length row ≤ mostTokens → b ≡ true → Fits w64 (next + 1)
-        operator-fits l v = let f = further v in omega (arith, f .1)
-
-        pub operator-falls : {m : ℕ} → 2 * (length row - at) + 1 ≡ m → b ≡ true → 2 * (length row - (next + 1)) + 1 < m
-        operator-falls l v = let f = further v in omega (arith, f .0, f .1)
-
     pub closing-fits : {next : ℕ} {b : Bool} → length row ≤ mostTokens → ReadsExpression ops row (at + 1) next
         → b ≡ isClosing (tokenAt ops row next) → b ≡ true → Fits w64 (next + 1)
     closing-fits {next} l h c v = let k = closing-there ops row next (tokenAt ops row next) (there ops row next) (sym c ∙ v) in omega (arith, k .0)
+
+  -- past a prefix operator
+  past-prefix : (at : ℕ) {b : Bool} → b ≡ isPrefix (tokenAt ops row at) → b ≡ true → Leads ops row at (at + 1)
+  past-prefix at c v =
+      let g = prefix-there ops row at (tokenAt ops row at) (there ops row at) (sym c ∙ v) in
+      record {
+        onward = omega arith;
+        inside = omega (arith, g .0);
+        same = λ d. scan-found ops row at Prefix g (due d) ∙ ap (λ x. scan (class ops) (whereDue x d) (drop (at + 1) row)) (g .1);
+      }
+
+  -- past an operand and the infix operator that follows
+  past-operator : (at : ℕ) {next : ℕ} {b : Bool} → Passes ops row at next → b ≡ isOperator (tokenAt ops row next) → b ≡ true → Leads ops row at (next + 1)
+  past-operator at {next} p c v =
+      let k = operator-there ops row next (tokenAt ops row next) (there ops row next) (sym c ∙ v) in
+      record {
+        onward = omega (arith, p .0);
+        inside = omega (arith, k .0);
+        same = λ d. p .2 d ∙ scan-found ops row next Operator k (done d) ∙ ap (λ x. scan (class ops) (whereDone x d) (drop (next + 1) row)) (k .1);
+      }
+
+  led : {at from next : ℕ} → Leads ops row at from → Leads ops row from next → Leads ops row at next
+  led l k = record { onward = omega (arith, l .onward, k .onward); inside = k .inside; same = λ d. l .same d ∙ k .same d }
+
+  expression-from : {at from next : ℕ} → Leads ops row at from → ReadsExpression ops row from next → ReadsExpression ops row at next
+  expression-from l h =
+      record {
+        refuses = λ q d. ap complete (l .same d) ∙ h .refuses q d;
+        passes = λ q. let p = h .passes q in (omega (arith, l .onward, p .0), p .1, λ d. l .same d ∙ p .2 d);
+        stops = h .stops;
+      }
+
+  -- ---- pairs_end
+  pub leads-nowhere : (at : ℕ) → at ≤ length row → Leads ops row at at
+  leads-nowhere at h = record { onward = omega arith; inside = h; same = λ d. refl }
+
+  module _ (at : ℕ) {next : ℕ} (l : Leads ops row at next) where
+    pub next-fits : length row ≤ mostTokens → Fits w64 (next + 1)
+    next-fits few = omega (arith, l .inside)
+
+    pub pair-fits : length row ≤ mostTokens → next + 1 < length row → Fits w64 (next + 2)
+    pair-fits few h = omega arith
+
+    pub pair-led : {b : Bool} → ((k : ℕ) → Fits w8 (getD row k 0)) → next + 1 < length row → firstReading ≤ getD row next 0 → b ≡ isOperator (tokenAt ops row (next + 1)) → not b ≡ false
+        → Leads ops row at (next + 2)
+    pair-led fits h reads c v =
+        let inside : next < length row = omega arith in
+        let p = operand-reading next (is-token ops row next inside (is-reading ops (getD row next 0) (fits next) reads)) refl .passes (λ e. omega arith) in
+        let two : next + 1 + 1 ≡ next + 2 = omega arith in
+        led l (rw two at (past-operator next p c (not-false _ v)))
+
+    pub pair-falls : {m : ℕ} → next + 1 < length row → length row - next ≡ m → length row - (next + 2) < m
+    pair-falls h e = omega arith
+
+  -- ---- expression_end, from a place that the pairs lead on to
+  module _ (at : ℕ) {from : ℕ} (l : Leads ops row at from) where
+    pub operand-falls : {m : ℕ} → 2 * (length row - at) + 1 ≡ m → 2 * (length row - from) < m
+    operand-falls q = omega (arith, l .onward)
+
+    module _ {b : Bool} (c : b ≡ isPrefix (tokenAt ops row from)) (v : b ≡ true) where
+      pub expression-led : {to : ℕ} → ReadsExpression ops row (from + 1) to → ReadsExpression ops row at to
+      expression-led h = expression-from (led l (past-prefix from c v)) h
+
+      pub prefix-inside : from + 1 ≤ length row
+      prefix-inside = past-prefix from c v .inside
+
+      pub prefix-fits : length row ≤ mostTokens → Fits w64 (from + 1)
+      prefix-fits few = omega (arith, prefix-inside)
+
+      pub prefix-falls : {m : ℕ} → 2 * (length row - at) + 1 ≡ m → 2 * (length row - (from + 1)) + 1 < m
+      prefix-falls q = omega (arith, l .onward, prefix-inside)
+
+    -- after an operand
+    module _ {next : ℕ} (h : ReadsOperand ops row from next) where
+      pub expression-refused : {b : Bool} → next ≡ 0 → b ≡ isPrefix (tokenAt ops row from) → b ≡ false → ReadsExpression ops row at 0
+      expression-refused q c v =
+          expression-from l (record { refuses = λ e. h .refuses q (sym c ∙ v); passes = λ f. absurd (f refl); stops = λ f. absurd (f refl) })
+
+      module _ (q : next ≡ 0 → ⊥) {b : Bool} (c : b ≡ isOperator (tokenAt ops row next)) where
+        pub expression-stops : b ≡ false → ReadsExpression ops row at next
+        expression-stops v = expression-from l (record { refuses = λ e. absurd (q e); passes = λ f. h .passes q; stops = λ f. sym c ∙ v })
+
+        further : b ≡ true → Leads ops row from (next + 1)
+        further v = past-operator from (h .passes q) c v
+
+        pub expression-more : {to : ℕ} → b ≡ true → ReadsExpression ops row (next + 1) to → ReadsExpression ops row at to
+        expression-more v k = expression-from (led l (further v)) k
+
+        pub operator-inside : b ≡ true → next + 1 ≤ length row
+        operator-inside v = further v .inside
+
+        pub operator-fits : length row ≤ mostTokens → b ≡ true → Fits w64 (next + 1)
+        operator-fits few v = omega (arith, operator-inside v)
+
+        pub operator-falls : {m : ℕ} → 2 * (length row - at) + 1 ≡ m → b ≡ true → 2 * (length row - (next + 1)) + 1 < m
+        operator-falls e v = omega (arith, l .onward, h .passes q .0, operator-inside v)
+
+pub ruleset pairs-ways = (leads-nowhere, next-fits, pair-fits, pair-led, pair-falls, needs)
 
 pub ruleset reader-ways = (
   operand-reading,
   operand-operator,
   operand-prefix,
-  expression-led,
-  prefix-fits,
-  prefix-falls,
   operand-closing,
   operand-other,
   operand-end,
@@ -149,13 +197,20 @@ pub ruleset reader-ways = (
   operand-closed,
   operand-unclosed,
   opening-fits,
-  reading-fits,
+  opening-inside,
   opening-falls,
+  reading-fits,
+  closing-fits,
+  operand-falls,
+  expression-led,
+  prefix-inside,
+  prefix-fits,
+  prefix-falls,
   expression-refused,
   expression-stops,
   expression-more,
+  operator-inside,
   operator-fits,
   operator-falls,
-  closing-fits,
   needs,
 )

@@ -59,6 +59,12 @@ module _ (ops : Operators) (row : List ℕ) (at : ℕ) where
   abbrev pub Passes : ℕ → Type 0
   Passes next = (at < next) × (next ≤ length row) × ((d : ℕ) → scan (class ops) (due d) (drop at row) ≡ scan (class ops) (done d) (drop next row))
 
+  -- It leads on to another place where an operand is due.
+  pub record Leads (next : ℕ) : Type 0 where
+    pub onward : at ≤ next
+    pub inside : next ≤ length row
+    pub same : (d : ℕ) → scan (class ops) (due d) (drop at row) ≡ scan (class ops) (due d) (drop next row)
+
   -- Where it answers 0, no row goes on so.
   abbrev pub Refuses : Type 0
   Refuses = (d : ℕ) → complete (scan (class ops) (due d) (drop at row)) ≡ false

@@ -14,6 +14,7 @@ ghost use Rattle.parser.specs.Answers.{AnswersBuild, AnswersRepair};
 mod build;
 mod notes;
 mod row;
+mod strangers;
 
 // The number of a row under the sheet's operators: 1, 3, 6 or 0.
 pub fn row_number(sheet: &[u32; SHEET_WORDS], tokens: &[u8]) -> u8

@@ -1,11 +1,11 @@
 // The checks of a row: an expression reader and an operand reader that call each other.
+use crate::strangers;
 use expression::limits;
 use expression::refusal;
 use expression::token;
 use sheet::layout::SHEET_WORDS;
 ghost use mathlib.Core.Path.{_≡_};
 ghost use mathlib.Core.Bool.{false};
-ghost use mathlib.Core.List.{[]};
 ghost use Prim.Native.Nat.{_≤_};
 ghost use lib.ListN.{length};
 ghost use Rattle.expression.specs.Limits.{mostTokens};
@@ -13,7 +13,7 @@ ghost use Rattle.expression.specs.Token.{operators, class};
 ghost use Rattle.expression.specs.Checks.{strangeInRow, rowNumber, recordBytes};
 ghost use Rattle.sheet.specs.Layout.{operatorsOf};
 ghost use Rattle.parser.specs.Reading.{share};
-ghost use Rattle.parser.specs.Rows.{tokenOf, tokenAt, isOperator, isPrefix, isClosing, ReadsOperand, ReadsExpression, strangerInRow};
+ghost use Rattle.parser.specs.Rows.{tokenOf, tokenAt, isOperator, isPrefix, isClosing, Leads, ReadsOperand, ReadsExpression, strangerInRow};
 
 // What a token is under a sheet's operators; an Operator is infix.
 pub enum Token {
@@ -114,17 +114,39 @@ fn closing_at(sheet: &[u32; SHEET_WORDS], row: &[u8], at: usize) -> bool
 // A reader's answer where it can read nothing: no place after something is 0.
 const NOWHERE: usize = 0;
 
+// The place after the readings from `at` on that an infix operator follows, each with its operator. Most of a row is passed so.
+fn pairs_end(sheet: &[u32; SHEET_WORDS], row: &[u8], at: usize) -> usize
+    requires { ⌜ length (now row) ≤ mostTokens ⌝ }
+    requires { ⌜ at ≤ length (now row) ⌝ }
+    requires { ⌜ strangerInRow (operatorsOf (now sheet)) (now row) ≡ false ⌝ }
+    ensures { λ r. ⌜ Leads (operatorsOf (now (sheet .entry))) (now (row .entry)) at r ⌝ }
+{
+    let mut next = at;
+    while next + 1 < row.len() {
+        if row[next] < token::FIRST_READING {
+            return next;
+        }
+        if !operator_at(sheet, row, next + 1) {
+            return next;
+        }
+        next += 2;
+    }
+    next
+}
+
 // The place after the expression that starts at `at`: an operand, then any number of operator and operand. What follows a prefix
 // operator is an expression too. The row goes on by its one reference, so that the call for what follows an operator is a jump.
 fn expression_end<'a, 'b, 'c>(sheet: &'a [u32; SHEET_WORDS], row: &'b &'c [u8], at: usize) -> usize
     requires { ⌜ length (now (now row)) ≤ mostTokens ⌝ }
+    requires { ⌜ at ≤ length (now (now row)) ⌝ }
     requires { ⌜ strangerInRow (operatorsOf (now sheet)) (now (now row)) ≡ false ⌝ }
     ensures { λ r. ⌜ ReadsExpression (operatorsOf (now (sheet .entry))) (now (now (row .entry))) at r ⌝ }
 {
-    let next = operand_end(sheet, row, at);
+    let from = pairs_end(sheet, *row, at);
+    let next = operand_end(sheet, row, from);
     if next == NOWHERE {
-        if prefix_at(sheet, *row, at) {
-            return expression_end(sheet, row, at + 1);
+        if prefix_at(sheet, *row, from) {
+            return expression_end(sheet, row, from + 1);
         }
         return NOWHERE;
     }
@@ -161,35 +183,6 @@ fn operand_end<'a, 'b, 'c>(sheet: &'a [u32; SHEET_WORDS], row: &'b &'c [u8], at:
     }
 }
 
-// A byte without meaning, or an operator not below n; no branch tells.
-fn is_strange(n: u8, c: u8) -> bool
-    ensures { λ r. ⌜ r ≡ strangeInRow (class (operators n []) c) ⌝ }
-{
-    let no_operator = (n <= c) & (c < limits::MOST_OPERATORS);
-    let no_meaning = (token::CLOSING < c) & (c < token::FIRST_READING);
-    no_operator | no_meaning
-}
-
-// Some token is strange. The loop has no branch, so that tokens can be tested side by side.
-fn any_strange(n: u8, row: &[u8]) -> bool
-    ensures { λ r. ⌜ r ≡ strangerInRow (operators n []) (now (row .entry)) ⌝ }
-{
-    let mut strange = false;
-    let mut at = 0;
-    while at < row.len() {
-        strange = strange | is_strange(n, row[at]);
-        at += 1;
-    }
-    strange
-}
-
-// The same under a sheet's operators: their count tells.
-fn has_stranger(sheet: &[u32; SHEET_WORDS], row: &[u8]) -> bool
-    ensures { λ r. ⌜ r ≡ strangerInRow (operatorsOf (now (sheet .entry))) (now (row .entry)) ⌝ }
-{
-    any_strange(sheet::operator_count(sheet), row)
-}
-
 // The number of a row: 1, 3, 6 or 0.
 pub fn number(sheet: &[u32; SHEET_WORDS], row: &[u8]) -> u8
     ensures { λ r. ⌜ r ≡ rowNumber (operatorsOf (now (sheet .entry))) (now (row .entry)) ⌝ }
@@ -197,7 +190,7 @@ pub fn number(sheet: &[u32; SHEET_WORDS], row: &[u8]) -> u8
     if limits::MOST_TOKENS < row.len() {
         return refusal::OVERSIZE;
     }
-    if has_stranger(sheet, row) {
+    if strangers::has_stranger(sheet, row) {
         return refusal::STRANGER;
     }
     let end = expression_end(sheet, &row, 0);

@@ -1,7 +1,8 @@
 -- `parser::row::expression_end` and `parser::row::operand_end` meet their contracts; the tokens left fall. Assumes nothing.
-use Rattle.parser.proofs.ReaderWays.{operator-falls, reader-ways}
+use Rattle.parser.proofs.ReaderWays.{prefix-inside, prefix-falls, operator-inside, operator-falls, reader-ways}
 use Prim.Native.Nat.{ℕ, _<_, _*_, _-_, _+_}
 use lib.ListN.{length}
+use borrow.Author.Needs.{needs}
 use borrow.Fn.Kinds.{In}
 use borrow.Fn.PlainCycle.{Measures, is, falls, and}
 use Rattle.parser.proofs.row.expression_end.Reads as expression-end
@@ -12,6 +13,7 @@ use Rattle.parser.proofs.row.operand_end.Kinds as operand-end-kinds
 use Rattle.parser.proofs.row.+expression_end+operand_end.Lts-operand_end as operand-end-lts
 use Rattle.parser.proofs.row.closing_at.Reads as closing-at-reads
 use Rattle.parser.proofs.row.operator_at.Reads as operator-at-reads
+use Rattle.parser.proofs.row.pairs_end.Reads as pairs-end-reads
 use Rattle.parser.proofs.row.prefix_at.Reads as prefix-at-reads
 use Rattle.parser.proofs.row.token_at.Reads as token-at-reads
 use Rattle.parser.proofs.row.+expression_end+operand_end.{statement}
@@ -50,6 +52,8 @@ operand-end-below t =
 pub +expression-end+operand-end-spec : {M : Type 1} → statement M
 +expression-end+operand-end-spec =
     close μ-expression-end μ-operand-end (λ t. expression-end-lts.spec (
+      pairs-end-reads.Asked,
+      pairs-end-reads.Learnt,
       operand-end-below t,
       operand-end.Post,
       prefix-at-reads.Asked,
@@ -63,13 +67,14 @@ pub +expression-end+operand-end-spec : {M : Type 1} → statement M
     expression-end.Post
     (λ c κs. search reader-ways)
     (λ c κs. search reader-ways)
+    (λ c κs. search reader-ways)
+    (λ c. search reader-ways)
+    (λ c κs. (search prefix-falls, (search needs, (search prefix-inside, search needs))))
+    (λ c. search reader-ways)
     (λ c. search reader-ways)
     (λ c κs. search reader-ways)
     (λ c. search reader-ways)
-    (λ c. search reader-ways)
-    (λ c κs. search reader-ways)
-    (λ c. search reader-ways)
-    (λ c κs. (search operator-falls, search reader-ways))
+    (λ c κs. (search operator-falls, (search needs, (search operator-inside, search needs))))
     (λ c. search reader-ways)
     (λ c. search reader-ways))
     λ t. operand-end-lts.spec (

@@ -1,7 +1,7 @@
--- `parser::row::has_stranger` meets its contract. Assumes nothing.
+-- `parser::strangers::has_stranger` meets its contract. Assumes nothing.
 use Rattle.parser.proofs.RowWays.{stranger-ways}
-use Rattle.parser.proofs.row.has_stranger.Statement.{statement}
-use Rattle.parser.proofs.row.has_stranger.Tie as tie
+use Rattle.parser.proofs.strangers.has_stranger.Statement.{statement}
+use Rattle.parser.proofs.strangers.has_stranger.Tie as tie
 
 pub has-stranger-spec : {M : Type 1} → statement M
 has-stranger-spec =

@@ -1,10 +1,10 @@
--- `parser::row::any_strange` meets its contract; in its loop, what is found so far and what stands from the place on make up the answer. Assumes nothing.
+-- `parser::strangers::any_strange` meets its contract; in its loop, what is found so far and what stands from the place on make up the answer. Assumes nothing.
 use Prim.Native.Nat.{_-_}
 use lib.ListN.{length}
 use Rattle.expression.proofs.Looking.{Looked}
 use Rattle.parser.proofs.RowWays.{strange, any-strange-ways}
-use Rattle.parser.proofs.row.any_strange.Statement.{statement}
-use Rattle.parser.proofs.row.any_strange.Tie as tie
+use Rattle.parser.proofs.strangers.any_strange.Statement.{statement}
+use Rattle.parser.proofs.strangers.any_strange.Tie as tie
 
 abbrev Inv-loop : tie.InvT-loop
 Inv-loop n row found₀ at₀ found at = Looked (strange n) row found at
