@@ -2,13 +2,13 @@
 use Prim.Native.Nat.{ℕ, _+_, _-_, _*_, _/_, _%_, _≤_, _<_}
 use native.Mathlib.Omega.{arith}
 use mathlib.Core.Path.{_≡_, refl, ap, sym, _∙_}
-use mathlib.Core.Bool.{Bool, true, false, not}
+use mathlib.Core.Bool.{Bool, true, false}
 use mathlib.Core.List.{List, [], _∷_, _++_}
 use lib.Dec.{ltb}
 use lib.ListN.{length, set, length-append}
 use lib.Seq.{sets}
 use borrow.Author.Needs.{needs}
-use borrow.Author.Tests.{ltb-true, lt-ltb, le-ltb}
+use borrow.Author.Tests.{ltb-true, lt-ltb}
 use mir.Syntax.{w64}
 use mir.Val.{Fits}
 use Rattle.expression.specs.Lists.{oneIf}
@@ -23,7 +23,7 @@ use Rattle.sheet.proofs.Laws.{closes-below}
 use Rattle.record.specs.Held.{base}
 use Rattle.record.specs.Node.{nodeAt}
 use Rattle.record.specs.TreeAt.{TreeAt}
-use Rattle.record.specs.Counts.{excludedLeft}
+use Rattle.record.specs.Counts.{excludedLeft, seesEdge}
 use Rattle.record.specs.declared.Node.{Node}
 use Rattle.record.specs.declared.Node.the-variants as node
 use Rattle.record.proofs.Trees.{an-operator}
@@ -44,13 +44,10 @@ module _ (sheet : List ℕ) (above : ℕ) {right : Bool} (o : ℕ) where
   pub on-right : {b : Bool} → right ≡ true → b ≡ closesIn sheet above o → b ≡ shows sheet above right o
   on-right r e = rw r e
 
-  pub on-left : {b : Bool} → right ≡ false → above < mostOperators → b ≡ closesIn sheet o above → not b ≡ shows sheet above right o
-  on-left r low e = rw (r, lt-ltb above mostOperators low, e)
+  pub on-left : {b : Bool} → right ≡ false → b ≡ seesEdge sheet above o → b ≡ shows sheet above right o
+  on-left r e = rw r e
 
-  pub with-none : right ≡ false → mostOperators ≤ above → false ≡ shows sheet above right o
-  with-none r high = rw (r, le-ltb above mostOperators high)
-
-pub ruleset shows-ways = (on-right, on-left, with-none, needs)
+pub ruleset shows-ways = (on-right, on-left, needs)
 
 -- only an operator above shows a conflict
 shown-below : (sheet : List ℕ) (above : ℕ) (right : Bool) (o : ℕ) → shows sheet above right o ≡ true → above < mostOperators

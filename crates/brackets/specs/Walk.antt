@@ -1,13 +1,13 @@
 -- What the walk over a record writes: the row of an operand with just the brackets that it needs. Assumes nothing.
 use Prim.Native.Nat.{ℕ, _+_, _/_, _%_, _≤_}
 use mathlib.Core.Path.{_≡_}
-use mathlib.Core.Bool.{Bool, true, false, _&&_, cond}
+use mathlib.Core.Bool.{Bool, true, false, cond}
 use mathlib.Core.List.{List}
-use lib.Dec.{eqb, ltb}
+use lib.Dec.{eqb}
 use lib.ListN.{length}
 use lib.Seq.{sets}
 use Rattle.expression.specs.Lists.{oneIf, anyHolds}
-use Rattle.expression.specs.Limits.{mostOperators, mostTokens, mostRecordBytes}
+use Rattle.expression.specs.Limits.{mostTokens, mostRecordBytes}
 use Rattle.expression.specs.Tree.{Tree, yield}
 use Rattle.disambiguation.specs.Edges.{seenFromRight, seenFromLeft}
 use Rattle.sheet.specs.Layout.{operatorsOf}
@@ -16,7 +16,7 @@ use Rattle.record.specs.Held.{base}
 use Rattle.record.specs.TreeAt.{TreeAt}
 use Rattle.record.specs.declared.Node.{Node}
 use Rattle.record.specs.declared.Node.the-variants as node
-use Rattle.record.specs.Counts.{excludedLeft}
+use Rattle.record.specs.Counts.{seesEdge}
 use Rattle.brackets.specs.Enclosed.{around}
 use Rattle.brackets.specs.Shortest.{enclosedIn}
 use Rattle.brackets.specs.Edges.{edgeShows, Marked}
@@ -44,7 +44,7 @@ module _ (sheet : List ℕ) where
   -- An operand stands on the left or on the right of an operator, or has none above it, as in brackets and at the top: then a byte that is no operator is given.
   -- An operator o that is seen of it shows a conflict with the one above.
   abbrev pub shows : ℕ → Bool → ℕ → Bool
-  shows above false o = ltb above mostOperators && excludedLeft sheet above o
+  shows above false o = seesEdge sheet above o
   shows above true o = closesIn sheet above o
 
   -- a tree in that place shows one

@@ -8,6 +8,7 @@ use expression::limits::MOST_RECORD_BYTES;
 use expression::limits::MOST_TOKENS;
 use expression::token;
 use record::Node;
+use record::conflicts;
 use record::held::BASE;
 use record::held::NO_TREE;
 use record::held::set_two;
@@ -41,10 +42,7 @@ fn shows(sheet: &[u32; SHEET_WORDS], above: u8, right: bool, o: u8) -> bool
     if right {
         return sheet::closes_before(sheet, above, o);
     }
-    if above < token::OPENING {
-        return !sheet::closes_before(sheet, o, above);
-    }
-    false
+    conflicts::sees_edge(sheet, above, o)
 }
 
 // The row goes to `out` from the place `to` on, each token once: an operand that shows a conflict with the operator above goes in

@@ -5,7 +5,7 @@ use native.Mathlib.Numerals.{add-one}
 use native.Mathlib.Decide.{decLt}
 use native.Mathlib.Omega.{arith}
 use mathlib.Core.Path.{_≡_, refl, ap, ap₂, sym, _∙_}
-use mathlib.Core.Bool.{Bool, true, false, not, _&&_, _||_, cond, true≢false, or-false}
+use mathlib.Core.Bool.{Bool, true, false, not, _&&_, _||_, true≢false, or-false}
 use mathlib.Core.List.{List, [], _∷_}
 use lib.Dec.{leb}
 use lib.IntN.{ℤ}
@@ -17,7 +17,7 @@ use mir.Syntax.{w8}
 use mir.Val.{Fits}
 use Rattle.expression.specs.Lists.{anyHolds}
 use Rattle.expression.specs.Limits.{mostOperators}
-use Rattle.expression.specs.Token.{Class, Infix, Prefix, firstReading, Operators, class}
+use Rattle.expression.specs.Token.{Class, firstReading, Operators, class}
 use Rattle.expression.specs.Tree.{Tree, reading, bracket, binary, prefix, recordOf, Over}
 use Rattle.expression.specs.Checks.{strangeInRecord}
 use Rattle.expression.proofs.Cond.{by-cond}
@@ -27,7 +27,7 @@ use Rattle.expression.proofs.Looking.{Looked, looked-none, looked-more, looked-
 use Rattle.disambiguation.specs.Below.{allBelow}
 use Rattle.disambiguation.proofs.BelowLaws.{allBelow-at}
 use Rattle.sheet.specs.Layout.{operatorsOf, prefixIn, somePrefix}
-use Rattle.sheet.proofs.Laws.{class-in, none-prefix}
+use Rattle.sheet.proofs.Laws.{infix-in, prefix-in, none-prefix}
 use Rattle.record.specs.Checks.{strangerInRecord}
 use Rattle.evaluator.specs.Meanings.{meant, prefixMeant, isMissing}
 use Rattle.evaluator.specs.Value.{meaningIn, lacksMeaning, lacksReading}
@@ -137,29 +137,15 @@ module _ (sheet : List ℕ) where
   abbrev k : ℕ → Class
   k = class (operatorsOf sheet)
 
-  kind-prefix : (p : ℕ) → k p ≡ Prefix → prefixIn sheet p ≡ true
-  kind-prefix p e = let (h, g) = prefix-byte (operatorsOf sheet) p e in go (prefixIn sheet p) (sym (class-in sheet p h g) ∙ e)
-    where
-      go : (b : Bool) → cond b Prefix Infix ≡ Prefix → b ≡ true
-      go true e = refl
-      go false e = cc
-
-  kind-infix : (o : ℕ) → k o ≡ Infix → prefixIn sheet o ≡ false
-  kind-infix o e = let (h, g) = infix-byte (operatorsOf sheet) o e in go (prefixIn sheet o) (sym (class-in sheet o h g) ∙ e)
-    where
-      go : (b : Bool) → cond b Prefix Infix ≡ Infix → b ≡ false
-      go true e = cc
-      go false e = refl
-
   pub meanings-of-tree : (lent : List ℕ) (t : Tree) → Over k t → anyMeaningless sheet lent (recordOf t) ≡ lacksMeaning lent t
   unfolding anyMeaningless
   meanings-of-tree lent (reading a) h = rw (le-ltb a mostOperators (omega (arith, reading-byte (operatorsOf sheet) a h)))
   meanings-of-tree lent (bracket t) h = meanings-of-tree lent t h
   meanings-of-tree lent (binary o l r) h =
-      ap₂ _||_ (sym (as-infix sheet lent o (infix-byte (operatorsOf sheet) o (h .0) .0) refl (kind-infix o (h .0)) refl)) (any-append (meaningless sheet lent) (recordOf l) (recordOf r))
+      ap₂ _||_ (sym (as-infix sheet lent o (infix-byte (operatorsOf sheet) o (h .0) .0) refl (infix-in sheet o (h .0)) refl)) (any-append (meaningless sheet lent) (recordOf l) (recordOf r))
       ∙ ap₂ (λ x y. isMissing (meaningIn lent o) || (x || y)) (meanings-of-tree lent l (h .1)) (meanings-of-tree lent r (h .2))
   meanings-of-tree lent (prefix p t) h =
-      ap₂ _||_ (sym (as-prefix sheet lent p (prefix-byte (operatorsOf sheet) p (h .0) .0) refl (kind-prefix p (h .0)) refl)) (meanings-of-tree lent t (h .1))
+      ap₂ _||_ (sym (as-prefix sheet lent p (prefix-byte (operatorsOf sheet) p (h .0) .0) refl (prefix-in sheet p (h .0)) refl)) (meanings-of-tree lent t (h .1))
 
 pub readings-of-tree : (ops : Operators) (readings : List ℤ) (t : Tree) → Over (class ops) t → anyBeyond (length readings) (recordOf t) ≡ lacksReading readings t
 unfolding anyBeyond

@@ -1,6 +1,6 @@
 -- What `take_operand` gives, and what that is to the machine. Assumes nothing.
 use mathlib.Core.Path.{_≡_, refl, sym, ap, subst, _∙_}
-use mathlib.Core.Bool.{Bool, true, false, not, cond, true≢false, Bool·not-not}
+use mathlib.Core.Bool.{Bool, true, false, not, true≢false, Bool·not-not}
 use mathlib.Core.List.{List, [], _∷_, _++_}
 use Prim.Native.Nat.{ℕ, suc, _+_, _<_, _≤_}
 use native.Mathlib.Omega.{arith}
@@ -15,7 +15,7 @@ use Rattle.expression.specs.Tree.{Tree, reading}
 use Rattle.expression.proofs.Classes.{infix-byte, brackets}
 use Rattle.disambiguation.specs.LeftToRight.{ahead, Stack, opened, waiting, State, due, have, stuck, whereDue, whereRead}
 use Rattle.sheet.specs.Layout.{operatorsOf, prefixIn}
-use Rattle.sheet.proofs.Laws.{class-in}
+use Rattle.sheet.proofs.Laws.{infix-in}
 use Rattle.parser.specs.Notes.{note, notesOf, notesBelow, notesAt}
 use Rattle.parser.specs.Reading.{infixIn, next, Goes, Waits, Noted, Takes, Adds, StartsOperand}
 use Rattle.parser.specs.declared.build.Front.{Front}
@@ -141,18 +141,12 @@ pub ruleset infix-ways = (no-operator, by-kind, needs)
 
 -- what is no infix operator of the sheet and no closing bracket
 module _ (sheet : List ℕ) (closes : ℕ → ℕ → Bool) (c : ℕ) where
-  infix-in : class (operatorsOf sheet) c ≡ Infix → infixIn sheet c ≡ true
-  infix-in e =
-      let (low, below) = infix-byte (operatorsOf sheet) c e in
-      sym (by-kind sheet c low refl) ∙ ap not (go (prefixIn sheet c) (sym (class-in sheet c low below) ∙ e))
-    where
-      go : (p : Bool) → cond p Prefix Infix ≡ Infix → p ≡ false
-      go true f = let clash : _≡_ {A = ℕ} 0 1 = cc in absurd (omega arith)
-      go false f = refl
+  infix-here : class (operatorsOf sheet) c ≡ Infix → infixIn sheet c ≡ true
+  infix-here e = sym (by-kind sheet c (infix-byte (operatorsOf sheet) c e .0) refl) ∙ ap not (infix-in sheet c e)
 
   pub operand-taken : {words words′ : List ℕ} {f g : Front} {p : Bool} → f .count < length words → StartsOperand c words f words′ g → p ≡ infixIn sheet c → p ≡ false
       → (c ≡ closing → ⊥) → Takes (operatorsOf sheet) closes c words f words′ g
-  operand-taken room starts kind z = taken-as-operand (operatorsOf sheet) closes c room starts (λ e. true≢false (sym (kind ∙ infix-in e) ∙ z))
+  operand-taken room starts kind z = taken-as-operand (operatorsOf sheet) closes c room starts (λ e. true≢false (sym (kind ∙ infix-here e) ∙ z))
 
 pub operand-same : (c : ℕ) (words : List ℕ) (f : Front) {words′ : List ℕ} {g : Front} → StartsOperand c words f words′ g → length words′ ≡ length words
 operand-same c words f s = s .adds .same-length

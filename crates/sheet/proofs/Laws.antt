@@ -34,7 +34,7 @@ use Rattle.sheet.proofs.Chaining.{length-related, related-is-R}
 use Rattle.sheet.proofs.Orderly.{R-below}
 use Rattle.sheet.proofs.WordTests.{closes-bit, closes-everywhere, closes-blank}
 pub use Rattle.sheet.proofs.WordTests.{closes-below}
-pub use Rattle.sheet.proofs.PrefixWord.{class-in, none-prefix}
+pub use Rattle.sheet.proofs.PrefixWord.{class-in, infix-in, prefix-in, none-prefix}
 
 closes-fresh : (a b : ℕ) → closesIn fresh a b ≡ false
 closes-fresh = closes-everywhere fresh (λ a b. false) (λ a b e. absurd (false≢true e)) closes-blank

@@ -12,7 +12,7 @@ use lib.Seq.{take-suc, take-all, getD-append-seam}
 use Rattle.expression.specs.Lists.{oneIf, anyHolds}
 use Rattle.expression.specs.Limits.{mostOperators}
 use Rattle.expression.specs.Token.{Infix, Prefix, infixKind, prefixKind, operators, kindOf, classOfKind, class}
-use Rattle.expression.proofs.Classes.{class-operator}
+use Rattle.expression.proofs.Classes.{class-operator, infix-byte, prefix-byte}
 use Rattle.expression.proofs.Tests.{none-at}
 use Rattle.disambiguation.specs.SheetChecks.{strangeKind}
 use Rattle.disambiguation.specs.Verdict.{comes}
@@ -129,6 +129,21 @@ class-in sheet c h g =
     class-operator (operatorsOf sheet) c h g
     ∙ ap (λ k. classOfKind k) (kind-below (operatorsOf sheet .count) (getD sheet prefixWordAt 0) c g)
     ∙ ap (λ b. cond b Prefix Infix) (is-one (bitOf (getD sheet prefixWordAt 0) c) ∙ ap (λ b. b && bitOf (getD sheet prefixWordAt 0) c) (sym (lt-ltb c mostOperators h)))
+
+-- so the class tells
+pub infix-in : (sheet : List ℕ) (c : ℕ) → class (operatorsOf sheet) c ≡ Infix → prefixIn sheet c ≡ false
+infix-in sheet c e = let (h, g) = infix-byte (operatorsOf sheet) c e in go (prefixIn sheet c) (sym (class-in sheet c h g) ∙ e)
+  where
+    go : (b : Bool) → cond b Prefix Infix ≡ Infix → b ≡ false
+    go true e = cc
+    go false e = refl
+
+pub prefix-in : (sheet : List ℕ) (c : ℕ) → class (operatorsOf sheet) c ≡ Prefix → prefixIn sheet c ≡ true
+prefix-in sheet c e = let (h, g) = prefix-byte (operatorsOf sheet) c e in go (prefixIn sheet c) (sym (class-in sheet c h g) ∙ e)
+  where
+    go : (b : Bool) → cond b Prefix Infix ≡ Prefix → b ≡ true
+    go true e = refl
+    go false e = cc
 
 -- a word without bits has none
 pub none-prefix : (sheet : List ℕ) → somePrefix sheet ≡ false → (c : ℕ) → prefixIn sheet c ≡ false

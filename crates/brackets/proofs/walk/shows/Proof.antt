@@ -10,5 +10,4 @@ shows-spec =
     (λ c κs. search shows-ways)
     (λ c. search shows-ways)
     (λ c κs. search shows-ways)
-    (λ c. search shows-ways)
     (λ c. search shows-ways))
