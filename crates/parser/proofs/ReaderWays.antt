@@ -12,7 +12,7 @@ use borrow.Author.Needs.{needs}
 use Rattle.expression.specs.Limits.{mostTokens}
 use Rattle.expression.specs.Token.{firstReading, Operators, class}
 use Rattle.expression.specs.RowTest.{due, done, whereDue, whereDone, complete, scan}
-use Rattle.parser.specs.Rows.{tokenAt, isOperator, isPrefix, isClosing, Passes, Leads, Refuses, ReadsOperand, ReadsExpression}
+use Rattle.parser.specs.Rows.{tokenAt, isOperator, isPrefix, isClosing, Passes, Continues, Refuses, ReadsOperand, ReadsExpression}
 use Rattle.parser.specs.declared.row.Token.{Token}
 use Rattle.parser.specs.declared.row.Token.the-variants.{Operator, Prefix, Opening, Closing, Reading, Other, End}
 use Rattle.parser.proofs.TokenWays.{is-reading, is-token}
@@ -89,7 +89,7 @@ module _ (ops : Operators) (row : List ℕ) where
     closing-fits {next} l h c v = let k = closing-there ops row next (tokenAt ops row next) (there ops row next) (sym c ∙ v) in omega (arith, k .0)
 
   -- past a prefix operator
-  past-prefix : (at : ℕ) {b : Bool} → b ≡ isPrefix (tokenAt ops row at) → b ≡ true → Leads ops row at (at + 1)
+  past-prefix : (at : ℕ) {b : Bool} → b ≡ isPrefix (tokenAt ops row at) → b ≡ true → Continues ops row at (at + 1)
   past-prefix at c v =
       let g = prefix-there ops row at (tokenAt ops row at) (there ops row at) (sym c ∙ v) in
       record {
@@ -99,7 +99,7 @@ module _ (ops : Operators) (row : List ℕ) where
       }
 
   -- past an operand and the infix operator that follows
-  past-operator : (at : ℕ) {next : ℕ} {b : Bool} → Passes ops row at next → b ≡ isOperator (tokenAt ops row next) → b ≡ true → Leads ops row at (next + 1)
+  past-operator : (at : ℕ) {next : ℕ} {b : Bool} → Passes ops row at next → b ≡ isOperator (tokenAt ops row next) → b ≡ true → Continues ops row at (next + 1)
   past-operator at {next} p c v =
       let k = operator-there ops row next (tokenAt ops row next) (there ops row next) (sym c ∙ v) in
       record {
@@ -108,10 +108,10 @@ module _ (ops : Operators) (row : List ℕ) where
         same = λ d. p .2 d ∙ scan-found ops row next Operator k (done d) ∙ ap (λ x. scan (class ops) (whereDone x d) (drop (next + 1) row)) (k .1);
       }
 
-  led : {at from next : ℕ} → Leads ops row at from → Leads ops row from next → Leads ops row at next
+  led : {at from next : ℕ} → Continues ops row at from → Continues ops row from next → Continues ops row at next
   led l k = record { onward = omega (arith, l .onward, k .onward); inside = k .inside; same = λ d. l .same d ∙ k .same d }
 
-  expression-from : {at from next : ℕ} → Leads ops row at from → ReadsExpression ops row from next → ReadsExpression ops row at next
+  expression-from : {at from next : ℕ} → Continues ops row at from → ReadsExpression ops row from next → ReadsExpression ops row at next
   expression-from l h =
       record {
         refuses = λ q d. ap complete (l .same d) ∙ h .refuses q d;
@@ -120,10 +120,10 @@ module _ (ops : Operators) (row : List ℕ) where
       }
 
   -- ---- pairs_end
-  pub leads-nowhere : (at : ℕ) → at ≤ length row → Leads ops row at at
-  leads-nowhere at h = record { onward = omega arith; inside = h; same = λ d. refl }
+  pub continues-here : (at : ℕ) → at ≤ length row → Continues ops row at at
+  continues-here at h = record { onward = omega arith; inside = h; same = λ d. refl }
 
-  module _ (at : ℕ) {next : ℕ} (l : Leads ops row at next) where
+  module _ (at : ℕ) {next : ℕ} (l : Continues ops row at next) where
     pub next-fits : length row ≤ mostTokens → Fits w64 (next + 1)
     next-fits few = omega (arith, l .inside)
 
@@ -131,7 +131,7 @@ module _ (ops : Operators) (row : List ℕ) where
     pair-fits few h = omega arith
 
     pub pair-led : {b : Bool} → ((k : ℕ) → Fits w8 (getD row k 0)) → next + 1 < length row → firstReading ≤ getD row next 0 → b ≡ isOperator (tokenAt ops row (next + 1)) → not b ≡ false
-        → Leads ops row at (next + 2)
+        → Continues ops row at (next + 2)
     pair-led fits h reads c v =
         let inside : next < length row = omega arith in
         let p = operand-reading next (is-token ops row next inside (is-reading ops (getD row next 0) (fits next) reads)) refl .passes (λ e. omega arith) in
@@ -142,7 +142,7 @@ module _ (ops : Operators) (row : List ℕ) where
     pair-falls h e = omega arith
 
   -- ---- expression_end, from a place that the pairs lead on to
-  module _ (at : ℕ) {from : ℕ} (l : Leads ops row at from) where
+  module _ (at : ℕ) {from : ℕ} (l : Continues ops row at from) where
     pub operand-falls : {m : ℕ} → 2 * (length row - at) + 1 ≡ m → 2 * (length row - from) < m
     operand-falls q = omega (arith, l .onward)
 
@@ -169,7 +169,7 @@ module _ (ops : Operators) (row : List ℕ) where
         pub expression-stops : b ≡ false → ReadsExpression ops row at next
         expression-stops v = expression-from l (record { refuses = λ e. absurd (q e); passes = λ f. h .passes q; stops = λ f. sym c ∙ v })
 
-        further : b ≡ true → Leads ops row from (next + 1)
+        further : b ≡ true → Continues ops row from (next + 1)
         further v = past-operator from (h .passes q) c v
 
         pub expression-more : {to : ℕ} → b ≡ true → ReadsExpression ops row (next + 1) to → ReadsExpression ops row at to
@@ -184,7 +184,7 @@ module _ (ops : Operators) (row : List ℕ) where
         pub operator-falls : {m : ℕ} → 2 * (length row - at) + 1 ≡ m → b ≡ true → 2 * (length row - (next + 1)) + 1 < m
         operator-falls e v = omega (arith, l .onward, h .passes q .0, operator-inside v)
 
-pub ruleset pairs-ways = (leads-nowhere, next-fits, pair-fits, pair-led, pair-falls, needs)
+pub ruleset pairs-ways = (continues-here, next-fits, pair-fits, pair-led, pair-falls, needs)
 
 pub ruleset reader-ways = (
   operand-reading,

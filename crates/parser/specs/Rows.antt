@@ -59,8 +59,8 @@ module _ (ops : Operators) (row : List ℕ) (at : ℕ) where
   abbrev pub Passes : ℕ → Type 0
   Passes next = (at < next) × (next ≤ length row) × ((d : ℕ) → scan (class ops) (due d) (drop at row) ≡ scan (class ops) (done d) (drop next row))
 
-  -- What stands before another place leads on to it: an operand is due there again.
-  pub record Leads (next : ℕ) : Type 0 where
+  -- At another place, where an operand is due again, the rest of the row continues it.
+  pub record Continues (next : ℕ) : Type 0 where
     pub onward : at ≤ next
     pub inside : next ≤ length row
     pub same : (d : ℕ) → scan (class ops) (due d) (drop at row) ≡ scan (class ops) (due d) (drop next row)

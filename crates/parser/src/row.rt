@@ -13,7 +13,7 @@ ghost use Rattle.expression.specs.Token.{operators, class};
 ghost use Rattle.expression.specs.Checks.{strangeInRow, rowNumber, recordBytes};
 ghost use Rattle.sheet.specs.Layout.{operatorsOf};
 ghost use Rattle.parser.specs.Reading.{share};
-ghost use Rattle.parser.specs.Rows.{tokenOf, tokenAt, isOperator, isPrefix, isClosing, Leads, ReadsOperand, ReadsExpression, strangerInRow};
+ghost use Rattle.parser.specs.Rows.{tokenOf, tokenAt, isOperator, isPrefix, isClosing, Continues, ReadsOperand, ReadsExpression, strangerInRow};
 
 // What a token is under a sheet's operators; an Operator is infix.
 pub enum Token {
@@ -119,7 +119,7 @@ fn pairs_end(sheet: &[u32; SHEET_WORDS], row: &[u8], at: usize) -> usize
     requires { ⌜ length (now row) ≤ mostTokens ⌝ }
     requires { ⌜ at ≤ length (now row) ⌝ }
     requires { ⌜ strangerInRow (operatorsOf (now sheet)) (now row) ≡ false ⌝ }
-    ensures { λ r. ⌜ Leads (operatorsOf (now (sheet .entry))) (now (row .entry)) at r ⌝ }
+    ensures { λ r. ⌜ Continues (operatorsOf (now (sheet .entry))) (now (row .entry)) at r ⌝ }
 {
     let mut next = at;
     while next + 1 < row.len() {

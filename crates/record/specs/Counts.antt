@@ -22,7 +22,7 @@ excludedLeft sheet o b = not (closesIn sheet b o)
 abbrev pub conflictsIn : List ℕ → Tree → ℕ
 conflictsIn sheet = conflicts (excludedLeft sheet) (closesIn sheet)
 
--- The infix operator right of a tree that sees its right edge, if there is one: else a byte that is no operator is given. It excludes the prefix operator p there.
+-- The infix operator right of a tree that sees its right edge, if there is one: else a byte that is no operator is given. It excludes operator p there.
 abbrev pub seesEdge : List ℕ → ℕ → ℕ → Bool
 seesEdge sheet seer p = ltb seer mostOperators && excludedLeft sheet seer p
 

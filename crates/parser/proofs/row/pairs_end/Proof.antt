@@ -2,13 +2,13 @@
 use Prim.Native.Nat.{_-_}
 use lib.ListN.{length}
 use Rattle.sheet.specs.Layout.{operatorsOf}
-use Rattle.parser.specs.Rows.{Leads}
+use Rattle.parser.specs.Rows.{Continues}
 use Rattle.parser.proofs.ReaderWays.{pairs-ways}
 use Rattle.parser.proofs.row.pairs_end.Statement.{statement}
 use Rattle.parser.proofs.row.pairs_end.Tie as tie
 
 abbrev Inv-loop : tie.InvT-loop
-Inv-loop sheet row at next₀ next = Leads (operatorsOf sheet) row at next
+Inv-loop sheet row at next₀ next = Continues (operatorsOf sheet) row at next
 
 abbrev μ-loop : tie.MeasureT-loop
 μ-loop sheet row at next₀ next = length row - next
