@@ -1,9 +1,9 @@
 // The calls for C and Rust, under names of their own. They take numbers and addresses alone: a list is an address and a length.
 ghost use mathlib.Core.Path.{_≡_};
 ghost use Rattle.sheet.specs.Layout.{operatorsOf};
-ghost use Rattle.monitor.specs.Call.{load, putRow, putRecord, fetchRecord, fetchRow, image, build, repair, yield, shortestRow};
+ghost use Rattle.monitor.specs.Call.{stage, switch, putRow, putRecord, fetchRecord, fetchRow, image, build, repair, yield, shortestRow};
 ghost use Rattle.monitor.specs.Panel.{panel};
-ghost use Rattle.monitor.specs.Contracts.{Changes, Drops, AnswersInto, AnswersUnder, AnswersFrom, Judges, NumbersOperand, PlacesOperand};
+ghost use Rattle.monitor.specs.Contracts.{Changes, Stages, Puts, Drops, AnswersOn, AnswersUnder, AnswersFrom, Judges, NumbersOperand, PlacesOperand};
 ghost use Rattle.frame.specs.Contracts.{Replies};
 use frame::limits::MOST_REPLY;
 use places::limits::STORE_BYTES;
@@ -22,15 +22,21 @@ pub extern "C" fn tihvomen_operators(sheet: &[u32; SHEET_WORDS]) -> u8
 
 // The bytes are those of a sheet frame after n: n kind bytes, then the rules.
 #[no_mangle]
-pub extern "C" fn tihvomen_load(
-    sheet: &mut [u32; SHEET_WORDS],
-    places: &mut [u8; STORE_BYTES],
-    n: u32,
-    bytes: &[u8],
-) -> u8
-    ensures { λ r. ⌜ Changes (panel (now (sheet .entry)) (now (places .entry))) (load n (now (bytes .entry))) r (panel (now (sheet .exit)) (now (places .exit))) ⌝ }
+pub extern "C" fn tihvomen_stage(staged: &mut [u32; SHEET_WORDS], n: u32, bytes: &[u8]) -> u8
+    ensures { λ r. ⌜ Stages (now (staged .entry)) (stage n (now (bytes .entry))) r (now (staged .exit)) ⌝ }
 {
-    monitor::load(sheet, places, n, bytes)
+    monitor::stage(staged, n, bytes)
+}
+
+#[no_mangle]
+pub extern "C" fn tihvomen_switch(
+    sheet: &mut [u32; SHEET_WORDS],
+    staged: &mut [u32; SHEET_WORDS],
+    places: &mut [u8; STORE_BYTES],
+) -> u8
+    ensures { λ r. ⌜ Changes (panel (now (sheet .entry)) (now (staged .entry)) (now (places .entry))) switch r (panel (now (sheet .exit)) (now (staged .exit)) (now (places .exit))) ⌝ }
+{
+    monitor::switch(sheet, staged, places)
 }
 
 #[no_mangle]
@@ -40,7 +46,7 @@ pub extern "C" fn tihvomen_put_row(
     place: u32,
     row: &[u8],
 ) -> u8
-    ensures { λ r. ⌜ Changes (panel (now (sheet .entry)) (now (places .entry))) (putRow place (now (row .entry))) r (panel (now (sheet .entry)) (now (places .exit))) ⌝ }
+    ensures { λ r. ⌜ Puts (now (sheet .entry)) (now (places .entry)) (putRow place (now (row .entry))) r (now (places .exit)) ⌝ }
 {
     monitor::put_row(sheet, places, place, row)
 }
@@ -52,7 +58,7 @@ pub extern "C" fn tihvomen_put_record(
     place: u32,
     bytes: &[u8],
 ) -> u8
-    ensures { λ r. ⌜ Changes (panel (now (sheet .entry)) (now (places .entry))) (putRecord place (now (bytes .entry))) r (panel (now (sheet .entry)) (now (places .exit))) ⌝ }
+    ensures { λ r. ⌜ Puts (now (sheet .entry)) (now (places .entry)) (putRecord place (now (bytes .entry))) r (now (places .exit)) ⌝ }
 {
     monitor::put_record(sheet, places, place, bytes)
 }
@@ -82,7 +88,7 @@ pub extern "C" fn tihvomen_fetch_row(
     place: u32,
     out: &mut [u8],
 ) -> Answer
-    ensures { λ r. ⌜ AnswersInto (panel (now (sheet .entry)) (now (places .entry))) (fetchRow place (now (out .entry))) r (now (out .exit)) ⌝ }
+    ensures { λ r. ⌜ AnswersOn (now (sheet .entry)) (now (places .entry)) (fetchRow place (now (out .entry))) r (now (out .exit)) ⌝ }
 {
     monitor::fetch_row(sheet, places, place, out)
 }
@@ -157,11 +163,12 @@ pub extern "C" fn tihvomen_operand(sheet: &[u32; SHEET_WORDS], bytes: &[u8], rig
 #[no_mangle]
 pub extern "C" fn tihvomen_reply(
     sheet: &mut [u32; SHEET_WORDS],
+    staged: &mut [u32; SHEET_WORDS],
     places: &mut [u8; STORE_BYTES],
     line: &[u8],
     out: &mut [u8; MOST_REPLY],
 ) -> usize
-    ensures { λ r. ⌜ Replies (panel (now (sheet .entry)) (now (places .entry))) (now (line .entry)) (now (out .entry)) (now (out .exit)) (panel (now (sheet .exit)) (now (places .exit))) r ⌝ }
+    ensures { λ r. ⌜ Replies (panel (now (sheet .entry)) (now (staged .entry)) (now (places .entry))) (now (line .entry)) (now (out .entry)) (now (out .exit)) (panel (now (sheet .exit)) (now (staged .exit)) (now (places .exit))) r ⌝ }
 {
-    frame::reply(sheet, places, line, out)
+    frame::reply(sheet, staged, places, line, out)
 }

@@ -23,13 +23,13 @@ use Rattle.sheet.specs.Layout.{operatorsOf}
 use Rattle.record.specs.Checks.{strangerInRecord}
 use Rattle.record.proofs.Accepted.{Accepted, accepted-tree}
 use Rattle.places.specs.Store.{placeCount, held}
-use Rattle.monitor.specs.Panel.{panel, placeCheck, emptyCheck}
+use Rattle.monitor.specs.Panel.{placeCheck, emptyCheck}
 use Rattle.monitor.proofs.Replies.{front-accepted}
 use Rattle.monitor.proofs.AnswerWays.{empty-true, empty-false}
 use Rattle.evaluator.specs.Value.{lacksMeaning, lacksReading, value, treeChecks}
 use Rattle.evaluator.specs.Bytes.{anyMeaningless, anyBeyond}
 use Rattle.evaluator.specs.Walk.{Evaluable, IsValue}
-use Rattle.evaluator.specs.Evaluation.{evaluated, checksIn, valueIn, recordAndTree, numberOf, ofRecord, evaluation}
+use Rattle.evaluator.specs.Evaluation.{EvaluatesOn, evaluated, checksIn, valueIn, recordAndTree, numberOf, ofRecord, evaluation}
 use Rattle.evaluator.specs.declared.Evaluation.{Evaluation}
 use Rattle.evaluator.proofs.Stopping.{read}
 use Rattle.evaluator.proofs.Lacking.{meanings-of-tree, readings-of-tree}
@@ -138,19 +138,23 @@ module _ (meanings : List ℕ) (readings : List ℤ) (sheet places : List ℕ) (
   module _ {bytes : List ℕ} (e : bytes ≡ held places k) where
     -- the answer, where the place holds these bytes
     as-held : {r : Evaluation} → r ≡ evaluated (first (placeCheck k ∷ emptyCheck bytes ∷ recordAndTree meanings readings (operatorsOf sheet) bytes)) (valueIn meanings readings (treeOf (class (operatorsOf sheet)) bytes))
-        → r ≡ evaluation meanings readings (panel sheet places) k
+        → EvaluatesOn meanings readings sheet places k r
     unfolding evaluation
-    as-held q = q ∙ ap (λ b. evaluated (first (placeCheck k ∷ emptyCheck b ∷ recordAndTree meanings readings (operatorsOf sheet) b)) (valueIn meanings readings (treeOf (class (operatorsOf sheet)) b))) e
+    as-held q =
+        record {
+          answers =
+              λ staged. q ∙ ap (λ b. evaluated (first (placeCheck k ∷ emptyCheck b ∷ recordAndTree meanings readings (operatorsOf sheet) b)) (valueIn meanings readings (treeOf (class (operatorsOf sheet)) b))) e;
+        }
 
     module _ (h : k < placeCount) where
-      pub none-held : {r : Evaluation} → length bytes ≡ 0 → r ≡ record { number = empty; value = pos 0 } → r ≡ evaluation meanings readings (panel sheet places) k
+      pub none-held : {r : Evaluation} → length bytes ≡ 0 → r ≡ record { number = empty; value = pos 0 } → EvaluatesOn meanings readings sheet places k r
       none-held z q = as-held (refused empty _ _ (rw (lt-ltb k placeCount h, empty-true bytes z)) (λ e. omega arith) q)
 
-      pub held-valued : {r : Evaluation} → (length bytes ≡ 0 → ⊥) → r ≡ ofRecord meanings readings (operatorsOf sheet) bytes → r ≡ evaluation meanings readings (panel sheet places) k
+      pub held-valued : {r : Evaluation} → (length bytes ≡ 0 → ⊥) → r ≡ ofRecord meanings readings (operatorsOf sheet) bytes → EvaluatesOn meanings readings sheet places k r
       unfolding ofRecord numberOf
       held-valued n q = as-held (rw (lt-ltb k placeCount h, empty-false bytes n) q)
 
-  pub over : {r : Evaluation} → placeCount ≤ k → r ≡ record { number = place; value = pos 0 } → r ≡ evaluation meanings readings (panel sheet places) k
+  pub over : {r : Evaluation} → placeCount ≤ k → r ≡ record { number = place; value = pos 0 } → EvaluatesOn meanings readings sheet places k r
   over h q = as-held refl (refused place _ _ (rw (le-ltb k placeCount h)) (λ e. omega arith) q)
 
 pub ruleset evaluate-ways = (over, none-held, held-valued, needs)

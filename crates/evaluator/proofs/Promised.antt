@@ -39,12 +39,12 @@ module _ (cs : List Call) (k : ℕ) (meanings : List ℕ) (readings : List ℤ) 
   bytes = held (panelAfter cs .places) k
 
   no-place : placeCount ≤ k → answer cs k meanings readings ≡ evaluated place (pos 0)
-  no-place h = sym (over meanings readings (panelAfter cs .sheet) (panelAfter cs .places) k h refl)
+  no-place h = sym (over meanings readings (panelAfter cs .sheet) (panelAfter cs .places) k h refl .answers (panelAfter cs .staged))
 
   nothing-held : k < placeCount → lastPut k cs ≡ none → answer cs k meanings readings ≡ evaluated empty (pos 0)
   nothing-held h q =
       let e : bytes ≡ [] = subst (λ slot. Holds (bookAfter cs .operators) (bookAfter cs .rules) slot bytes) (book-slot k cs ∙ q) (stands cs .holds k h) in
-      sym (none-held meanings readings (panelAfter cs .sheet) (panelAfter cs .places) k refl h (ap length e) refl)
+      sym (none-held meanings readings (panelAfter cs .sheet) (panelAfter cs .places) k refl h (ap length e) refl .answers (panelAfter cs .staged))
 
   -- ---- a place that holds the tree of a row
   module _ (row : List ℕ) (q : lastPut k cs ≡ some row) (t : Tree) (g : HeldTree (ops cs) (rules cs) row bytes t) where
@@ -59,7 +59,7 @@ module _ (cs : List Call) (k : ℕ) (meanings : List ℕ) (readings : List ℤ) 
     of-held : answer cs k meanings readings ≡ ofTree meanings readings t
     of-held =
         sym (held-valued meanings readings (panelAfter cs .sheet) (panelAfter cs .places) k refl (put-below k cs row q)
-        (λ z. omega (arith, ap length (g .recorded), record-positive t)) refl)
+        (λ z. omega (arith, ap length (g .recorded), record-positive t)) refl .answers (panelAfter cs .staged))
         ∙ ap (λ o. ofRecord meanings readings o bytes) (sheet-in-force cs .operators) ∙ of-record
 
   of-tree : (t : Tree) → TreeOfLastPut cs k t → answer cs k meanings readings ≡ ofTree meanings readings t

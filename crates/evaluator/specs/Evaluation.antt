@@ -1,5 +1,6 @@
 -- What an evaluation of a place answers, for every panel value. Assumes nothing.
 use Prim.Native.Nat.{ℕ}
+use mathlib.Core.Path.{_≡_}
 use mathlib.Core.Option.{Option, none, some}
 use mathlib.Core.List.{List, [], _∷_, _++_}
 use lib.IntN.{ℤ, pos}
@@ -9,7 +10,7 @@ use Rattle.expression.specs.Tree.{Tree}
 use Rattle.expression.specs.Decode.{treeOf}
 use Rattle.expression.specs.Checks.{recordChecks}
 use Rattle.places.specs.Store.{held}
-use Rattle.monitor.specs.Panel.{Panel, placeCheck, emptyCheck, ifAccepted}
+use Rattle.monitor.specs.Panel.{Panel, panel, placeCheck, emptyCheck, ifAccepted}
 use Rattle.monitor.specs.Steps.{ops}
 use Rattle.evaluator.specs.Value.{value, treeChecks}
 use Rattle.evaluator.specs.declared.Evaluation.{Evaluation}
@@ -47,3 +48,7 @@ module _ (meanings : List ℕ) (readings : List ℤ) where
   evaluation p k =
       let bytes = held (p .places) k in
       evaluated (first (placeCheck k ∷ emptyCheck bytes ∷ recordAndTree (ops p) bytes)) (valueIn (treeOf (class (ops p)) bytes))
+
+  -- An evaluation looks at nothing that is staged: it answered r, whatever that is.
+  pub record EvaluatesOn (sheet places : List ℕ) (k : ℕ) (r : Evaluation) : Type 0 where
+    pub answers : (staged : List ℕ) → r ≡ evaluation (panel sheet staged places) k

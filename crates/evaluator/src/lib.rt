@@ -3,8 +3,7 @@
 ghost use mathlib.Core.Path.{_≡_};
 ghost use lib.IntN.{pos};
 ghost use Rattle.sheet.specs.Layout.{operatorsOf};
-ghost use Rattle.monitor.specs.Panel.{panel};
-ghost use Rattle.evaluator.specs.Evaluation.{numberOf, ofRecord, evaluation};
+ghost use Rattle.evaluator.specs.Evaluation.{numberOf, ofRecord, EvaluatesOn};
 use expression::refusal;
 use places::limits;
 use places::limits::STORE_BYTES;
@@ -77,7 +76,7 @@ pub fn evaluate(
     meanings: &[u8],
     readings: &[i32],
 ) -> Evaluation
-    ensures { λ r. ⌜ r ≡ evaluation (now (meanings .entry)) (now (readings .entry)) (panel (now (sheet .entry)) (now (places .entry))) place ⌝ }
+    ensures { λ r. ⌜ EvaluatesOn (now (meanings .entry)) (now (readings .entry)) (now (sheet .entry)) (now (places .entry)) place r ⌝ }
 {
     if limits::PLACE_COUNT as u32 <= place {
         return unevaluated(refusal::PLACE);
@@ -98,7 +97,7 @@ pub extern "C" fn tihvomen_evaluate(
     meanings: &[u8],
     readings: &[i32],
 ) -> Evaluation
-    ensures { λ r. ⌜ r ≡ evaluation (now (meanings .entry)) (now (readings .entry)) (panel (now (sheet .entry)) (now (places .entry))) place ⌝ }
+    ensures { λ r. ⌜ EvaluatesOn (now (meanings .entry)) (now (readings .entry)) (now (sheet .entry)) (now (places .entry)) place r ⌝ }
 {
     evaluate(sheet, places, place, meanings, readings)
 }

@@ -3,12 +3,13 @@ use Prim.Native.Nat.{ℕ, _≤_, _<_}
 use native.Mathlib.Omega.{arith}
 use native.Mathlib.Decide.{ℕ-discrete}
 use mathlib.Core.Path.{_≡_, refl, ap, sym, _∙_}
-use mathlib.Core.Bool.{Bool, true, false, cond, true≢false}
+use mathlib.Core.Bool.{Bool, true, false, not, _&&_, cond, true≢false}
 use mathlib.Core.Logic.{_↔_}
 use mathlib.Core.Option.{Option, none, some}
 use mathlib.Core.List.{List, [], _∷_, _++_}
+use lib.Dec.{eqb}
 use lib.ListN.{length}
-use borrow.Author.Tests.{ltb-false, lt-ltb, le-ltb, not-false}
+use borrow.Author.Tests.{ltb-false, lt-ltb, le-ltb, eq-eqb, not-false}
 use Rattle.expression.specs.Lists.{All}
 use Rattle.expression.specs.Limits.{mostTokens, mostRecordBytes}
 use Rattle.expression.specs.Refusal.{Check, Passed, first, accepted, short}
@@ -52,6 +53,22 @@ first-refused (c ∷ cs) ds n = go (c .0) (first-refused cs ds) n
         → cond b (c .1) (first (cs ++ ds)) ≡ cond b (c .1) (first cs)
     go true f n = refl
     go false f n = f n
+
+-- none of the checks has the number
+abbrev pub lacks : ℕ → List Check → Bool
+lacks n [] = true
+lacks n (c ∷ cs) = not (eqb (c .1) n) && lacks n cs
+
+-- Such checks do not give it, with others after them that do not where these are passed.
+pub never : (n : ℕ) (cs ds : List Check) → lacks n cs ≡ true → (first cs ≡ accepted → first ds ≡ n → ⊥) → first (cs ++ ds) ≡ n → ⊥
+never n [] ds h f e = f refl e
+never n (c ∷ cs) ds h f e = go (c .0) (eqb (c .1) n) refl (never n cs ds) h f e
+  where
+    go : (b is : Bool) → eqb (c .1) n ≡ is → (lacks n cs ≡ true → (first cs ≡ accepted → first ds ≡ n → ⊥) → first (cs ++ ds) ≡ n → ⊥) → (not is && lacks n cs) ≡ true
+        → (cond b (c .1) (first cs) ≡ accepted → first ds ≡ n → ⊥) → cond b (c .1) (first (cs ++ ds)) ≡ n → ⊥
+    go b true q again h f e = absurd (true≢false (sym h))
+    go true false q again h f e = true≢false (sym (eq-eqb (c .1) n e) ∙ q)
+    go false false q again h f e = again h f e
 
 -- the answer comes last: it is short, or the call's number is the list's
 pub first-short : (cs : List Check) (answer room : ℕ) → first cs ≡ accepted → Numbered cs → room < answer → first (cs ++ (shortCheck answer room ∷ [])) ≡ short

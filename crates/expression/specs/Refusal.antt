@@ -55,6 +55,10 @@ noMeaning = 13
 abbrev pub noReading : ℕ
 noReading = 14
 
+-- "nothing staged"
+abbrev pub nothingStaged : ℕ
+nothingStaged = 15
+
 -- One line of a call's list: whether it applies, and its number.
 abbrev pub Check : Type 0
 Check = Bool × ℕ

@@ -28,3 +28,5 @@ pub const FRAME: u8 = 12;
 pub const NO_MEANING: u8 = 13;
 
 pub const NO_READING: u8 = 14;
+
+pub const NOTHING_STAGED: u8 = 15;

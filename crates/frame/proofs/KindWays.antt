@@ -14,11 +14,11 @@ use Rattle.expression.specs.Lent.{outputAfter, lengthAfter}
 use Rattle.expression.specs.Checks.{repairNumber}
 use Rattle.record.specs.declared.Answer.{Answer}
 use Rattle.record.specs.declared.Judgement.{Judgement}
-use Rattle.monitor.specs.Call.{Question, Call, load, putRow, putRecord, ask, fetchRecord, fetchRow, image, repair}
+use Rattle.monitor.specs.Call.{Question, Call, stage, switch, putRow, putRecord, ask, fetchRecord, fetchRow, image, repair}
 use Rattle.monitor.specs.Call as call
 use Rattle.monitor.specs.Panel.{Panel, panel}
 use Rattle.monitor.specs.Steps.{ops, fetchRecordNumber, fetchRowNumber, imageNumber, told}
-use Rattle.monitor.specs.Contracts.{Changes, Drops, AnswersInto, AnswersUnder, AnswersFrom, Judges}
+use Rattle.monitor.specs.Contracts.{Changes, Stages, Puts, Drops, AnswersOn, AnswersUnder, AnswersFrom, Judges}
 use Rattle.frame.specs.Frames.{mostAnswer, room, callOf, frameCall, toldBytes, frameNumber, frameAnswer, frameAfter}
 use Rattle.frame.specs.Contracts.{Tells, TellsCount}
 
@@ -36,6 +36,10 @@ pub parts : (rest : List ℕ) → (length rest ≡ 0 → ⊥) → rest ≡ getD 
 parts [] h = absurd (h refl)
 parts (x ∷ xs) h = ap (λ l. x ∷ l) (sym (take-all (length (x ∷ xs) - 1) xs (omega arith)))
 
+none-part : (rest : List ℕ) → length rest ≡ 0 → rest ≡ []
+none-part [] h = refl
+none-part (x ∷ xs) h = absurd (omega arith)
+
 one-part : (rest : List ℕ) → length rest ≡ 1 → rest ≡ getD rest 0 0 ∷ []
 one-part [] h = absurd (omega arith)
 one-part (x ∷ []) h = refl
@@ -43,22 +47,23 @@ one-part (x ∷ y ∷ l) h = absurd (omega arith)
 
 -- ---- no call
 module _ (kind : ℕ) where
-  no-byte : (rest : List ℕ) → (kind ≡ 7 → ⊥) → (kind ≡ 8 → ⊥) → length rest ≡ 0 → callOf kind rest ≡ none
+  no-byte : (rest : List ℕ) → (kind ≡ 7 → ⊥) → (kind ≡ 8 → ⊥) → (kind ≡ 10 → ⊥) → length rest ≡ 0 → callOf kind rest ≡ none
   unfolding callOf
-  no-byte [] a b e = simp (ne-eqb kind 7 a, ne-eqb kind 8 b, cond-same {A = Option Call})
-  no-byte (x ∷ xs) a b e = absurd (omega arith)
+  no-byte [] a b c e = rw (ne-eqb kind 7 a, ne-eqb kind 8 b, ne-eqb kind 10 c) (simp (cond-same {A = Option Call}))
+  no-byte (x ∷ xs) a b c e = absurd (omega arith)
 
   module _ (one : kind ≡ 1 → ⊥) (two : kind ≡ 2 → ⊥) (six : kind ≡ 6 → ⊥) (seven : kind ≡ 7 → ⊥) (eight : kind ≡ 8 → ⊥) where
     more-bytes : (rest : List ℕ) → (length rest ≡ 0 → ⊥) → (length rest ≡ 1 → ⊥) → callOf kind rest ≡ none
     unfolding callOf
     more-bytes [] z o = absurd (z refl)
     more-bytes (x ∷ []) z o = absurd (o refl)
-    more-bytes (x ∷ y ∷ l) z o = simp (ne-eqb kind 1 one, ne-eqb kind 2 two, ne-eqb kind 6 six, ne-eqb kind 7 seven, ne-eqb kind 8 eight, cond-same {A = Option Call})
+    more-bytes (x ∷ y ∷ l) z o = rw (ne-eqb kind 1 one, ne-eqb kind 2 two, ne-eqb kind 6 six, ne-eqb kind 7 seven, ne-eqb kind 8 eight) (simp (cond-same {A = Option Call}))
 
-    no-kind : (rest : List ℕ) → (kind ≡ 3 → ⊥) → (kind ≡ 4 → ⊥) → (kind ≡ 5 → ⊥) → (kind ≡ 9 → ⊥) → callOf kind rest ≡ none
+    no-kind : (rest : List ℕ) → (length rest ≡ 0 → ⊥) → (kind ≡ 3 → ⊥) → (kind ≡ 4 → ⊥) → (kind ≡ 5 → ⊥) → (kind ≡ 9 → ⊥) → callOf kind rest ≡ none
     unfolding callOf
-    no-kind rest three four five nine =
-        simp (ne-eqb kind 1 one, ne-eqb kind 2 two, ne-eqb kind 3 three, ne-eqb kind 4 four, ne-eqb kind 5 five, ne-eqb kind 6 six, ne-eqb kind 7 seven, ne-eqb kind 8 eight, ne-eqb kind 9 nine)
+    no-kind [] z three four five nine = absurd (z refl)
+    no-kind (x ∷ l) z three four five nine =
+        simp (ne-eqb kind 1 one, ne-eqb kind 2 two, ne-eqb kind 3 three, ne-eqb kind 4 four, ne-eqb kind 5 five, ne-eqb kind 6 six, ne-eqb kind 7 seven, ne-eqb kind 8 eight, ne-eqb kind 9 nine, cond-same {A = Option Call})
 
 -- a call's number alone
 module _ (p : Panel) (call : Option Call) {before : List ℕ} {r : Answer} where
@@ -107,13 +112,13 @@ module _ (kind : ℕ) (rest : List ℕ) where
   one-byte : {n : ℕ} → kind ≡ n → length rest ≡ 1 → callOf kind rest ≡ callOf n (getD rest 0 0 ∷ [])
   one-byte e l = ap₂ callOf e (one-part rest l)
 
-module _ (sheet places : List ℕ) (kind : ℕ) (rest : List ℕ) {before : List ℕ} {r : Answer} where
+module _ (sheet staged places : List ℕ) (kind : ℕ) (rest : List ℕ) {before : List ℕ} {r : Answer} where
   pub way-judge : {after : List ℕ} {j : Judgement} → kind ≡ 7 → Judges sheet rest j → TellsCount j before after r
-      → Tells (panel sheet places) (callOf kind rest) before after (panel sheet places) r
+      → Tells (panel sheet staged places) (callOf kind rest) before after (panel sheet staged places) r
   unfolding callOf
   way-judge {after} {j} e q w =
-      let n = q .numbered places in
-      let c = q .counted places in
+      let n = q .numbered staged places in
+      let c = q .counted staged places in
       rw e (record {
         numbered = w .numbered ∙ n;
         measured = w .measured ∙ ap₂ (λ x y. lengthAfter x (y ∷ [])) n c;
@@ -122,79 +127,83 @@ module _ (sheet places : List ℕ) (kind : ℕ) (rest : List ℕ) {before : List
       })
 
   pub way-repair : {after : List ℕ} → kind ≡ 8 → length before ≡ mostAnswer → AnswersUnder sheet (repair rest before) r after
-      → Tells (panel sheet places) (callOf kind rest) before after (panel sheet places) r
+      → Tells (panel sheet staged places) (callOf kind rest) before after (panel sheet staged places) r
   unfolding callOf
   way-repair e l a =
-      let w = a .answers places in
-      with-answer (panel sheet places) (callOf kind rest) {q = repair rest room} (repairNumber (ops (panel sheet places)) rest) _ (rw e) refl refl l (w .numbered) (w .measured) (w .output)
+      let w = a .answers staged places in
+      with-answer (panel sheet staged places) (callOf kind rest) {q = repair rest room} (repairNumber (ops (panel sheet staged places)) rest) _ (rw e) refl refl l (w .numbered) (w .measured) (w .output)
 
-  pub way-no-byte : (kind ≡ 7 → ⊥) → (kind ≡ 8 → ⊥) → length rest ≡ 0 → (r .number ≡ 12) × (r .length ≡ 0)
-      → Tells (panel sheet places) (callOf kind rest) before before (panel sheet places) r
-  way-no-byte a b l q = no-call (panel sheet places) (callOf kind rest) (no-byte kind rest a b l) q
+  pub way-switch : {later : Panel} {n : ℕ} → kind ≡ 10 → length rest ≡ 0 → (r .number ≡ n) × (r .length ≡ 0) → Changes (panel sheet staged places) switch n later
+      → Tells (panel sheet staged places) (callOf kind rest) before before later r
+  unfolding callOf
+  way-switch e l q w = alone (panel sheet staged places) (callOf kind rest) {c = some switch} (ap₂ callOf e (none-part rest l)) q (w .numbered) refl (w .stands)
 
-  module _ {later : Panel} {n named : ℕ} (some-byte : length rest ≡ 0 → ⊥) (q : (r .number ≡ n) × (r .length ≡ 0)) (byte : named ≡ getD rest 0 0) where
-    pub way-load : kind ≡ 1 → Changes (panel sheet places) (load named (take (length rest - 1) (drop 1 rest))) n later
-        → Tells (panel sheet places) (callOf kind rest) before before later r
+  pub way-no-byte : (kind ≡ 7 → ⊥) → (kind ≡ 8 → ⊥) → (kind ≡ 10 → ⊥) → length rest ≡ 0 → (r .number ≡ 12) × (r .length ≡ 0)
+      → Tells (panel sheet staged places) (callOf kind rest) before before (panel sheet staged places) r
+  way-no-byte a b c l q = no-call (panel sheet staged places) (callOf kind rest) (no-byte kind rest a b c l) q
+
+  module _ {later : List ℕ} {n named : ℕ} (some-byte : length rest ≡ 0 → ⊥) (q : (r .number ≡ n) × (r .length ≡ 0)) (byte : named ≡ getD rest 0 0) where
+    pub way-stage : kind ≡ 1 → Stages staged (stage named (take (length rest - 1) (drop 1 rest))) n later → Tells (panel sheet staged places) (callOf kind rest) before before (panel sheet later places) r
     unfolding callOf
-    way-load e w =
-        let v = subst (λ k. Changes (panel sheet places) (load k (take (length rest - 1) (drop 1 rest))) n later) byte w in
-        alone (panel sheet places) (callOf kind rest) {c = some (load (getD rest 0 0) (take (length rest - 1) (drop 1 rest)))} (named-byte kind rest e some-byte) q (v .numbered) refl (v .stands)
+    way-stage e w =
+        let v = subst (λ k. Stages staged (stage k (take (length rest - 1) (drop 1 rest))) n later) byte w .changes sheet places in
+        alone (panel sheet staged places) (callOf kind rest) {c = some (stage (getD rest 0 0) (take (length rest - 1) (drop 1 rest)))} (named-byte kind rest e some-byte) q (v .numbered) refl (v .stands)
 
-    pub way-put-row : kind ≡ 2 → Changes (panel sheet places) (putRow named (take (length rest - 1) (drop 1 rest))) n later
-        → Tells (panel sheet places) (callOf kind rest) before before later r
+    pub way-put-row : kind ≡ 2 → Puts sheet places (putRow named (take (length rest - 1) (drop 1 rest))) n later → Tells (panel sheet staged places) (callOf kind rest) before before (panel sheet staged later) r
     unfolding callOf
     way-put-row e w =
-        let v = subst (λ k. Changes (panel sheet places) (putRow k (take (length rest - 1) (drop 1 rest))) n later) byte w in
-        alone (panel sheet places) (callOf kind rest) {c = some (putRow (getD rest 0 0) (take (length rest - 1) (drop 1 rest)))} (named-byte kind rest e some-byte) q (v .numbered) refl (v .stands)
+        let v = subst (λ k. Puts sheet places (putRow k (take (length rest - 1) (drop 1 rest))) n later) byte w .changes staged in
+        alone (panel sheet staged places) (callOf kind rest) {c = some (putRow (getD rest 0 0) (take (length rest - 1) (drop 1 rest)))} (named-byte kind rest e some-byte) q (v .numbered) refl (v .stands)
 
-    pub way-put-record : kind ≡ 6 → Changes (panel sheet places) (putRecord named (take (length rest - 1) (drop 1 rest))) n later
-        → Tells (panel sheet places) (callOf kind rest) before before later r
+    pub way-put-record : kind ≡ 6 → Puts sheet places (putRecord named (take (length rest - 1) (drop 1 rest))) n later
+        → Tells (panel sheet staged places) (callOf kind rest) before before (panel sheet staged later) r
     unfolding callOf
     way-put-record e w =
-        let v = subst (λ k. Changes (panel sheet places) (putRecord k (take (length rest - 1) (drop 1 rest))) n later) byte w in
-        alone (panel sheet places) (callOf kind rest) {c = some (putRecord (getD rest 0 0) (take (length rest - 1) (drop 1 rest)))} (named-byte kind rest e some-byte) q (v .numbered) refl (v .stands)
+        let v = subst (λ k. Puts sheet places (putRecord k (take (length rest - 1) (drop 1 rest))) n later) byte w .changes staged in
+        alone (panel sheet staged places) (callOf kind rest) {c = some (putRecord (getD rest 0 0) (take (length rest - 1) (drop 1 rest)))} (named-byte kind rest e some-byte) q (v .numbered) refl (v .stands)
 
   pub way-drop : {places′ : List ℕ} {n named : ℕ} → kind ≡ 3 → length rest ≡ 1 → (r .number ≡ n) × (r .length ≡ 0) → named ≡ getD rest 0 0 → Drops places named n places′
-      → Tells (panel sheet places) (callOf kind rest) before before (panel sheet places′) r
+      → Tells (panel sheet staged places) (callOf kind rest) before before (panel sheet staged places′) r
   unfolding callOf
   way-drop {places′} {n} e l q byte d =
-      let w = subst (λ k. Drops places k n places′) byte d .changes sheet in
-      alone (panel sheet places) (callOf kind rest) {c = some (call.drop (getD rest 0 0))} (one-byte kind rest e l) q (w .numbered) refl (w .stands)
+      let w = subst (λ k. Drops places k n places′) byte d .changes sheet staged in
+      alone (panel sheet staged places) (callOf kind rest) {c = some (call.drop (getD rest 0 0))} (one-byte kind rest e l) q (w .numbered) refl (w .stands)
 
   module _ {after : List ℕ} {named : ℕ} (one : length rest ≡ 1) (byte : named ≡ getD rest 0 0) (l : length before ≡ mostAnswer) where
-    pub way-fetch-record : kind ≡ 4 → AnswersFrom places (fetchRecord named before) r after → Tells (panel sheet places) (callOf kind rest) before after (panel sheet places) r
+    pub way-fetch-record : kind ≡ 4 → AnswersFrom places (fetchRecord named before) r after → Tells (panel sheet staged places) (callOf kind rest) before after (panel sheet staged places) r
     unfolding callOf
     way-fetch-record e a =
-        let w = subst (λ k. AnswersFrom places (fetchRecord k before) r after) byte a .answers sheet in
-        with-answer (panel sheet places) (callOf kind rest) {q = fetchRecord (getD rest 0 0) room} (fetchRecordNumber (panel sheet places) (getD rest 0 0)) _ (one-byte kind rest e one) refl refl l
+        let w = subst (λ k. AnswersFrom places (fetchRecord k before) r after) byte a .answers sheet staged in
+        with-answer (panel sheet staged places) (callOf kind rest) {q = fetchRecord (getD rest 0 0) room} (fetchRecordNumber (panel sheet staged places) (getD rest 0 0)) _ (one-byte kind rest e one) refl refl l
         (w .numbered) (w .measured) (w .output)
 
-    pub way-fetch-row : kind ≡ 5 → AnswersInto (panel sheet places) (fetchRow named before) r after → Tells (panel sheet places) (callOf kind rest) before after (panel sheet places) r
+    pub way-fetch-row : kind ≡ 5 → AnswersOn sheet places (fetchRow named before) r after → Tells (panel sheet staged places) (callOf kind rest) before after (panel sheet staged places) r
     unfolding callOf
     way-fetch-row e a =
-        let w = subst (λ k. AnswersInto (panel sheet places) (fetchRow k before) r after) byte a in
-        with-answer (panel sheet places) (callOf kind rest) {q = fetchRow (getD rest 0 0) room} (fetchRowNumber (panel sheet places) (getD rest 0 0)) _ (one-byte kind rest e one) refl refl l
+        let w = subst (λ k. AnswersOn sheet places (fetchRow k before) r after) byte a .answers staged in
+        with-answer (panel sheet staged places) (callOf kind rest) {q = fetchRow (getD rest 0 0) room} (fetchRowNumber (panel sheet staged places) (getD rest 0 0)) _ (one-byte kind rest e one) refl refl l
         (w .numbered) (w .measured) (w .output)
 
-    pub way-image : kind ≡ 9 → AnswersFrom places (image named before) r after → Tells (panel sheet places) (callOf kind rest) before after (panel sheet places) r
+    pub way-image : kind ≡ 9 → AnswersFrom places (image named before) r after → Tells (panel sheet staged places) (callOf kind rest) before after (panel sheet staged places) r
     unfolding callOf
     way-image e a =
-        let w = subst (λ k. AnswersFrom places (image k before) r after) byte a .answers sheet in
-        with-answer (panel sheet places) (callOf kind rest) {q = image (getD rest 0 0) room} (imageNumber (panel sheet places) (getD rest 0 0)) _ (one-byte kind rest e one) refl refl l
+        let w = subst (λ k. AnswersFrom places (image k before) r after) byte a .answers sheet staged in
+        with-answer (panel sheet staged places) (callOf kind rest) {q = image (getD rest 0 0) room} (imageNumber (panel sheet staged places) (getD rest 0 0)) _ (one-byte kind rest e one) refl refl l
         (w .numbered) (w .measured) (w .output)
 
   module _ (q : (r .number ≡ 12) × (r .length ≡ 0)) (one : kind ≡ 1 → ⊥) (two : kind ≡ 2 → ⊥) (six : kind ≡ 6 → ⊥) (seven : kind ≡ 7 → ⊥) (eight : kind ≡ 8 → ⊥) where
-    pub way-more-bytes : (length rest ≡ 0 → ⊥) → (length rest ≡ 1 → ⊥) → Tells (panel sheet places) (callOf kind rest) before before (panel sheet places) r
-    way-more-bytes z o = no-call (panel sheet places) (callOf kind rest) (more-bytes kind one two six seven eight rest z o) q
+    pub way-more-bytes : (length rest ≡ 0 → ⊥) → (length rest ≡ 1 → ⊥) → Tells (panel sheet staged places) (callOf kind rest) before before (panel sheet staged places) r
+    way-more-bytes z o = no-call (panel sheet staged places) (callOf kind rest) (more-bytes kind one two six seven eight rest z o) q
 
-    pub way-no-kind : (kind ≡ 3 → ⊥) → (kind ≡ 4 → ⊥) → (kind ≡ 5 → ⊥) → (kind ≡ 9 → ⊥) → Tells (panel sheet places) (callOf kind rest) before before (panel sheet places) r
-    way-no-kind three four five nine = no-call (panel sheet places) (callOf kind rest) (no-kind kind one two six seven eight rest three four five nine) q
+    pub way-no-kind : (length rest ≡ 0 → ⊥) → (kind ≡ 3 → ⊥) → (kind ≡ 4 → ⊥) → (kind ≡ 5 → ⊥) → (kind ≡ 9 → ⊥) → Tells (panel sheet staged places) (callOf kind rest) before before (panel sheet staged places) r
+    way-no-kind z three four five nine = no-call (panel sheet staged places) (callOf kind rest) (no-kind kind one two six seven eight rest z three four five nine) q
 
 pub ruleset kind-ways = (
   way-judge,
   way-repair,
+  way-switch,
   way-no-byte,
-  way-load,
+  way-stage,
   way-put-row,
   way-put-record,
   way-more-bytes,

@@ -6,7 +6,7 @@ use mathlib.Core.List.{List, [], _∷_}
 use mathlib.Core.Option.{Option, none, some}
 use borrow.Author.Tests.{ne-eqb}
 use Rattle.expression.specs.Refusal.{accepted, oversize}
-use Rattle.monitor.specs.Call.{Question, Call, load, loadList, putRow, putRecord, drop, ask, fetchRecord, fetchRow, image, build, repair, judge, yield, operand, shortestRow}
+use Rattle.monitor.specs.Call.{Question, Call, stage, stageList, switch, putRow, putRecord, drop, ask, fetchRecord, fetchRow, image, build, repair, judge, yield, operand, shortestRow}
 use Rattle.monitor.specs.Panel.{Panel, ifAccepted}
 use Rattle.monitor.specs.Steps.{outcome, after}
 use Rattle.monitor.specs.Book.{Book, askedNumber, bookNumber}
@@ -78,8 +78,9 @@ module _ (p : Panel) (b : Book) (s : Stands p b) where
   said-to (shortestRow bytes out) z = tells p b s (shortestRow bytes out) z
 
   said : (c : Call) → bookNumber b c ≡ accepted → Said b c (answerOf p c)
-  said (load n bytes) z = refl
-  said (loadList n kinds rules) z = refl
+  said (stage n bytes) z = refl
+  said (stageList n kinds rules) z = refl
+  said switch z = refl
   said (putRow k row) z = refl
   said (putRecord k bytes) z = refl
   said (drop k) z = refl

@@ -13,7 +13,7 @@ use borrow.Author.Tests.{lt-ltb, le-ltb}
 use Rattle.expression.specs.Refusal.{accepted}
 use Rattle.record.specs.declared.Answer.{Answer}
 use Rattle.monitor.specs.Call.{Call}
-use Rattle.monitor.specs.Panel.{Panel, panel, ifAccepted}
+use Rattle.monitor.specs.Panel.{Panel, ifAccepted}
 use Rattle.hexadecimal.specs.Text.{isText, bytesOf, textOf, withFront, bytesWithin, answerOf, outputOf, textWithin, Decodes, Encodes}
 use Rattle.hexadecimal.specs.declared.Decoded.{Decoded}
 use Rattle.hexadecimal.specs.declared.Encoded.{Encoded}
@@ -134,15 +134,15 @@ module _ {p : Panel} {call : Option Call} {before after : List ℕ} {later : Pan
   pub answer-fits : length before ≡ mostAnswer → length after ≡ length before → length (take (t .length - 0) after) ≤ mostAnswer
   answer-fits l e = let h = answer-inside in omega (arith, length-take-le (t .length - 0) after (omega arith))
 
-module _ (sheet places line room out : List ℕ) {room′ : List ℕ} {d : Decoded}
+module _ (p : Panel) (line room out : List ℕ) {room′ : List ℕ} {d : Decoded}
     (reads : Decodes line room room′ d) (l : length line ≤ mostCharacters) (h : length line ≤ length room * 2) {written : List ℕ} {n : ℕ} where
-  pub line-refused : Writes 12 [] out written n → not (d .ok) ≡ true → Replies (panel sheet places) line out written (panel sheet places) n
-  line-refused w e = by-frame (panel sheet places) line out 12 [] none l (ap textCall (unread line room reads h e)) refl w refl
+  pub line-refused : Writes 12 [] out written n → not (d .ok) ≡ true → Replies p line out written p n
+  line-refused w e = by-frame p line out 12 [] none l (ap textCall (unread line room reads h e)) refl w refl
 
-  pub line-run : {before after : List ℕ} {later : Panel} {t : Answer} → Tells (panel sheet places) (frameCall (take (d .length - 0) room′)) before after later t
-      → Writes (t .number) (take (t .length - 0) after) out written n → not (d .ok) ≡ false → Replies (panel sheet places) line out written later n
+  pub line-run : {before after : List ℕ} {later : Panel} {t : Answer} → Tells p (frameCall (take (d .length - 0) room′)) before after later t
+      → Writes (t .number) (take (t .length - 0) after) out written n → not (d .ok) ≡ false → Replies p line out written later n
   line-run {after = after} {t = t} tells w e =
-      by-frame (panel sheet places) line out (t .number) (take (t .length - 0) after) (frameCall (take (d .length - 0) room′)) l (ap textCall (read line room reads h e))
+      by-frame p line out (t .number) (take (t .length - 0) after) (frameCall (take (d .length - 0) room′)) l (ap textCall (read line room reads h e))
       (ap₂ _∷_ (sym (tells .numbered)) (sym (answer-front tells)))
       w
       (tells .stands)
@@ -150,11 +150,11 @@ module _ (sheet places line room out : List ℕ) {room′ : List ℕ} {d : Decod
 pub ruleset reply-by-ways = (line-refused, line-run, answer-inside, answer-fits, needs)
 
 -- ---- reply
-pub line-long : (sheet places line out : List ℕ) {after : List ℕ} {r : ℕ} → Writes 1 [] out after r → mostCharacters < length line
-    → Replies (panel sheet places) line out after (panel sheet places) r
+pub line-long : (p : Panel) (line out : List ℕ) {after : List ℕ} {r : ℕ} → Writes 1 [] out after r → mostCharacters < length line
+    → Replies p line out after p r
 unfolding lineBytes lineAfter lineCall
-line-long sheet places line out w l =
+line-long p line out w l =
     let long : ltb mostCharacters (length line) ≡ true = lt-ltb mostCharacters (length line) l in
-    replied (panel sheet places) line out 1 [] (rw long) w (rw long)
+    replied p line out 1 [] (rw long) w (rw long)
 
 pub ruleset reply-ways = (line-long, needs)

@@ -11,7 +11,7 @@ use borrow.Author.Tests.{ne-eqb, eq-eqb}
 use lib.Dec.{eqb}
 use lib.ListN.{length}
 use Rattle.expression.specs.Refusal.{oversize}
-use Rattle.monitor.specs.Call.{Call, load, putRow, putRecord, drop, ask, fetchRecord, fetchRow, image, repair, judge}
+use Rattle.monitor.specs.Call.{Call, stage, switch, putRow, putRecord, drop, ask, fetchRecord, fetchRow, image, repair, judge}
 use Rattle.monitor.specs.Panel.{Panel}
 use Rattle.monitor.specs.Book.{Book}
 use Rattle.monitor.specs.Meaning.{SomeOf, Means}
@@ -31,12 +31,13 @@ abbrev Formed : List ℕ → Type 0
 Formed bytes = (NoFrame bytes × (frameCall bytes ≡ none)) ⊎ ((NoFrame bytes → ⊥) × ((c : Call) × (frameCall bytes ≡ some c)))
 
 -- a known kind whose length fits
-fits : (kind : ℕ) (rest : List ℕ) → 0 < kind → kind < 10
-    → (((kind ≡ 1) ⊎ (kind ≡ 2) ⊎ (kind ≡ 6)) → length rest ≡ 0 → ⊥) → (((kind ≡ 3) ⊎ (kind ≡ 4) ⊎ (kind ≡ 5) ⊎ (kind ≡ 9)) → length rest ≡ 1) → NoFrame (kind ∷ rest) → ⊥
-fits kind rest low high f g (inl h) = omega arith
-fits kind rest low high f g (inr (inl h)) = omega arith
-fits kind rest low high f g (inr (inr (inl (k, h)))) = f k h
-fits kind rest low high f g (inr (inr (inr (k, h)))) = h (g k)
+fits : (kind : ℕ) (rest : List ℕ) → 0 < kind → kind ≤ 10
+    → (((kind ≡ 1) ⊎ (kind ≡ 2) ⊎ (kind ≡ 6)) → length rest ≡ 0 → ⊥) → (((kind ≡ 3) ⊎ (kind ≡ 4) ⊎ (kind ≡ 5) ⊎ (kind ≡ 9)) → length rest ≡ 1) → (kind ≡ 10 → length rest ≡ 0) → NoFrame (kind ∷ rest) → ⊥
+fits kind rest low high f g b (inl h) = omega arith
+fits kind rest low high f g b (inr (inl h)) = omega arith
+fits kind rest low high f g b (inr (inr (inl (k, h)))) = f k h
+fits kind rest low high f g b (inr (inr (inr (inl (k, h))))) = h (g k)
+fits kind rest low high f g b (inr (inr (inr (inr (k, h))))) = h (b k)
 
 -- none of the kinds that want that byte alone
 no-alone : (kind m : ℕ) → ((kind ≡ 3 → ⊥) × (kind ≡ 4 → ⊥) × (kind ≡ 5 → ⊥) × (kind ≡ 9 → ⊥)) → ((kind ≡ 3) ⊎ (kind ≡ 4) ⊎ (kind ≡ 5) ⊎ (kind ≡ 9)) → m ≡ 1
@@ -55,21 +56,21 @@ no-named kind m (a, b, c) (inr (inr e)) h = c e
 formed-named : (kind : ℕ) (rest : List ℕ) → ((kind ≡ 1) ⊎ (kind ≡ 2) ⊎ (kind ≡ 6)) → ((kind ≡ 3 → ⊥) × (kind ≡ 4 → ⊥) × (kind ≡ 5 → ⊥) × (kind ≡ 9 → ⊥)) → 0 < kind → kind < 10
     → (callOf kind [] ≡ none) → ((x : ℕ) (more : List ℕ) → (c : Call) × (callOf kind (x ∷ more) ≡ some c)) → Formed (kind ∷ rest)
 formed-named kind [] k n low high e f = inl (inr (inr (inl (k, refl))), e)
-formed-named kind (x ∷ more) k n low high e f = inr (fits kind (x ∷ more) low high (λ _ z. omega arith) (no-alone kind (length (x ∷ more)) n), f x more)
+formed-named kind (x ∷ more) k n low high e f = inr (fits kind (x ∷ more) low (omega arith) (λ _ z. omega arith) (no-alone kind (length (x ∷ more)) n) (λ z. absurd (omega arith)), f x more)
 
 -- one that wants it alone
 formed-alone : (kind : ℕ) (rest : List ℕ) → ((kind ≡ 3) ⊎ (kind ≡ 4) ⊎ (kind ≡ 5) ⊎ (kind ≡ 9)) → ((kind ≡ 1 → ⊥) × (kind ≡ 2 → ⊥) × (kind ≡ 6 → ⊥)) → 0 < kind → kind < 10
     → (callOf kind [] ≡ none) → ((x : ℕ) → (c : Call) × (callOf kind (x ∷ []) ≡ some c)) → ((x y : ℕ) (more : List ℕ) → callOf kind (x ∷ y ∷ more) ≡ none) → Formed (kind ∷ rest)
-formed-alone kind [] k n low high e f g = inl (inr (inr (inr (k, λ z. omega arith))), e)
-formed-alone kind (x ∷ []) k n low high e f g = inr (fits kind (x ∷ []) low high (no-named kind 1 n) (λ _. refl), f x)
-formed-alone kind (x ∷ y ∷ more) k n low high e f g = inl (inr (inr (inr (k, λ z. omega arith))), g x y more)
+formed-alone kind [] k n low high e f g = inl (inr (inr (inr (inl (k, λ z. omega arith)))), e)
+formed-alone kind (x ∷ []) k n low high e f g = inr (fits kind (x ∷ []) low (omega arith) (no-named kind 1 n) (λ _. refl) (λ z. absurd (omega arith)), f x)
+formed-alone kind (x ∷ y ∷ more) k n low high e f g = inl (inr (inr (inr (inl (k, λ z. omega arith)))), g x y more)
 
 -- one that takes any bytes
 formed-any : (kind : ℕ) (rest : List ℕ) → ((kind ≡ 1 → ⊥) × (kind ≡ 2 → ⊥) × (kind ≡ 6 → ⊥)) → ((kind ≡ 3 → ⊥) × (kind ≡ 4 → ⊥) × (kind ≡ 5 → ⊥) × (kind ≡ 9 → ⊥)) → 0 < kind → kind < 10
     → ((c : Call) × (callOf kind rest ≡ some c)) → Formed (kind ∷ rest)
-formed-any kind rest m n low high f = inr (fits kind rest low high (no-named kind (length rest) m) (no-alone kind (length rest) n), f)
+formed-any kind rest m n low high f = inr (fits kind rest low (omega arith) (no-named kind (length rest) m) (no-alone kind (length rest) n) (λ z. absurd (omega arith)), f)
 
-unknown : (kind : ℕ) (rest : List ℕ) → (kind < 1) ⊎ (9 < kind) → callOf kind rest ≡ none
+unknown : (kind : ℕ) (rest : List ℕ) → (kind < 1) ⊎ (10 < kind) → callOf kind rest ≡ none
 unfolding callOf
 unknown kind rest h =
     rw (
@@ -82,19 +83,20 @@ unknown kind rest h =
       ne-eqb kind 7 (no 7 (omega arith) (omega arith)),
       ne-eqb kind 8 (no 8 (omega arith) (omega arith)),
       ne-eqb kind 9 (no 9 (omega arith) (omega arith)),
+      ne-eqb kind 10 (no 10 (omega arith) (omega arith)),
     )
   where
-    no : (k : ℕ) → 0 < k → k < 10 → kind ≡ k → ⊥
+    no : (k : ℕ) → 0 < k → k ≤ 10 → kind ≡ k → ⊥
     no k low high e = go h
       where
-        go : (kind < 1) ⊎ (9 < kind) → ⊥
+        go : (kind < 1) ⊎ (10 < kind) → ⊥
         go (inl z) = omega arith
         go (inr z) = omega arith
 
 module _ (rest : List ℕ) where
-  load-formed : Formed (1 ∷ rest)
+  stage-formed : Formed (1 ∷ rest)
   unfolding callOf
-  load-formed = formed-named 1 rest (inl refl) (λ e. omega arith, λ e. omega arith, λ e. omega arith, λ e. omega arith) (omega arith) (omega arith) refl (λ x more. (load x more, refl))
+  stage-formed = formed-named 1 rest (inl refl) (λ e. omega arith, λ e. omega arith, λ e. omega arith, λ e. omega arith) (omega arith) (omega arith) refl (λ x more. (stage x more, refl))
 
   put-row-formed : Formed (2 ∷ rest)
   unfolding callOf
@@ -128,7 +130,15 @@ module _ (rest : List ℕ) where
   unfolding callOf
   image-formed = formed-alone 9 rest (inr (inr (inr refl))) (λ e. omega arith, λ e. omega arith, λ e. omega arith) (omega arith) (omega arith) refl (λ x. (ask (image x room), refl)) (λ x y more. refl)
 
-  unknown-formed : (kind : ℕ) → (kind < 1) ⊎ (9 < kind) → Formed (kind ∷ rest)
+  switch-formed : Formed (10 ∷ rest)
+  unfolding callOf
+  switch-formed = go rest
+    where
+      go : (l : List ℕ) → Formed (10 ∷ l)
+      go [] = inr (fits 10 [] (omega arith) (omega arith) (no-named 10 0 (λ e. omega arith, λ e. omega arith, λ e. omega arith)) (no-alone 10 0 (λ e. omega arith, λ e. omega arith, λ e. omega arith, λ e. omega arith)) (λ _. refl), (switch, refl))
+      go (x ∷ more) = inl (inr (inr (inr (inr (refl, λ z. omega arith)))), refl)
+
+  unknown-formed : (kind : ℕ) → (kind < 1) ⊎ (10 < kind) → Formed (kind ∷ rest)
   unknown-formed kind (inl h) = inl (inl h, unknown kind rest (inl h))
   unknown-formed kind (inr h) = inl (inr (inl h), unknown kind rest (inr h))
 
@@ -145,8 +155,8 @@ module _ (rest : List ℕ) where
       go : Dec (kind < 1) → Formed (kind ∷ rest)
       go (yes h) = unknown-formed kind (inl h)
       go (no h) =
-          by 1 (omega arith) load-formed (λ a. by 2 a put-row-formed (λ b. by 3 b drop-formed (λ c. by 4 c fetch-record-formed (λ d. by 5 d fetch-row-formed (λ e.
-          by 6 e put-record-formed (λ f. by 7 f judge-formed (λ g. by 8 g repair-formed (λ h. by 9 h image-formed (λ i. unknown-formed kind (inr i))))))))))
+          by 1 (omega arith) stage-formed (λ a. by 2 a put-row-formed (λ b. by 3 b drop-formed (λ c. by 4 c fetch-record-formed (λ d. by 5 d fetch-row-formed (λ e.
+          by 6 e put-record-formed (λ f. by 7 f judge-formed (λ g. by 8 g repair-formed (λ h. by 9 h image-formed (λ i. by 10 i switch-formed (λ j. unknown-formed kind (inr j)))))))))))
 
 formed : (bytes : List ℕ) → Formed bytes
 formed [] = inl (tt, refl)

@@ -2,57 +2,44 @@
 use Prim.Native.Nat.{ℕ, _≤_}
 use native.Mathlib.Omega.{arith}
 use mathlib.Core.Path.{_≡_, refl, ap, subst, sym, _∙_}
-use mathlib.Core.Bool.{Bool, true, false, not, _&&_, cond, true≢false}
+use mathlib.Core.Bool.{true, cond}
 use mathlib.Core.List.{List, [], _∷_, _++_}
 use mathlib.Core.Option.{Option, none, some}
 use lib.Dec.{eqb, ltb}
 use lib.ListN.{length}
-use borrow.Author.Tests.{le-ltb, ltb-false, eq-eqb}
+use borrow.Author.Tests.{le-ltb, ltb-false}
 use Rattle.expression.specs.Refusal.{Check, first, accepted, short}
 use Rattle.expression.specs.Limits.{mostTokens, mostRecordBytes}
 use Rattle.expression.specs.Token.{Operators, class}
 use Rattle.expression.specs.Decode.{treeOf}
 use Rattle.expression.specs.Checks.{shortCheck, rowTokens, rowChecks, recordChecks, recordNumber, repairNumber}
 use Rattle.expression.proofs.Cond.{by-cond}
-use Rattle.expression.proofs.Numbers.{passed-first, record-numbered}
-use Rattle.disambiguation.specs.SheetChecks.{operatorsIn}
+use Rattle.expression.proofs.Numbers.{lacks, never, passed-first, record-numbered}
+use Rattle.disambiguation.specs.Rules.{L, R}
+use Rattle.disambiguation.specs.Verdict.{ruleChecks}
+use Rattle.disambiguation.specs.SheetChecks.{rulesIn, operatorsIn, orderChecks, sheetNumber}
+use Rattle.sheet.specs.Layout.{operatorsOf}
 use Rattle.places.specs.Store.{slotBytes, held}
 use Rattle.places.proofs.Laws.{held-length}
-use Rattle.monitor.specs.Call.{Call, load, putRow, putRecord, drop, ask, fetchRecord, fetchRow, image, repair}
-use Rattle.monitor.specs.Panel.{Panel, placeCheck, emptyCheck, inUseCheck, sheetChecks}
-use Rattle.monitor.specs.Steps.{ops, outcome, loadNumber, putRowNumber, putRecordNumber, dropNumber, fetchRecordNumber, fetchRowNumber, imageNumber}
+use Rattle.monitor.specs.Call.{Call, stage, switch, putRow, putRecord, drop, ask, fetchRecord, fetchRow, image, repair}
+use Rattle.monitor.specs.Panel.{Panel, placeCheck, emptyCheck, inUseCheck, stagedCheck}
+use Rattle.monitor.specs.Steps.{ops, outcome, switchNumber, putRowNumber, putRecordNumber, dropNumber, fetchRecordNumber, fetchRowNumber, imageNumber}
 use Rattle.monitor.specs.Book.{bookNumber}
 use Rattle.monitor.specs.Run.{panelAfter, bookAfter}
 use Rattle.monitor.proofs.Stands.{same-number}
 use Rattle.monitor.proofs.Histories.{stands}
 use Rattle.hexadecimal.specs.Text.{bytesOf}
-use Rattle.frame.specs.Frames.{mostAnswer, room, named, alone, callOf}
+use Rattle.frame.specs.Frames.{mostAnswer, room, named, alone, bare, callOf}
 use Rattle.frame.specs.Lines.{isLong, textCall, lineCall}
 use Rattle.frame.specs.Runs.{callsOf}
 use Rattle.frame.proofs.KindWays.{length-room}
 
--- none of the checks is 10
-abbrev plain : List Check → Bool
-plain [] = true
-plain (c ∷ cs) = not (eqb (c .1) short) && plain cs
-
--- Such checks give no 10, with others after them that give none where these are passed.
-no-short : (cs ds : List Check) → plain cs ≡ true → (first cs ≡ accepted → first ds ≡ short → ⊥) → first (cs ++ ds) ≡ short → ⊥
-no-short [] ds h f e = f refl e
-no-short (c ∷ cs) ds h f e = go (c .0) (eqb (c .1) short) refl (no-short cs ds) h f e
-  where
-    go : (b is : Bool) → eqb (c .1) short ≡ is → (plain cs ≡ true → (first cs ≡ accepted → first ds ≡ short → ⊥) → first (cs ++ ds) ≡ short → ⊥) → (not is && plain cs) ≡ true
-        → (cond b (c .1) (first cs) ≡ accepted → first ds ≡ short → ⊥) → cond b (c .1) (first (cs ++ ds)) ≡ short → ⊥
-    go b true q again h f e = absurd (true≢false (sym h))
-    go true false q again h f e = true≢false (sym (eq-eqb (c .1) short e) ∙ q)
-    go false false q again h f e = again h f e
-
-plain-only : (cs : List Check) → plain cs ≡ true → first (cs ++ []) ≡ short → ⊥
-plain-only cs h = no-short cs [] h (λ z e. omega arith)
+plain-only : (cs : List Check) → lacks short cs ≡ true → first (cs ++ []) ≡ short → ⊥
+plain-only cs h = never short cs [] h (λ z e. omega arith)
 
 -- 10 comes last, and not where the answer has room.
-roomy : (cs : List Check) (answer : ℕ) → plain cs ≡ true → (first cs ≡ accepted → answer ≤ mostAnswer) → first (cs ++ (shortCheck answer (length room) ∷ [])) ≡ short → ⊥
-roomy cs answer h f = no-short cs (shortCheck answer (length room) ∷ []) h (λ z e. fits (f z) e)
+roomy : (cs : List Check) (answer : ℕ) → lacks short cs ≡ true → (first cs ≡ accepted → answer ≤ mostAnswer) → first (cs ++ (shortCheck answer (length room) ∷ [])) ≡ short → ⊥
+roomy cs answer h f = never short cs (shortCheck answer (length room) ∷ []) h (λ z e. fits (f z) e)
   where
     fits : answer ≤ mostAnswer → cond (ltb (length room) answer) short accepted ≡ short → ⊥
     fits l e = let z : _≡_ {A = ℕ} 0 10 = ap (λ b. cond b 10 0) (sym (le-ltb (length room) answer (omega (arith, length-room)))) ∙ e in omega arith
@@ -71,10 +58,14 @@ module _ (p : Panel) where
   alone-fits call (x ∷ []) h = h x
   alone-fits call (x ∷ y ∷ l) h = tt
 
+  bare-fits : (call : Call) (rest : List ℕ) → Fits (some call) → Fits (bare call rest)
+  bare-fits call [] h = h
+  bare-fits call (x ∷ l) h = tt
+
   kind-fits : (kind : ℕ) (rest : List ℕ) → Fits (callOf kind rest)
-  unfolding callOf loadNumber putRowNumber putRecordNumber dropNumber fetchRecordNumber fetchRowNumber imageNumber recordNumber repairNumber
+  unfolding callOf sheetNumber switchNumber putRowNumber putRecordNumber dropNumber fetchRecordNumber fetchRowNumber imageNumber recordNumber repairNumber
   kind-fits kind rest =
-      by-cond Fits (eqb kind 1) (λ _. named-fits load rest (λ m l. plain-only (sheetChecks m l ++ (inUseCheck o (operatorsIn m l) at ∷ [])) refl)) (λ _.
+      by-cond Fits (eqb kind 1) (λ _. named-fits stage rest (λ m l. plain-only (orderChecks m l ++ ruleChecks (operatorsIn m l) (L (rulesIn m l)) (R (rulesIn m l))) refl)) (λ _.
       by-cond Fits (eqb kind 2) (λ _. named-fits putRow rest (λ k l. plain-only (placeCheck k ∷ rowChecks o l) refl)) (λ _.
       by-cond Fits (eqb kind 3) (λ _. alone-fits drop rest (λ k. plain-only (placeCheck k ∷ emptyCheck (at k) ∷ []) refl)) (λ _.
       by-cond Fits (eqb kind 4) (λ _. alone-fits (λ k. ask (fetchRecord k room)) rest record-fits) (λ _.
@@ -82,7 +73,8 @@ module _ (p : Panel) where
       by-cond Fits (eqb kind 6) (λ _. named-fits putRecord rest (λ k l. plain-only (placeCheck k ∷ recordChecks o l) refl)) (λ _.
       by-cond Fits (eqb kind 7) (λ _. plain-only (recordChecks o rest) refl) (λ _.
       by-cond Fits (eqb kind 8) (λ _. repair-fits) (λ _.
-      by-cond Fits (eqb kind 9) (λ _. alone-fits (λ k. ask (image k room)) rest (λ k. roomy (placeCheck k ∷ []) slotBytes refl (λ z. omega arith))) (λ _. tt)))))))))
+      by-cond Fits (eqb kind 9) (λ _. alone-fits (λ k. ask (image k room)) rest (λ k. roomy (placeCheck k ∷ []) slotBytes refl (λ z. omega arith))) (λ _.
+      by-cond Fits (eqb kind 10) (λ _. bare-fits switch rest (plain-only (stagedCheck (p .staged) ∷ inUseCheck o (operatorsOf (p .staged)) at ∷ []) refl)) (λ _. tt))))))))))
     where
       o : Operators
       o = ops p

@@ -7,7 +7,7 @@ use lib.Dec.{eqb}
 use lib.ListN.{replicate}
 use Rattle.expression.specs.Refusal.{frame}
 use Rattle.places.specs.Store.{slotBytes}
-use Rattle.monitor.specs.Call.{Question, Call, load, loadList, putRow, putRecord, drop, ask, fetchRecord, fetchRow, image, build, repair, judge, yield, operand, shortestRow}
+use Rattle.monitor.specs.Call.{Question, Call, stage, stageList, switch, putRow, putRecord, drop, ask, fetchRecord, fetchRow, image, build, repair, judge, yield, operand, shortestRow}
 use Rattle.monitor.specs.Panel.{Panel, ifAccepted}
 use Rattle.monitor.specs.Steps.{told, outcome, after}
 
@@ -30,10 +30,15 @@ alone call [] = none
 alone call (x ∷ []) = some (call x)
 alone call (x ∷ y ∷ rest) = none
 
+-- a call that has no byte after the kind
+abbrev pub bare : Call → List ℕ → Option Call
+bare call [] = some call
+bare call (x ∷ rest) = none
+
 -- the call of a kind and the bytes after it
 unfoldable pub callOf : ℕ → List ℕ → Option Call
 callOf kind rest =
-    cond (eqb kind 1) (named load rest)
+    cond (eqb kind 1) (named stage rest)
     (cond (eqb kind 2) (named putRow rest)
     (cond (eqb kind 3) (alone drop rest)
     (cond (eqb kind 4) (alone (λ k. ask (fetchRecord k room)) rest)
@@ -41,7 +46,8 @@ callOf kind rest =
     (cond (eqb kind 6) (named putRecord rest)
     (cond (eqb kind 7) (some (ask (judge rest)))
     (cond (eqb kind 8) (some (ask (repair rest room)))
-    (cond (eqb kind 9) (alone (λ k. ask (image k room)) rest) none))))))))
+    (cond (eqb kind 9) (alone (λ k. ask (image k room)) rest)
+    (cond (eqb kind 10) (bare switch rest) none)))))))))
 
 -- the call of a frame
 abbrev pub frameCall : List ℕ → Option Call
@@ -62,8 +68,9 @@ module _ (p : Panel) where
   toldBytes (shortestRow bytes out) = told p (shortestRow bytes out) .answer
 
   abbrev pub answerOf : Call → List ℕ
-  answerOf (load n bytes) = []
-  answerOf (loadList n kinds rules) = []
+  answerOf (stage n bytes) = []
+  answerOf (stageList n kinds rules) = []
+  answerOf switch = []
   answerOf (putRow k row) = []
   answerOf (putRecord k bytes) = []
   answerOf (drop k) = []

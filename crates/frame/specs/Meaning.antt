@@ -18,14 +18,15 @@ use Rattle.frame.specs.Lines.{mostCharacters, lineCall}
 abbrev pub NoPairs : List ℕ → Type 0
 NoPairs line = (length line % 2 ≡ 0 → ⊥) ⊎ SomeOf (λ c. isDigit c ≡ false) line
 
--- Bytes that are no frame: no kind, or an unknown one; 01, 02 and 06 without the byte after the kind; 03, 04, 05 and 09 with more or fewer than that byte.
+-- Bytes that are no frame: no kind, or an unknown one; 01, 02 and 06 without the byte after the kind; 03, 04, 05 and 09 with more or fewer than that byte; 0A with any.
 abbrev pub NoFrame : List ℕ → Type 0
 NoFrame [] = Unit {0}
 NoFrame (kind ∷ rest) =
     (kind < 1)
-    ⊎ (9 < kind)
+    ⊎ (10 < kind)
     ⊎ (((kind ≡ 1) ⊎ (kind ≡ 2) ⊎ (kind ≡ 6)) × (length rest ≡ 0))
     ⊎ (((kind ≡ 3) ⊎ (kind ≡ 4) ⊎ (kind ≡ 5) ⊎ (kind ≡ 9)) × (length rest ≡ 1 → ⊥))
+    ⊎ ((kind ≡ 10) × (length rest ≡ 0 → ⊥))
 
 -- the number of the line's call
 abbrev pub OfCall : Book → List ℕ → ℕ → Type 0

@@ -7,7 +7,7 @@ use mathlib.Core.Option.{Option, none, some}
 use Rattle.expression.specs.Refusal.{accepted, oversize, frame}
 use Rattle.expression.specs.Tree.{Tree}
 use Rattle.disambiguation.specs.Conflicts.{conflictCount}
-use Rattle.monitor.specs.Call.{Question, Call, load, loadList, putRow, putRecord, drop, ask, fetchRecord, fetchRow, image, build, repair, judge, yield, operand, shortestRow}
+use Rattle.monitor.specs.Call.{Question, Call, stage, stageList, switch, putRow, putRecord, drop, ask, fetchRecord, fetchRow, image, build, repair, judge, yield, operand, shortestRow}
 use Rattle.monitor.specs.Panel.{Panel, fresh}
 use Rattle.monitor.specs.Book.{Book, bookNumber}
 use Rattle.monitor.specs.Run.{bookAfter, Each}
@@ -46,8 +46,9 @@ module _ (b : Book) where
 
   -- and to any call
   abbrev pub Said : Call → List ℕ → Type 0
-  Said (load n bytes) answer = answer ≡ []
-  Said (loadList n kinds rules) answer = answer ≡ []
+  Said (stage n bytes) answer = answer ≡ []
+  Said (stageList n kinds rules) answer = answer ≡ []
+  Said switch answer = answer ≡ []
   Said (putRow k row) answer = answer ≡ []
   Said (putRecord k bytes) answer = answer ≡ []
   Said (drop k) answer = answer ≡ []

@@ -11,7 +11,7 @@ use record::Judgement;
 use sheet::layout::SHEET_WORDS;
 
 // The kinds of frames.
-const LOAD: u8 = 1;
+const STAGE: u8 = 1;
 
 const PUT_ROW: u8 = 2;
 
@@ -28,6 +28,8 @@ const JUDGE: u8 = 7;
 const REPAIR: u8 = 8;
 
 const IMAGE: u8 = 9;
+
+const SWITCH: u8 = 10;
 
 // A number without an answer.
 fn numbered(number: u8) -> Answer
@@ -65,13 +67,14 @@ fn wide(byte: u8) -> u32
 // The call of a kind and of the bytes after it.
 fn run_kind(
     sheet: &mut [u32; SHEET_WORDS],
+    staged: &mut [u32; SHEET_WORDS],
     places: &mut [u8; STORE_BYTES],
     kind: u8,
     rest: &[u8],
     answer: &mut [u8],
 ) -> Answer
     requires { ⌜ length (now answer) ≡ mostAnswer ⌝ }
-    ensures { λ r. ⌜ Tells (panel (now (sheet .entry)) (now (places .entry))) (callOf kind (now (rest .entry))) (now (answer .entry)) (now (answer .exit)) (panel (now (sheet .exit)) (now (places .exit))) r ⌝ }
+    ensures { λ r. ⌜ Tells (panel (now (sheet .entry)) (now (staged .entry)) (now (places .entry))) (callOf kind (now (rest .entry))) (now (answer .entry)) (now (answer .exit)) (panel (now (sheet .exit)) (now (staged .exit)) (now (places .exit))) r ⌝ }
 {
     if kind == JUDGE {
         let j = monitor::judge(sheet, rest);
@@ -82,11 +85,15 @@ fn run_kind(
     }
     let length = rest.len();
     if length == 0 {
+        if kind == SWITCH {
+            let number = monitor::switch(sheet, staged, places);
+            return numbered(number);
+        }
         return numbered(refusal::FRAME);
     }
     let named = wide(rest[0]);
-    if kind == LOAD {
-        let number = monitor::load(sheet, places, named, &rest[1..length]);
+    if kind == STAGE {
+        let number = monitor::stage(staged, named, &rest[1..length]);
         return numbered(number);
     }
     if kind == PUT_ROW {
@@ -119,16 +126,17 @@ fn run_kind(
 // The call of a frame: its first byte is the kind.
 pub fn run_frame(
     sheet: &mut [u32; SHEET_WORDS],
+    staged: &mut [u32; SHEET_WORDS],
     places: &mut [u8; STORE_BYTES],
     frame: &[u8],
     answer: &mut [u8],
 ) -> Answer
     requires { ⌜ length (now answer) ≡ mostAnswer ⌝ }
-    ensures { λ r. ⌜ Tells (panel (now (sheet .entry)) (now (places .entry))) (frameCall (now (frame .entry))) (now (answer .entry)) (now (answer .exit)) (panel (now (sheet .exit)) (now (places .exit))) r ⌝ }
+    ensures { λ r. ⌜ Tells (panel (now (sheet .entry)) (now (staged .entry)) (now (places .entry))) (frameCall (now (frame .entry))) (now (answer .entry)) (now (answer .exit)) (panel (now (sheet .exit)) (now (staged .exit)) (now (places .exit))) r ⌝ }
 {
     let length = frame.len();
     if length == 0 {
         return numbered(refusal::FRAME);
     }
-    run_kind(sheet, places, frame[0], &frame[1..length], answer)
+    run_kind(sheet, staged, places, frame[0], &frame[1..length], answer)
 }

@@ -40,6 +40,7 @@ fn write_number(number: u8, out: &mut [u8]) -> usize
 // The reply to a line whose bytes the lent buffer has room for.
 fn reply_by(
     sheet: &mut [u32; SHEET_WORDS],
+    staged: &mut [u32; SHEET_WORDS],
     places: &mut [u8; STORE_BYTES],
     line: &[u8],
     frame: &mut [u8],
@@ -47,14 +48,14 @@ fn reply_by(
     out: &mut [u8],
 ) -> usize
     requires { ⌜ (length (now line) ≤ mostCharacters) × (length (now line) ≤ length (now frame) * 2) × (length (now answer) ≡ mostAnswer) × (mostReply ≤ length (now out)) ⌝ }
-    ensures { λ r. ⌜ Replies (panel (now (sheet .entry)) (now (places .entry))) (now (line .entry)) (now (out .entry)) (now (out .exit)) (panel (now (sheet .exit)) (now (places .exit))) r ⌝ }
+    ensures { λ r. ⌜ Replies (panel (now (sheet .entry)) (now (staged .entry)) (now (places .entry))) (now (line .entry)) (now (out .entry)) (now (out .exit)) (panel (now (sheet .exit)) (now (staged .exit)) (now (places .exit))) r ⌝ }
 {
     let decoded = hexadecimal::decode(line, frame);
     let to = decoded.length;
     if !decoded.ok {
         return write_number(refusal::FRAME, out);
     }
-    let told = kinds::run_frame(sheet, places, &frame[0..to], answer);
+    let told = kinds::run_frame(sheet, staged, places, &frame[0..to], answer);
     let until = told.length;
     write_reply(told.number, &answer[0..until], out)
 }
@@ -62,47 +63,50 @@ fn reply_by(
 // A line of at most SHORT_LINE characters.
 fn reply_short(
     sheet: &mut [u32; SHEET_WORDS],
+    staged: &mut [u32; SHEET_WORDS],
     places: &mut [u8; STORE_BYTES],
     line: &[u8],
     out: &mut [u8],
 ) -> usize
     requires { ⌜ (length (now line) ≤ shortLine) × (mostReply ≤ length (now out)) ⌝ }
-    ensures { λ r. ⌜ Replies (panel (now (sheet .entry)) (now (places .entry))) (now (line .entry)) (now (out .entry)) (now (out .exit)) (panel (now (sheet .exit)) (now (places .exit))) r ⌝ }
+    ensures { λ r. ⌜ Replies (panel (now (sheet .entry)) (now (staged .entry)) (now (places .entry))) (now (line .entry)) (now (out .entry)) (now (out .exit)) (panel (now (sheet .exit)) (now (staged .exit)) (now (places .exit))) r ⌝ }
 {
     let mut frame = [0u8; limits::SHORT_FRAME];
     let mut answer = [0u8; limits::MOST_ANSWER];
-    reply_by(sheet, places, line, &mut frame, &mut answer, out)
+    reply_by(sheet, staged, places, line, &mut frame, &mut answer, out)
 }
 
 // A longer line, within the limit.
 fn reply_long(
     sheet: &mut [u32; SHEET_WORDS],
+    staged: &mut [u32; SHEET_WORDS],
     places: &mut [u8; STORE_BYTES],
     line: &[u8],
     out: &mut [u8],
 ) -> usize
     requires { ⌜ (length (now line) ≤ mostCharacters) × (mostReply ≤ length (now out)) ⌝ }
-    ensures { λ r. ⌜ Replies (panel (now (sheet .entry)) (now (places .entry))) (now (line .entry)) (now (out .entry)) (now (out .exit)) (panel (now (sheet .exit)) (now (places .exit))) r ⌝ }
+    ensures { λ r. ⌜ Replies (panel (now (sheet .entry)) (now (staged .entry)) (now (places .entry))) (now (line .entry)) (now (out .entry)) (now (out .exit)) (panel (now (sheet .exit)) (now (staged .exit)) (now (places .exit))) r ⌝ }
 {
     let mut frame = [0u8; limits::MOST_FRAME];
     let mut answer = [0u8; limits::MOST_ANSWER];
-    reply_by(sheet, places, line, &mut frame, &mut answer, out)
+    reply_by(sheet, staged, places, line, &mut frame, &mut answer, out)
 }
 
 // The reply to a line, without line end, at the front of `out`, which has room for the longest; how many characters it has.
 pub fn reply(
     sheet: &mut [u32; SHEET_WORDS],
+    staged: &mut [u32; SHEET_WORDS],
     places: &mut [u8; STORE_BYTES],
     line: &[u8],
     out: &mut [u8; MOST_REPLY],
 ) -> usize
-    ensures { λ r. ⌜ Replies (panel (now (sheet .entry)) (now (places .entry))) (now (line .entry)) (now (out .entry)) (now (out .exit)) (panel (now (sheet .exit)) (now (places .exit))) r ⌝ }
+    ensures { λ r. ⌜ Replies (panel (now (sheet .entry)) (now (staged .entry)) (now (places .entry))) (now (line .entry)) (now (out .entry)) (now (out .exit)) (panel (now (sheet .exit)) (now (staged .exit)) (now (places .exit))) r ⌝ }
 {
     if limits::MOST_CHARACTERS < line.len() {
         return write_number(refusal::OVERSIZE, out);
     }
     if line.len() <= limits::SHORT_LINE {
-        return reply_short(sheet, places, line, out);
+        return reply_short(sheet, staged, places, line, out);
     }
-    reply_long(sheet, places, line, out)
+    reply_long(sheet, staged, places, line, out)
 }

@@ -26,7 +26,7 @@ use Rattle.places.proofs.Laws.{held-length}
 use Rattle.monitor.specs.Call.{Question, lentBefore, fetchRecord, fetchRow, image, build, repair, yield, shortestRow}
 use Rattle.monitor.specs.Panel.{Panel, panel, isEmpty}
 use Rattle.monitor.specs.Steps.{fetchRecordNumber, fetchRowNumber, imageNumber, told}
-use Rattle.monitor.specs.Contracts.{AnswersInto, AnswersUnder, AnswersFrom, Judges}
+use Rattle.monitor.specs.Contracts.{AnswersInto, AnswersOn, AnswersUnder, AnswersFrom, Judges}
 
 -- ---- a place is empty, or not
 pub empty-true : (bytes : List ℕ) → length bytes ≡ 0 → isEmpty bytes ≡ true
@@ -57,40 +57,40 @@ module _ (p : Panel) (q : Question) where
 -- ---- build, repair, yield, the shortest row: what the lower crates promise is the run's answer
 module _ (sheet : List ℕ) {bytes before later : List ℕ} {r : Answer} where
   pub build-answered : AnswersBuild sheet bytes before later r → AnswersUnder sheet (build bytes before) r later
-  build-answered a = record { answers = λ places. as-told (panel sheet places) (build bytes before) _ _ refl refl (a .numbered) (a .measured) (a .output) }
+  build-answered a = record { answers = λ staged places. as-told (panel sheet staged places) (build bytes before) _ _ refl refl (a .numbered) (a .measured) (a .output) }
 
   pub repair-answered : AnswersRepair sheet bytes before later r → AnswersUnder sheet (repair bytes before) r later
-  repair-answered a = record { answers = λ places. as-told (panel sheet places) (repair bytes before) _ _ refl refl (a .numbered) (a .measured) (a .output) }
+  repair-answered a = record { answers = λ staged places. as-told (panel sheet staged places) (repair bytes before) _ _ refl refl (a .numbered) (a .measured) (a .output) }
 
   pub yield-answered : Yields (operatorsOf sheet) bytes before later r → AnswersUnder sheet (yield bytes before) r later
-  yield-answered a = record { answers = λ places. as-told (panel sheet places) (yield bytes before) _ _ refl refl (a .numbered) (a .measured) (a .output) }
+  yield-answered a = record { answers = λ staged places. as-told (panel sheet staged places) (yield bytes before) _ _ refl refl (a .numbered) (a .measured) (a .output) }
 
   pub shortest-answered : AnswersShortest sheet bytes before later r → AnswersUnder sheet (shortestRow bytes before) r later
-  shortest-answered a = record { answers = λ places. as-told (panel sheet places) (shortestRow bytes before) _ _ refl refl (a .numbered) (a .measured) (a .output) }
+  shortest-answered a = record { answers = λ staged places. as-told (panel sheet staged places) (shortestRow bytes before) _ _ refl refl (a .numbered) (a .measured) (a .output) }
 
 pub ruleset under-sheet-ways = (build-answered, repair-answered, yield-answered, shortest-answered, needs)
 
 -- ---- judge
 pub judged : (sheet bytes : List ℕ) {r : Judgement} → r ≡ judgement sheet bytes → Judges sheet bytes r
 unfolding judgement
-judged sheet bytes e = record { numbered = λ places. ap (λ (j : Judgement). j .number) e; counted = λ places. ap (λ (j : Judgement). j .count) e }
+judged sheet bytes e = record { numbered = λ staged places. ap (λ (j : Judgement). j .number) e; counted = λ staged places. ap (λ (j : Judgement). j .count) e }
 
 pub ruleset judge-ways = (judged, needs)
 
 -- ---- fetch_record
 module _ (places : List ℕ) (k : ℕ) (out : List ℕ) where
-  record-refused : (number : ℕ) → ((sheet : List ℕ) → number ≡ fetchRecordNumber (panel sheet places) k (length out)) → (number ≡ 0 → ⊥)
+  record-refused : (number : ℕ) → ((sheet staged : List ℕ) → number ≡ fetchRecordNumber (panel sheet staged places) k (length out)) → (number ≡ 0 → ⊥)
       → AnswersFrom places (fetchRecord k out) (record { number = number; length = 0 }) out
-  record-refused number e h = record { answers = λ sheet. refused (panel sheet places) (fetchRecord k out) number (e sheet) h }
+  record-refused number e h = record { answers = λ sheet staged. refused (panel sheet staged places) (fetchRecord k out) number (e sheet staged) h }
 
   pub record-over : placeCount ≤ k → AnswersFrom places (fetchRecord k out) (record { number = 8; length = 0 }) out
   unfolding fetchRecordNumber
-  record-over h = record-refused 8 (λ sheet. simp (le-ltb k placeCount h)) (λ e. omega arith)
+  record-over h = record-refused 8 (λ sheet staged. simp (le-ltb k placeCount h)) (λ e. omega arith)
 
   module _ (h : k < placeCount) {bytes : List ℕ} (e : bytes ≡ held places k) where
     pub record-none : length bytes ≡ 0 → AnswersFrom places (fetchRecord k out) (record { number = 9; length = 0 }) out
     unfolding fetchRecordNumber
-    record-none z = record-refused 9 (λ sheet. simp (lt-ltb k placeCount h, empty-true (held places k) (ap length (sym e) ∙ z))) (λ e. omega arith)
+    record-none z = record-refused 9 (λ sheet staged. simp (lt-ltb k placeCount h, empty-true (held places k) (ap length (sym e) ∙ z))) (λ e. omega arith)
 
     module _ (n : length bytes ≡ 0 → ⊥) where
       some-held : isEmpty (held places k) ≡ false
@@ -99,7 +99,7 @@ module _ (places : List ℕ) (k : ℕ) (out : List ℕ) where
       pub record-short : length out < length bytes → AnswersFrom places (fetchRecord k out) (record { number = 10; length = 0 }) out
       unfolding fetchRecordNumber
       record-short l =
-          record-refused 10 (λ sheet. simp (lt-ltb k placeCount h, some-held, lt-ltb (length out) (length (held places k)) (omega (arith, ap length e)))) (λ e. omega arith)
+          record-refused 10 (λ sheet staged. simp (lt-ltb k placeCount h, some-held, lt-ltb (length out) (length (held places k)) (omega (arith, ap length e)))) (λ e. omega arith)
 
       pub record-done : {later : List ℕ} → length bytes ≤ length out → later ≡ take (length bytes) bytes ++ drop (length bytes) out
           → AnswersFrom places (fetchRecord k out) (record { number = 0; length = length bytes }) later
@@ -107,8 +107,8 @@ module _ (places : List ℕ) (k : ℕ) (out : List ℕ) where
       record-done {later} l a =
           let front : later ≡ held places k ++ drop (length (held places k)) out = a ∙ ap₂ _++_ (take-all (length bytes) bytes (omega arith) ∙ e) (ap (λ x. drop (length x) out) e) in
           record {
-            answers = λ sheet.
-                done (panel sheet places) (fetchRecord k out) (simp (lt-ltb k placeCount h, some-held, le-ltb (length out) (length (held places k)) (omega (arith, ap length e))))
+            answers = λ sheet staged.
+                done (panel sheet staged places) (fetchRecord k out) (simp (lt-ltb k placeCount h, some-held, le-ltb (length out) (length (held places k)) (omega (arith, ap length e))))
                 (ap length e) front;
           }
 
@@ -116,40 +116,45 @@ pub ruleset fetch-record-ways = (record-over, record-none, record-short, record-
 
 -- ---- fetch_row
 module _ (sheet places : List ℕ) (k : ℕ) (out : List ℕ) where
-  pub row-over : placeCount ≤ k → AnswersInto (panel sheet places) (fetchRow k out) (record { number = 8; length = 0 }) out
+  pub row-over : placeCount ≤ k → AnswersOn sheet places (fetchRow k out) (record { number = 8; length = 0 }) out
   unfolding fetchRowNumber
-  row-over h = refused (panel sheet places) (fetchRow k out) 8 (simp (le-ltb k placeCount h)) (λ e. omega arith)
+  row-over h = record { answers = λ staged. refused (panel sheet staged places) (fetchRow k out) 8 (simp (le-ltb k placeCount h)) (λ e. omega arith) }
 
   module _ (h : k < placeCount) {bytes : List ℕ} (e : bytes ≡ held places k) where
-    pub row-none : length bytes ≡ 0 → AnswersInto (panel sheet places) (fetchRow k out) (record { number = 9; length = 0 }) out
+    pub row-none : length bytes ≡ 0 → AnswersOn sheet places (fetchRow k out) (record { number = 9; length = 0 }) out
     unfolding fetchRowNumber
     row-none z =
-        refused (panel sheet places) (fetchRow k out) 9 (simp (lt-ltb k placeCount h, empty-true (held places k) (ap length (sym e) ∙ z))) (λ e. omega arith)
+        record {
+          answers = λ staged. refused (panel sheet staged places) (fetchRow k out) 9 (simp (lt-ltb k placeCount h, empty-true (held places k) (ap length (sym e) ∙ z))) (λ e. omega arith);
+        }
 
-    pub row-yielded : {later : List ℕ} {r : Answer} → (length bytes ≡ 0 → ⊥) → Yields (operatorsOf sheet) bytes out later r → AnswersInto (panel sheet places) (fetchRow k out) r later
+    pub row-yielded : {later : List ℕ} {r : Answer} → (length bytes ≡ 0 → ⊥) → Yields (operatorsOf sheet) bytes out later r → AnswersOn sheet places (fetchRow k out) r later
     unfolding fetchRowNumber yieldNumber
     row-yielded n y =
-        let due : yieldNumber (operatorsOf sheet) (held places k) (length out) ≡ fetchRowNumber (panel sheet places) k (length out) =
-        simp (lt-ltb k placeCount h, empty-false (held places k) (λ z. n (ap length e ∙ z))) in
-        as-told (panel sheet places) (fetchRow k out) (yieldNumber (operatorsOf sheet) bytes (length out)) (rowOf (treeOf (class (operatorsOf sheet)) bytes))
-        (ap (λ b. yieldNumber (operatorsOf sheet) b (length out)) e ∙ due)
-        (ap (λ b. rowOf (treeOf (class (operatorsOf sheet)) b)) e) (y .numbered) (y .measured) (y .output)
+        record {
+          answers = λ staged.
+              let due : yieldNumber (operatorsOf sheet) (held places k) (length out) ≡ fetchRowNumber (panel sheet staged places) k (length out) =
+              simp (lt-ltb k placeCount h, empty-false (held places k) (λ z. n (ap length e ∙ z))) in
+              as-told (panel sheet staged places) (fetchRow k out) (yieldNumber (operatorsOf sheet) bytes (length out)) (rowOf (treeOf (class (operatorsOf sheet)) bytes))
+              (ap (λ b. yieldNumber (operatorsOf sheet) b (length out)) e ∙ due)
+              (ap (λ b. rowOf (treeOf (class (operatorsOf sheet)) b)) e) (y .numbered) (y .measured) (y .output);
+        }
 
 pub ruleset fetch-row-ways = (row-over, row-none, row-yielded, needs)
 
 -- ---- image
 module _ (places : List ℕ) (k : ℕ) (out : List ℕ) where
-  image-refused : (number : ℕ) → ((sheet : List ℕ) → number ≡ imageNumber (panel sheet places) k (length out)) → (number ≡ 0 → ⊥)
+  image-refused : (number : ℕ) → ((sheet staged : List ℕ) → number ≡ imageNumber (panel sheet staged places) k (length out)) → (number ≡ 0 → ⊥)
       → AnswersFrom places (image k out) (record { number = number; length = 0 }) out
-  image-refused number e h = record { answers = λ sheet. refused (panel sheet places) (image k out) number (e sheet) h }
+  image-refused number e h = record { answers = λ sheet staged. refused (panel sheet staged places) (image k out) number (e sheet staged) h }
 
   pub image-over : placeCount ≤ k → AnswersFrom places (image k out) (record { number = 8; length = 0 }) out
   unfolding imageNumber
-  image-over h = image-refused 8 (λ sheet. simp (le-ltb k placeCount h)) (λ e. omega arith)
+  image-over h = image-refused 8 (λ sheet staged. simp (le-ltb k placeCount h)) (λ e. omega arith)
 
   pub image-short : k < placeCount → length out < slotBytes → AnswersFrom places (image k out) (record { number = 10; length = 0 }) out
   unfolding imageNumber
-  image-short h l = image-refused 10 (λ sheet. simp (lt-ltb k placeCount h, lt-ltb (length out) slotBytes l)) (λ e. omega arith)
+  image-short h l = image-refused 10 (λ sheet staged. simp (lt-ltb k placeCount h, lt-ltb (length out) slotBytes l)) (λ e. omega arith)
 
   pub image-done : {later : List ℕ} → k < placeCount → slotBytes ≤ length out → later ≡ drawn (imageOf (held places k)) out
       → AnswersFrom places (image k out) (record { number = 0; length = slotBytes }) later
@@ -157,8 +162,8 @@ module _ (places : List ℕ) (k : ℕ) (out : List ℕ) where
   image-done {later} h l a =
       let front : later ≡ imageOf (held places k) ++ drop (length (imageOf (held places k))) out = a ∙ rw (le-ltb (length out) slotBytes l) in
       record {
-        answers = λ sheet.
-            done (panel sheet places) (image k out) (simp (lt-ltb k placeCount h, le-ltb (length out) slotBytes l))
+        answers = λ sheet staged.
+            done (panel sheet staged places) (image k out) (simp (lt-ltb k placeCount h, le-ltb (length out) slotBytes l))
             (sym (length-image (held places k) (held-length places k))) front;
       }
 

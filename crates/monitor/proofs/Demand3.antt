@@ -1,7 +1,6 @@
 -- Demand 3 holds of every list of calls from the fresh panel. Assumes nothing.
 use Prim.Native.Nat.{ℕ, _≤_}
 use native.Mathlib.Omega.{arith}
-use native.Mathlib.Decide.{ℕ-discrete}
 use mathlib.Core.Path.{_≡_, refl, ap, sym, subst, _∙_}
 use mathlib.Core.Bool.{Bool, true, false, not, _&&_, cond}
 use mathlib.Core.Logic.{_↔_, _⊎_, inl, inr}
@@ -19,7 +18,6 @@ use Rattle.expression.specs.Operand.{rowOf}
 use Rattle.expression.specs.Checks.{recordNumber}
 use Rattle.expression.proofs.Classes.{brackets}
 use Rattle.expression.proofs.RecordsAndTrees.{treeOf-record}
-use Rattle.expression.proofs.Numbers.{first-refused, first-append, passed-first}
 use Rattle.disambiguation.specs.Rules.{Rule, L, R}
 use Rattle.disambiguation.specs.ExactlyOne.{SomeRowHasNone, SomeRowHasTwo}
 use Rattle.disambiguation.specs.Verdict.{safe, total, level, verdict}
@@ -29,23 +27,20 @@ use Rattle.disambiguation.proofs.SheetNumbers.{sheetNumber-verdict, sheet-dead-
 use Rattle.sheet.specs.Relation.{closesIn}
 use Rattle.parser.specs.Build.{built}
 use Rattle.parser.proofs.InForceBuilds.{built-equal-exactly-if, built-keeps-length}
-use Rattle.places.specs.Store.{held}
-use Rattle.monitor.specs.Call.{Call, Reply, load, loadList, putRecord, repair}
-use Rattle.monitor.specs.Panel.{inUseCheck, sheetChecks, rebuilt}
-use Rattle.monitor.specs.Steps.{loadNumber}
-use Rattle.monitor.specs.Steps as steps
+use Rattle.monitor.specs.Call.{Call, Reply, stage, stageList, putRecord, repair}
+use Rattle.monitor.specs.Panel.{rebuilt}
 use Rattle.monitor.specs.Answers.{Answers}
 use Rattle.monitor.specs.Run.{panelAfter, answer, bookAfter, lastPut, Each, RepairsTo}
 use Rattle.monitor.specs.Meaning.{Means}
 use Rattle.monitor.specs.Promises.{Within, ForItsRules, Demand3}
 use Rattle.monitor.proofs.Replies.{answers}
-use Rattle.monitor.proofs.ListLoads.{sheet-numbered, as-many-in-order, list-load}
+use Rattle.monitor.proofs.ListSheets.{as-many-in-order, list-same}
 use Rattle.monitor.proofs.Histories.{stands, book-in-force, book-slot}
 use Rattle.monitor.proofs.Placed.{ops, rules, same-ops, same-rules, sheet-in-force, exactly-one, within-accepted, answered-by, repair-accepted}
 use Rattle.monitor.proofs.MeaningsBook.{means}
 use Rattle.monitor.proofs.Filling.{holds-last-put, filled-exactly-if-put}
 use Rattle.monitor.proofs.OneAnswer.{answers-same}
-use Rattle.monitor.proofs.SameLengths.{load-keeps-lengths}
+use Rattle.monitor.proofs.SameLengths.{switch-keeps-lengths}
 
 -- a verdict is 4, 5 or 0
 verdict-values : (m : Operators) (given : List Rule) → ForItsRules (verdict m given) ⊎ (verdict m given ≡ accepted)
@@ -88,32 +83,12 @@ module _ (cs : List Call) where
     abbrev newRules : List Rule
     newRules = rulesIn m bytes
 
-    load-number : (sheetNumber m bytes ≡ accepted → ⊥) → answer cs (load m bytes) .number ≡ sheetNumber m bytes
-    unfolding loadNumber sheetNumber
-    load-number h = first-refused (sheetChecks m bytes) (inUseCheck (steps.ops (panelAfter cs)) new (held (panelAfter cs .places)) ∷ []) h
-
-    -- with 0 for the sheet, the load's number is 0 or 11
-    load-accepted : sheetNumber m bytes ≡ accepted → ForItsRules (answer cs (load m bytes) .number) → ⊥
-    unfolding loadNumber sheetNumber
-    load-accepted e f = go ((inUseCheck (steps.ops (panelAfter cs)) new (held (panelAfter cs .places))) .0) (first-append (sheetChecks m bytes) (inUseCheck (steps.ops (panelAfter cs)) new (held (panelAfter cs .places)) ∷ []) (passed-first (sheetChecks m bytes) (sheet-numbered m bytes) e)) f
+    refused-exactly-if : ForItsRules (answer cs (stage m bytes) .number) ↔ (SomeRowHasNone new newRules ⊎ SomeRowHasTwo new newRules)
+    refused-exactly-if = (to, from)
       where
-        go : (x : Bool) → answer cs (load m bytes) .number ≡ cond x 11 0 → ForItsRules (answer cs (load m bytes) .number) → ⊥
-        go true q (inl g) = omega arith
-        go true q (inr g) = omega arith
-        go false q (inl g) = omega arith
-        go false q (inr g) = omega arith
-
-    refused-exactly-if : ForItsRules (answer cs (load m bytes) .number) ↔ (SomeRowHasNone new newRules ⊎ SomeRowHasTwo new newRules)
-    refused-exactly-if = (λ f. to f (ℕ-discrete (sheetNumber m bytes) 0), from)
-      where
-        to : ForItsRules (answer cs (load m bytes) .number) → Dec (sheetNumber m bytes ≡ 0) → SomeRowHasNone new newRules ⊎ SomeRowHasTwo new newRules
-        to f (yes e) = absurd (load-accepted e f)
-        to (inl f) (no h) = inl (sheet-dead-exactly-if m bytes order .0 (sym (load-number h) ∙ f))
-        to (inr f) (no h) = inr (sheet-double-exactly-if m bytes order .0 (sym (load-number h) ∙ f) .1)
-
-        as-load : ForItsRules (sheetNumber m bytes) → ForItsRules (answer cs (load m bytes) .number)
-        as-load (inl e) = inl (load-number (λ z. omega arith) ∙ e)
-        as-load (inr e) = inr (load-number (λ z. omega arith) ∙ e)
+        to : ForItsRules (sheetNumber m bytes) → SomeRowHasNone new newRules ⊎ SomeRowHasTwo new newRules
+        to (inl f) = inl (sheet-dead-exactly-if m bytes order .0 f)
+        to (inr f) = inr (sheet-double-exactly-if m bytes order .0 f .1)
 
         not-accepted : (sheetNumber m bytes ≡ accepted → ⊥) → ForItsRules (sheetNumber m bytes)
         not-accepted h = go (verdict-values new newRules)
@@ -122,19 +97,19 @@ module _ (cs : List Call) where
             go (inl f) = rw (sheetNumber-verdict m bytes order) f
             go (inr e) = absurd (h (sheetNumber-verdict m bytes order ∙ e))
 
-        from : SomeRowHasNone new newRules ⊎ SomeRowHasTwo new newRules → ForItsRules (answer cs (load m bytes) .number)
-        from (inl f) = as-load (inl (sheet-dead-exactly-if m bytes order .1 f))
+        from : SomeRowHasNone new newRules ⊎ SomeRowHasTwo new newRules → ForItsRules (sheetNumber m bytes)
+        from (inl f) = inl (sheet-dead-exactly-if m bytes order .1 f)
         from (inr (row, r, (t, u, ht, hu, different))) =
-            as-load (not-accepted (λ e. let (v, hv, only) = sheet-accepted-exactly-if m bytes order .0 e row r in different (only t ht ∙ sym (only u hu))))
+            not-accepted (λ e. let (v, hv, only) = sheet-accepted-exactly-if m bytes order .0 e row r in different (only t ht ∙ sym (only u hu)))
 
   -- the same with lists
   refused-list-exactly-if : (m : ℕ) (kinds : List ℕ) (given : List Rule) → ListInOrder m kinds given
-      → ForItsRules (answer cs (loadList m kinds given) .number) ↔ (SomeRowHasNone (operators m kinds) given ⊎ SomeRowHasTwo (operators m kinds) given)
+      → ForItsRules (answer cs (stageList m kinds given) .number) ↔ (SomeRowHasNone (operators m kinds) given ⊎ SomeRowHasTwo (operators m kinds) given)
   refused-list-exactly-if m kinds given order =
       let as-many = as-many-in-order m kinds given order in
-      subst (λ (number : ℕ). ForItsRules number ↔ (SomeRowHasNone (operators m kinds) given ⊎ SomeRowHasTwo (operators m kinds) given)) (list-load m kinds given as-many (panelAfter cs))
-      (subst (λ (rs : List Rule). ForItsRules (answer cs (load m (kinds ++ ruleBytes given)) .number) ↔ (SomeRowHasNone (operators m kinds) rs ⊎ SomeRowHasTwo (operators m kinds) rs)) (rules-in m kinds given as-many)
-      (subst (λ (ks : List ℕ). ForItsRules (answer cs (load m (kinds ++ ruleBytes given)) .number)
+      subst (λ (number : ℕ). ForItsRules number ↔ (SomeRowHasNone (operators m kinds) given ⊎ SomeRowHasTwo (operators m kinds) given)) (list-same m kinds given as-many)
+      (subst (λ (rs : List Rule). ForItsRules (sheetNumber m (kinds ++ ruleBytes given)) ↔ (SomeRowHasNone (operators m kinds) rs ⊎ SomeRowHasTwo (operators m kinds) rs)) (rules-in m kinds given as-many)
+      (subst (λ (ks : List ℕ). ForItsRules (sheetNumber m (kinds ++ ruleBytes given))
       ↔ (SomeRowHasNone (operators m ks) (rulesIn m (kinds ++ ruleBytes given)) ⊎ SomeRowHasTwo (operators m ks) (rulesIn m (kinds ++ ruleBytes given)))) (kinds-back m kinds given as-many)
       (refused-exactly-if m (kinds ++ ruleBytes given) (list-order m kinds given as-many .0 order))))
 
@@ -189,7 +164,7 @@ demand-3 cs =
       answered = each-answered cs;
       one-answer = book-answers-one cs;
       numbers = each-means cs;
-      same-lengths = load-keeps-lengths cs;
+      same-lengths = switch-keeps-lengths cs;
       refused = refused-exactly-if cs;
       refused-list = refused-list-exactly-if cs;
       same-bytes = same-bytes-exactly-if cs;

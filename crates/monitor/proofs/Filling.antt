@@ -18,7 +18,7 @@ use Rattle.expression.specs.Operand.{rowOf}
 use Rattle.expression.specs.Checks.{shortCheck, recordBytes, rowChecks, recordChecks}
 use Rattle.disambiguation.specs.Conflicts.{ConflictFreeTree}
 use Rattle.places.specs.Store.{placeCount}
-use Rattle.monitor.specs.Call.{Call, load, loadList, putRow, putRecord, drop, ask, fetchRecord}
+use Rattle.monitor.specs.Call.{Call, stage, stageList, switch, putRow, putRecord, drop, ask, fetchRecord}
 use Rattle.monitor.specs.Panel.{placeCheck}
 use Rattle.monitor.specs.Steps.{ops, putRowNumber, putRecordNumber}
 use Rattle.monitor.specs.Book.{blankCheck, slotRow}
@@ -64,8 +64,9 @@ either-none false old e = e
 beyond : (k : ℕ) → placeCount ≤ k → (cs : List Call) → lastPut k cs ≡ none
 unfolding lastPut
 beyond k h [] = refl
-beyond k h (load n rules ∷ cs) = beyond k h cs
-beyond k h (loadList n kinds rules ∷ cs) = beyond k h cs
+beyond k h (stage n bytes ∷ cs) = beyond k h cs
+beyond k h (stageList n kinds rules ∷ cs) = beyond k h cs
+beyond k h (switch ∷ cs) = beyond k h cs
 beyond k h (putRow j row ∷ cs) = blank-still k j (isAccepted cs (putRow j row)) (some row) (lastPut k cs) (λ e. row-refused j row cs (omega arith)) (beyond k h cs)
 beyond k h (putRecord j bytes ∷ cs) = blank-still k j (isAccepted cs (putRecord j bytes)) (some (rowOf (treeOf (class (inForce cs .operators)) bytes))) (lastPut k cs) (λ e. record-refused j bytes cs (omega arith)) (beyond k h cs)
 beyond k h (drop j ∷ cs) = either-none (isAccepted cs (drop j) && eqb k j) (lastPut k cs) (beyond k h cs)

@@ -1,6 +1,6 @@
 -- The book after a list of calls, said of the list. Assumes nothing.
 use Prim.Native.Nat.{ℕ}
-use mathlib.Core.Path.{_≡_, refl, ap, sym, _∙_}
+use mathlib.Core.Path.{_≡_, refl, ap, ap₂, sym, _∙_}
 use mathlib.Core.Bool.{Bool, true, false, _&&_, cond}
 use mathlib.Core.Option.{Option, none, some}
 use mathlib.Core.List.{List, [], _∷_}
@@ -10,9 +10,9 @@ use Rattle.expression.specs.Token.{operators, class}
 use Rattle.expression.specs.Decode.{treeOf}
 use Rattle.expression.specs.Operand.{rowOf}
 use Rattle.disambiguation.specs.SheetChecks.{rulesIn, operatorsIn}
-use Rattle.monitor.specs.Call.{Call, load, loadList, putRow, putRecord, drop, ask}
-use Rattle.monitor.specs.Book.{Book, entered, next}
-use Rattle.monitor.specs.Run.{panelAfter, bookAfter, isAccepted, Rules, ruledBy, inForce, lastPut}
+use Rattle.monitor.specs.Call.{Call, stage, stageList, switch, putRow, putRecord, drop, ask}
+use Rattle.monitor.specs.Book.{Rules, ruledBy, Book, ruledByNote, entered, next}
+use Rattle.monitor.specs.Run.{panelAfter, bookAfter, isAccepted, lastStaged, orElse, inForce, lastPut}
 use Rattle.monitor.proofs.Stands.{Stands, fresh-stands, same-number}
 use Rattle.monitor.proofs.Keeping.{keeps}
 
@@ -42,16 +42,45 @@ unchanged f c cs e = ap f (after-call c cs) ∙ go (isAccepted cs c)
 abbrev rulesOn : Book → Rules
 rulesOn b = ruledBy (b .operators) (b .rules)
 
--- The book's sheet is that of the last accepted load, or the fresh panel's.
+-- The book's note is the sheet of the last accepted staging, unless a switch was accepted since.
+noted-after : (c : Call) (cs : List Call) (now : Option Rules) → entered (bookAfter cs) c .note ≡ now → bookAfter (c ∷ cs) .note ≡ cond (isAccepted cs c) now (bookAfter cs .note)
+noted-after c cs now e =
+    ap (λ (b : Book). b .note) (after-call c cs) ∙ either (λ (b : Book). b .note) (isAccepted cs c) (entered (bookAfter cs) c) (bookAfter cs)
+    ∙ ap (λ x. cond (isAccepted cs c) x (bookAfter cs .note)) e
+
+cleared : (b : Book) (note : Option Rules) → b .note ≡ note → ruledByNote b note .note ≡ none
+cleared b none e = e
+cleared b (some s) e = refl
+
+pub book-note : (cs : List Call) → bookAfter cs .note ≡ lastStaged cs
+unfolding bookAfter lastStaged
+book-note [] = refl
+book-note (stage n bytes ∷ cs) =
+    noted-after (stage n bytes) cs (some (ruledBy (operatorsIn n bytes) (rulesIn n bytes))) refl
+    ∙ ap (cond (isAccepted cs (stage n bytes)) (some (ruledBy (operatorsIn n bytes) (rulesIn n bytes)))) (book-note cs)
+book-note (stageList n kinds rules ∷ cs) =
+    noted-after (stageList n kinds rules) cs (some (ruledBy (operators n kinds) rules)) refl
+    ∙ ap (cond (isAccepted cs (stageList n kinds rules)) (some (ruledBy (operators n kinds) rules))) (book-note cs)
+book-note (switch ∷ cs) =
+    noted-after switch cs none (cleared (bookAfter cs) (bookAfter cs .note) refl) ∙ ap (cond (isAccepted cs switch) none) (book-note cs)
+book-note (putRow k row ∷ cs) = unchanged (λ b. b .note) (putRow k row) cs refl ∙ book-note cs
+book-note (putRecord k bytes ∷ cs) = unchanged (λ b. b .note) (putRecord k bytes) cs refl ∙ book-note cs
+book-note (drop k ∷ cs) = unchanged (λ b. b .note) (drop k) cs refl ∙ book-note cs
+book-note (ask q ∷ cs) = unchanged (λ b. b .note) (ask q) cs refl ∙ book-note cs
+
+-- The book's sheet is the one that was noted at the last accepted switch, or the fresh panel's.
+ruled-by-note : (b : Book) (note : Option Rules) → rulesOn (ruledByNote b note) ≡ orElse note (rulesOn b)
+ruled-by-note b none = refl
+ruled-by-note b (some s) = refl
+
 pub book-in-force : (cs : List Call) → ruledBy (bookAfter cs .operators) (bookAfter cs .rules) ≡ inForce cs
 unfolding bookAfter inForce
 book-in-force [] = refl
-book-in-force (load n bytes ∷ cs) =
-    ap rulesOn (after-call (load n bytes) cs) ∙ either rulesOn (isAccepted cs (load n bytes)) (entered (bookAfter cs) (load n bytes)) (bookAfter cs)
-    ∙ ap (cond (isAccepted cs (load n bytes)) (ruledBy (operatorsIn n bytes) (rulesIn n bytes))) (book-in-force cs)
-book-in-force (loadList n kinds rules ∷ cs) =
-    ap rulesOn (after-call (loadList n kinds rules) cs) ∙ either rulesOn (isAccepted cs (loadList n kinds rules)) (entered (bookAfter cs) (loadList n kinds rules)) (bookAfter cs)
-    ∙ ap (cond (isAccepted cs (loadList n kinds rules)) (ruledBy (operators n kinds) rules)) (book-in-force cs)
+book-in-force (stage n bytes ∷ cs) = unchanged rulesOn (stage n bytes) cs refl ∙ book-in-force cs
+book-in-force (stageList n kinds rules ∷ cs) = unchanged rulesOn (stageList n kinds rules) cs refl ∙ book-in-force cs
+book-in-force (switch ∷ cs) =
+    ap rulesOn (after-call switch cs) ∙ either rulesOn (isAccepted cs switch) (entered (bookAfter cs) switch) (bookAfter cs)
+    ∙ ap₂ (cond (isAccepted cs switch)) (ruled-by-note (bookAfter cs) (bookAfter cs .note) ∙ ap₂ orElse (book-note cs) (book-in-force cs)) (book-in-force cs)
 book-in-force (putRow k row ∷ cs) = unchanged rulesOn (putRow k row) cs refl ∙ book-in-force cs
 book-in-force (putRecord k bytes ∷ cs) = unchanged rulesOn (putRecord k bytes) cs refl ∙ book-in-force cs
 book-in-force (drop k ∷ cs) = unchanged rulesOn (drop k) cs refl ∙ book-in-force cs
@@ -68,12 +97,17 @@ slot-after k j c cs slot e =
     ap (λ (b : Book). b .slots k) (after-call c cs) ∙ either (λ (b : Book). b .slots k) (isAccepted cs c) (entered (bookAfter cs) c) (bookAfter cs)
     ∙ ap (λ x. cond (isAccepted cs c) x (bookAfter cs .slots k)) e ∙ slot-entered (isAccepted cs c) (eqb k j) slot (bookAfter cs .slots k)
 
+slots-stay : (b : Book) (note : Option Rules) (k : ℕ) → ruledByNote b note .slots k ≡ b .slots k
+slots-stay b none k = refl
+slots-stay b (some s) k = refl
+
 -- The book's slot is that of the last accepted put, unless a drop was accepted since.
 pub book-slot : (k : ℕ) (cs : List Call) → bookAfter cs .slots k ≡ lastPut k cs
 unfolding bookAfter lastPut
 book-slot k [] = refl
-book-slot k (load n bytes ∷ cs) = unchanged (λ b. b .slots k) (load n bytes) cs refl ∙ book-slot k cs
-book-slot k (loadList n kinds rules ∷ cs) = unchanged (λ b. b .slots k) (loadList n kinds rules) cs refl ∙ book-slot k cs
+book-slot k (stage n bytes ∷ cs) = unchanged (λ b. b .slots k) (stage n bytes) cs refl ∙ book-slot k cs
+book-slot k (stageList n kinds rules ∷ cs) = unchanged (λ b. b .slots k) (stageList n kinds rules) cs refl ∙ book-slot k cs
+book-slot k (switch ∷ cs) = unchanged (λ b. b .slots k) switch cs (slots-stay (bookAfter cs) (bookAfter cs .note) k) ∙ book-slot k cs
 book-slot k (putRow j row ∷ cs) =
     slot-after k j (putRow j row) cs (some row) refl ∙ ap (cond (isAccepted cs (putRow j row) && eqb k j) (some row)) (book-slot k cs)
 book-slot k (putRecord j bytes ∷ cs) =

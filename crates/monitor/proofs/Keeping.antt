@@ -5,35 +5,34 @@ use native.Mathlib.Decide.{ℕ-discrete}
 use mathlib.Core.Path.{_≡_, refl, ap, sym, _∙_}
 use mathlib.Core.Bool.{Bool, true, false, not, cond}
 use mathlib.Core.Option.{Option, none, some}
-use mathlib.Core.List.{List, [], _∷_, _++_}
+use mathlib.Core.List.{List, [], _∷_}
 use lib.Dec.{eqb}
-use borrow.Author.Tests.{eq-eqb, ne-eqb, not-true}
+use borrow.Author.Tests.{eq-eqb, ne-eqb, not-true, not-false}
 use Rattle.expression.specs.Refusal.{Check, first, accepted}
 use Rattle.expression.specs.Token.{operators, class}
 use Rattle.expression.specs.Decode.{treeOf}
 use Rattle.expression.specs.Operand.{rowOf}
 use Rattle.expression.specs.Checks.{rowChecks, recordChecks, rowNumber, recordNumber}
-use Rattle.expression.proofs.Numbers.{Numbered, passed-first, first-append}
 use Rattle.disambiguation.specs.Rules.{Rule}
 use Rattle.disambiguation.specs.Below.{allBelow}
-use Rattle.disambiguation.specs.SheetChecks.{kindsIn, rulesIn, sheetNumber}
+use Rattle.disambiguation.specs.SheetChecks.{kindsIn, rulesIn}
 use Rattle.disambiguation.proofs.BelowLaws.{allBelow-at}
 use Rattle.sheet.specs.Relation.{closesIn}
 use Rattle.sheet.specs.Loading.{sheetOf}
 use Rattle.sheet.specs.InForce.{InForce}
-use Rattle.sheet.proofs.Laws.{made-in-force}
+use Rattle.sheet.proofs.Laws.{fresh-not-loaded, loaded-made, made-in-force}
 use Rattle.parser.specs.Build.{built}
 use Rattle.places.specs.Store.{placeCount, held, stored}
 use Rattle.places.proofs.Laws.{held-stored-same, held-stored-other, length-stored}
-use Rattle.monitor.specs.Call.{Call, load, loadList, putRow, putRecord, drop, ask}
-use Rattle.monitor.specs.Panel.{Panel, panel, usesOther, inUseCheck, sheetChecks, listChecks, ifAccepted, rebuilt, rebuiltTo}
-use Rattle.monitor.specs.Steps.{ops, loadNumber, listLoadNumber, putRowNumber, putRecordNumber, dropNumber, afterLoad, placesAfterRow, placesAfterRecord, placesAfterDrop, withPlaces, after, reply}
-use Rattle.monitor.specs.Book.{Book, blankCheck, bookNumber, withSlot, entered, next}
+use Rattle.monitor.specs.Call.{Call, stage, stageList, switch, putRow, putRecord, drop, ask}
+use Rattle.monitor.specs.Panel.{Panel, panel, noneStaged, usesOther, inUseCheck, ifAccepted, rebuilt, rebuiltTo}
+use Rattle.monitor.specs.Steps.{ops, switchNumber, putRowNumber, putRecordNumber, dropNumber, stagedAfter, afterSwitch, placesAfterRow, placesAfterRecord, placesAfterDrop, withStaged, withPlaces, after}
+use Rattle.monitor.specs.Book.{Rules, ruledBy, Book, blankCheck, notedNumber, bookNumber, withNote, ruledByNote, withSlot, entered, next}
 use Rattle.monitor.proofs.Slots.{Holds, holds-fit, put-row-holds, put-record-holds}
 use Rattle.monitor.proofs.Rebuilding.{rebuilt-size, rebuilt-holds}
-use Rattle.monitor.proofs.ListLoads.{sheet-numbered, list-numbered, list-in-force}
-use Rattle.monitor.proofs.Stands.{Stands, same-operators, same-number}
-use Rattle.monitor.proofs.Replies.{front-accepted, place-passed}
+use Rattle.monitor.proofs.ListSheets.{list-in-force}
+use Rattle.monitor.proofs.Stands.{OnStage, Stands, same-operators, in-use-same, same-number}
+use Rattle.monitor.proofs.Replies.{place-passed}
 
 module _ (p : Panel) (b : Book) (s : Stands p b) where
   -- a place that gets bytes stands for a slot that gets what they hold
@@ -42,6 +41,7 @@ module _ (p : Panel) (b : Book) (s : Stands p b) where
   stored-stands k h slot bytes g =
       record {
         in-force = s .in-force;
+        on-stage = s .on-stage;
         size = length-stored (p .places) k bytes ∙ s .size;
         holds = λ j l. go j l (ℕ-discrete j k);
       }
@@ -100,63 +100,59 @@ module _ (p : Panel) (b : Book) (s : Stands p b) where
       rw (same-number p b s (drop k) ∙ e) (stored-stands k h none [] refl))
       (λ h. same-places (dropNumber p k) _ (λ z. h (sym (same-number p b s (drop k)) ∙ z)))
 
-  -- an accepted load: the sheet is in force, and no held tree uses an operator beyond it or one of another kind
-  module _ (n : ℕ) (kinds : List ℕ) (rules : List Rule) (checks : List Check) (numbered : Numbered checks)
-      (made : first checks ≡ accepted → InForce (sheetOf n kinds rules) (operators n kinds) rules) where
+  -- ---- staging
+  -- a stage that gets the sheet of operators and rules stands for a note of them
+  staged-stands : (c : Call) (n : ℕ) (kinds : List ℕ) (rules : List Rule) → after p c ≡ withStaged p (stagedAfter p (bookNumber b c) n kinds rules)
+      → entered b c ≡ withNote b (ruledBy (operators n kinds) rules) → (bookNumber b c ≡ accepted → InForce (sheetOf n kinds rules) (operators n kinds) rules) → Stands (after p c) (next b c)
+  unfolding stagedAfter
+  staged-stands c n kinds rules becomes page made =
+      by-number c
+      (λ e. rw (becomes, page, e)
+      (record { in-force = s .in-force; on-stage = (loaded-made n (made e .few) kinds rules, made e); size = s .size; holds = s .holds }))
+      (λ h. becomes ∙ rw (ne-eqb (bookNumber b c) 0 h))
+
+  -- ---- switch
+  -- the noted sheet has every operator that a held tree uses, as that kind: it is in force, and its trees are held
+  module _ (new : Rules) (loaded : InForce (p .staged) (new .operators) (new .rules)) where
     abbrev unfit : ℕ → Bool
-    unfit k = usesOther (ops p) (operators n kinds) (held (p .places) k)
+    unfit k = usesOther (ops p) (new .operators) (held (p .places) k)
 
-    abbrev all-checks : List Check
-    all-checks = checks ++ (inUseCheck (ops p) (operators n kinds) (held (p .places)) ∷ [])
-
-    load-holds : first all-checks ≡ accepted
-        → Stands (panel (sheetOf n kinds rules) (rebuiltTo (sheetOf n kinds rules) placeCount (p .places))) (record { operators = operators n kinds; rules = rules; slots = b .slots })
-    load-holds e =
+    switched-stands : inUseCheck (ops p) (new .operators) (held (p .places)) .0 ≡ false
+        → Stands (panel (p .staged) noneStaged (rebuiltTo (p .staged) placeCount (p .places))) (ruledByNote b (some new))
+    switched-stands e =
         record {
-          in-force = in-force;
-          size = rebuilt-size (b .slots) (b .operators) (b .rules) (p .places) (s .size) (s .holds) (sheetOf n kinds rules) (operators n kinds) rules in-force under;
-          holds = rebuilt-holds (b .slots) (b .operators) (b .rules) (p .places) (s .size) (s .holds) (sheetOf n kinds rules) (operators n kinds) rules in-force under;
+          in-force = loaded;
+          on-stage = fresh-not-loaded;
+          size = rebuilt-size (b .slots) (b .operators) (b .rules) (p .places) (s .size) (s .holds) (p .staged) (new .operators) (new .rules) loaded under;
+          holds = rebuilt-holds (b .slots) (b .operators) (b .rules) (p .places) (s .size) (s .holds) (p .staged) (new .operators) (new .rules) loaded under;
         }
       where
-        good : first checks ≡ accepted
-        good = front-accepted checks (inUseCheck (ops p) (operators n kinds) (held (p .places)) ∷ []) numbered e
-
-        in-force : InForce (sheetOf n kinds rules) (operators n kinds) rules
-        in-force = made good
-
-        unused : first (inUseCheck (ops p) (operators n kinds) (held (p .places)) ∷ []) ≡ accepted
-        unused = sym (first-append checks (inUseCheck (ops p) (operators n kinds) (held (p .places)) ∷ []) (passed-first checks numbered good)) ∙ e
-
         all : allBelow placeCount (λ k. not (unfit k)) ≡ true
-        all = go (allBelow placeCount (λ k. not (unfit k))) unused
-          where
-            go : (x : Bool) → cond (not x) 11 0 ≡ accepted → x ≡ true
-            go true f = refl
-            go false f = absurd (omega arith)
+        all = not-false (allBelow placeCount (λ k. not (unfit k))) e
 
-        under : (k : ℕ) → k < placeCount → usesOther (b .operators) (operators n kinds) (held (p .places) k) ≡ false
+        under : (k : ℕ) → k < placeCount → usesOther (b .operators) (new .operators) (held (p .places) k) ≡ false
         under k h =
-            ap (λ old. usesOther old (operators n kinds) (held (p .places) k)) (sym (same-operators p b s))
+            ap (λ old. usesOther old (new .operators) (held (p .places) k)) (sym (same-operators p b s))
             ∙ not-true (unfit k) (allBelow-at placeCount (λ k. not (unfit k)) all k h)
 
-    after-stands : (c : Call) → reply p c .number ≡ first all-checks → after p c ≡ afterLoad p (first all-checks) n kinds rules
-        → entered b c ≡ record { operators = operators n kinds; rules = rules; slots = b .slots } → Stands (after p c) (next b c)
-    unfolding afterLoad
-    after-stands c number becomes page =
-        by-number c (λ e. rw (becomes, page, sym number ∙ same-number p b s c ∙ e) (load-holds (sym number ∙ same-number p b s c ∙ e)))
-        (λ h. becomes ∙ rw (ne-eqb (first all-checks) 0 (λ z. h (sym (same-number p b s c) ∙ number ∙ z))))
-
-  load-stands : (n : ℕ) (bytes : List ℕ) → Stands (after p (load n bytes)) (next b (load n bytes))
-  unfolding loadNumber sheetNumber
-  load-stands n bytes = after-stands n (kindsIn n bytes) (rulesIn n bytes) (sheetChecks n bytes) (sheet-numbered n bytes) (made-in-force n bytes) (load n bytes) refl refl refl
-
-  list-stands : (n : ℕ) (kinds : List ℕ) (rules : List Rule) → Stands (after p (loadList n kinds rules)) (next b (loadList n kinds rules))
-  unfolding listLoadNumber
-  list-stands n kinds rules = after-stands n kinds rules (listChecks n kinds rules) (list-numbered n kinds rules) (list-in-force n kinds rules) (loadList n kinds rules) refl refl refl
+  switch-stands : Stands (after p switch) (next b switch)
+  unfolding afterSwitch
+  switch-stands =
+      by-number switch (λ e. rw (same-number p b s switch ∙ e) (go (b .note) (s .on-stage) e)) (λ h. rw (ne-eqb (switchNumber p) 0 (λ z. h (sym (same-number p b s switch) ∙ z))))
+    where
+      go : (note : Option Rules) → OnStage (p .staged) note → notedNumber b note ≡ accepted
+          → Stands (panel (p .staged) noneStaged (rebuiltTo (p .staged) placeCount (p .places))) (ruledByNote b note)
+      go none g e = absurd (omega arith)
+      go (some new) (_, loaded) e = switched-stands new loaded (unused (inUseCheck (ops p) (new .operators) (held (p .places)) .0) (ap (λ (c : Check). first (c ∷ [])) (in-use-same p b s (new .operators)) ∙ e))
+        where
+          unused : (x : Bool) → cond x 11 0 ≡ accepted → x ≡ false
+          unused true f = absurd (omega arith)
+          unused false f = refl
 
   pub keeps : (c : Call) → Stands (after p c) (next b c)
-  keeps (load n bytes) = load-stands n bytes
-  keeps (loadList n kinds rules) = list-stands n kinds rules
+  keeps (stage n bytes) = staged-stands (stage n bytes) n (kindsIn n bytes) (rulesIn n bytes) refl refl (made-in-force n bytes)
+  keeps (stageList n kinds rules) = staged-stands (stageList n kinds rules) n kinds rules refl refl (list-in-force n kinds rules)
+  keeps switch = switch-stands
   keeps (putRow k row) = row-stands k row
   keeps (putRecord k bytes) = record-stands k bytes
   keeps (drop k) = drop-stands k

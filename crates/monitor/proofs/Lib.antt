@@ -1,7 +1,7 @@
 pub mod Uses
 pub mod Slots
 pub mod Rebuilding
-pub mod ListLoads
+pub mod ListSheets
 pub mod Stands
 pub mod Replies
 pub mod Keeping
@@ -19,7 +19,8 @@ pub mod Demand3
 pub mod ShortestRows
 pub mod ReadFromTheLeft
 pub mod ChainedPatterns
+pub mod StageThenSwitch
 pub mod AnswerWays
 pub mod StoreWays
 pub mod UseWays
-pub mod LoadWays
+pub mod SwitchWays

@@ -27,7 +27,7 @@ use Rattle.brackets.specs.Shortest.{shortestBy, shortestNumber}
 use Rattle.brackets.proofs.ShortestRows.{shortest-of-tree}
 use Rattle.places.specs.Store.{placeCount, slotBytes, held, imageOf}
 use Rattle.places.proofs.Images.{length-image}
-use Rattle.monitor.specs.Call.{Question, Call, lentBefore, load, loadList, putRow, putRecord, drop, ask, fetchRecord, fetchRow, image, build, repair, judge, yield, operand, shortestRow}
+use Rattle.monitor.specs.Call.{Question, Call, lentBefore, stage, stageList, switch, putRow, putRecord, drop, ask, fetchRecord, fetchRow, image, build, repair, judge, yield, operand, shortestRow}
 use Rattle.monitor.specs.Panel.{Panel, placeCheck}
 use Rattle.monitor.specs.Steps.{reply}
 use Rattle.monitor.specs.Book.{Book, rowIn, isBlank, blankCheck, slotRow, SlotTree, askedNumber, bookNumber}
@@ -39,7 +39,7 @@ use Rattle.monitor.proofs.Slots.{Holds, not-blank}
 use Rattle.monitor.proofs.Stands.{Stands, same-number}
 use Rattle.monitor.proofs.Histories.{stands}
 use Rattle.monitor.proofs.Meanings.{Decides, when, decides-not-less, row-means, reads-back, record-means}
-use Rattle.monitor.proofs.MeaningsSheet.{load-means, load-list-means}
+use Rattle.monitor.proofs.MeaningsSheet.{stage-means, stage-list-means, switch-means}
 
 -- each slot that is not blank has a row within the length that has a conflict-free tree
 abbrev pub SlotsHaveTrees : Book → Type 0
@@ -142,8 +142,9 @@ module _ (b : Book) where
 
     -- The book's number of a call means what docs/REFERENCE.md, section 4, says.
     pub book-means : (c : Call) → Means b c (bookNumber b c)
-    book-means (load n bytes) = load-means b n bytes
-    book-means (loadList n kinds rules) = load-list-means b n kinds rules
+    book-means (stage n bytes) = stage-means b n bytes
+    book-means (stageList n kinds rules) = stage-list-means b n kinds rules
+    book-means switch = switch-means b
     book-means (putRow k row) = place-means (OfRow b row Accepted) k (rowChecks (b .operators) row) (λ _. row-means b Accepted row [] (λ _. refl))
     book-means (putRecord k bytes) = place-means (OfRecord b bytes Accepted) k (recordChecks (b .operators) bytes) (λ _. record-means b Accepted bytes [] (λ _ _. refl))
     book-means (drop k) = place-means (NotBlank b k Accepted) k (blankCheck (b .slots k) ∷ []) (λ _. blank-means Accepted k [] (λ _ _. refl))

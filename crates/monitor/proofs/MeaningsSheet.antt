@@ -1,31 +1,31 @@
--- The checks of a sheet give the number that the conditions mean: its lengths, its kinds and rules, the rows of any length, and the slots. Assumes nothing.
+-- The checks of a staging and of a switch give the number that the conditions mean: lengths, kinds and rules, the rows of any length, and the slots. Assumes nothing.
 use Prim.Native.Nat.{ℕ, _%_, _<_, _≤_}
 use native.Mathlib.Omega.{arith}
 use mathlib.Core.Path.{_≡_, refl, ap, sym, subst, _∙_}
 use mathlib.Core.Bool.{Bool, true, false, not, _&&_, _||_, cond, or-assoc, true≢false}
 use mathlib.Core.Logic.{_⊎_, inl, inr}
-use mathlib.Core.Option.{Option, none, some}
-use mathlib.Core.List.{List, [], _∷_, _++_}
+use mathlib.Core.Option.{Option, none, some, Option·none-ne-some, Option·some-inj}
+use mathlib.Core.List.{List, [], _∷_}
 use lib.Dec.{eqb, ltb}
 use lib.ListN.{length, drop}
 use borrow.Author.Tests.{ltb-false, eqb-true, eq-eqb, not-true, not-false}
 use Rattle.expression.specs.Lists.{anyHolds}
 use Rattle.expression.specs.Limits.{mostOperators, mostRules, mostRuleBytes, bytesOfRule}
-use Rattle.expression.specs.Refusal.{first, accepted, oversize, torn, stranger, dead, double, inUse}
+use Rattle.expression.specs.Refusal.{first, accepted, oversize, torn, stranger, dead, double, inUse, nothingStaged}
 use Rattle.expression.specs.Token.{prefixKind, Operators, operators, kindOf}
 use Rattle.expression.proofs.Tests.{both-false}
 use Rattle.disambiguation.specs.Rules.{Rule, priority, right, L, R}
 use Rattle.disambiguation.specs.ExactlyOne.{SomeRowHasNone, EveryRowHasOne, SomeRowHasTwo}
 use Rattle.disambiguation.specs.Below.{allBelow}
 use Rattle.disambiguation.specs.Verdict.{safe, total, level, ruleChecks, verdict}
-use Rattle.disambiguation.specs.SheetChecks.{strangeRule, strangeKind, rulesIn, operatorsIn}
+use Rattle.disambiguation.specs.SheetChecks.{strangeRule, strangeKind, rulesIn, operatorsIn, sheetNumber, listNumber}
 use Rattle.disambiguation.proofs.BelowLaws.{allBelow-at, allBelow-fails}
 use Rattle.disambiguation.proofs.VerdictDecides.{dead-exactly-if, double-exactly-if}
 use Rattle.places.specs.Store.{placeCount}
-use Rattle.monitor.specs.Call.{load, loadList}
-use Rattle.monitor.specs.Panel.{beyond, changed, usesOther, inUseCheck}
-use Rattle.monitor.specs.Book.{Book, rowIn, slotRow, bookNumber}
-use Rattle.monitor.specs.Meaning.{When, Accepted, SomeOf, StrangeKind, StrangeRule, OfSheet, Means}
+use Rattle.monitor.specs.Call.{stage, stageList, switch}
+use Rattle.monitor.specs.Panel.{beyond, changed, usesOther}
+use Rattle.monitor.specs.Book.{Rules, Book, rowIn, slotRow, notedNumber, bookNumber}
+use Rattle.monitor.specs.Meaning.{When, Accepted, SomeOf, StrangeKind, StrangeRule, OfSheet, UsesOther, Means}
 use Rattle.monitor.proofs.Meanings.{Decides, when, decides-or, decides-and, decides-not, decides-less, decides-not-less, decides-some}
 
 -- ---- 3: a rule's kind and operators
@@ -90,7 +90,7 @@ module _ (b : Book) (new : Operators) where
   others = usesOther (b .operators) new
 
   abbrev InUse : Type 0
-  InUse = (k : ℕ) × (row : List ℕ) × (k < placeCount) × (b .slots k ≡ some row) × SomeOf Other row
+  InUse = UsesOther b new
 
   decides-other : (c : ℕ) → Decides (beyond new c || changed (b .operators) new c) (Other c)
   decides-other c = (λ e. to (decided .0 e), λ h. decided .1 (from h))
@@ -135,7 +135,7 @@ module _ (b : Book) (new : Operators) where
       go none q e = absurd (decides-uses [] .0 e)
       go (some row) q e = (k, row, h, q, decides-uses row .0 e)
 
-  decides-in-use : Decides (not (allBelow placeCount unused)) InUse
+  pub decides-in-use : Decides (not (allBelow placeCount unused)) InUse
   decides-in-use = (
     λ e.
         let (k, h, f) = allBelow-fails placeCount unused (not-true (allBelow placeCount unused) e) in
@@ -149,46 +149,61 @@ module _ (b : Book) (new : Operators) where
           let z : others (slotRow b k) ≡ false = not-true (others (slotRow b k)) (allBelow-at placeCount unused e k h) in
           absurd (true≢false (sym (ap (λ slot. others (rowIn slot)) q ∙ decides-uses row .1 s) ∙ z))
 
-  -- ---- 3, 4, 5 and 11
-  pub rules-mean : (rules : List Rule) → new .count ≤ mostOperators
-      → OfSheet b new rules
-      (first ((anyHolds strangeKind (new .kinds) || anyHolds (strangeRule (new .count)) rules, stranger) ∷ (ruleChecks new (L rules) (R rules) ++ (inUseCheck (b .operators) new (slotRow b) ∷ []))))
-  rules-mean rules few =
-      when After3 (anyHolds strangeKind (new .kinds) || anyHolds (strangeRule (new .count)) rules) stranger _
-      (decides-or (anyHolds strangeKind (new .kinds)) (anyHolds (strangeRule (new .count)) rules)
-      (decides-some strangeKind StrangeKind (λ kind. decides-less prefixKind kind) (new .kinds)) (decides-some (strangeRule (new .count)) (StrangeRule (new .count)) (decides-strange (new .count)) rules))
-      (λ _. when After4 (unsafe new rules few) dead _ (decides-dead new rules few)
-      (λ s. when After5 (unsettled new rules few) double _ (decides-double new rules few s)
-      (λ _. when Accepted (not (allBelow placeCount unused)) inUse accepted decides-in-use (λ _. refl))))
-    where
-      After5 : ℕ → Type 0
-      After5 = When InUse inUse Accepted
+-- ---- 3, 4 and 5
+rules-mean : (new : Operators) (rules : List Rule) → new .count ≤ mostOperators
+    → OfSheet new rules (first ((anyHolds strangeKind (new .kinds) || anyHolds (strangeRule (new .count)) rules, stranger) ∷ ruleChecks new (L rules) (R rules)))
+rules-mean new rules few =
+    when After3 (anyHolds strangeKind (new .kinds) || anyHolds (strangeRule (new .count)) rules) stranger _
+    (decides-or (anyHolds strangeKind (new .kinds)) (anyHolds (strangeRule (new .count)) rules)
+    (decides-some strangeKind StrangeKind (λ kind. decides-less prefixKind kind) (new .kinds)) (decides-some (strangeRule (new .count)) (StrangeRule (new .count)) (decides-strange (new .count)) rules))
+    (λ _. when After4 (unsafe new rules few) dead _ (decides-dead new rules few)
+    (λ s. when Accepted (unsettled new rules few) double accepted (decides-double new rules few s) (λ _. refl)))
+  where
+    After4 : ℕ → Type 0
+    After4 = When (EveryRowHasOne new rules × SomeRowHasTwo new rules) double Accepted
 
-      After4 : ℕ → Type 0
-      After4 = When (EveryRowHasOne new rules × SomeRowHasTwo new rules) double After5
+    After3 : ℕ → Type 0
+    After3 = When (SomeRowHasNone new rules) dead After4
 
-      After3 : ℕ → Type 0
-      After3 = When (SomeRowHasNone new rules) dead After4
-
--- ---- a load, in bytes and with lists
+-- ---- a staging, in bytes and with lists
 few-operators : (n : ℕ) (y : Bool) → (ltb mostOperators n || y) ≡ false → n ≤ mostOperators
 few-operators n y e = ltb-false mostOperators n (both-false (ltb mostOperators n) y e .0)
 
 module _ (b : Book) (n : ℕ) where
-  pub load-means : (bytes : List ℕ) → Means b (load n bytes) (bookNumber b (load n bytes))
-  load-means bytes =
-      when (When ((length bytes < n) ⊎ (length (drop n bytes) % bytesOfRule ≡ 0 → ⊥)) torn (OfSheet b (operatorsIn n bytes) (rulesIn n bytes)))
+  pub stage-means : (bytes : List ℕ) → Means b (stage n bytes) (bookNumber b (stage n bytes))
+  unfolding sheetNumber
+  stage-means bytes =
+      when (When ((length bytes < n) ⊎ (length (drop n bytes) % bytesOfRule ≡ 0 → ⊥)) torn (OfSheet (operatorsIn n bytes) (rulesIn n bytes)))
       (ltb mostOperators n || ltb mostRuleBytes (length (drop n bytes))) oversize _
       (decides-or (ltb mostOperators n) (ltb mostRuleBytes (length (drop n bytes))) (decides-less mostOperators n) (decides-less mostRuleBytes (length (drop n bytes))))
-      (λ e. when (OfSheet b (operatorsIn n bytes) (rulesIn n bytes)) (ltb (length bytes) n || not (eqb (length (drop n bytes) % bytesOfRule) 0)) torn _
+      (λ e. when (OfSheet (operatorsIn n bytes) (rulesIn n bytes)) (ltb (length bytes) n || not (eqb (length (drop n bytes) % bytesOfRule) 0)) torn _
       (decides-or (ltb (length bytes) n) (not (eqb (length (drop n bytes) % bytesOfRule) 0)) (decides-less (length bytes) n)
       (decides-not (eqb (length (drop n bytes) % bytesOfRule) 0) (eqb-true (length (drop n bytes) % bytesOfRule) 0, eq-eqb (length (drop n bytes) % bytesOfRule) 0)))
-      (λ _. rules-mean b (operatorsIn n bytes) (rulesIn n bytes) (few-operators n (ltb mostRuleBytes (length (drop n bytes))) e)))
+      (λ _. rules-mean (operatorsIn n bytes) (rulesIn n bytes) (few-operators n (ltb mostRuleBytes (length (drop n bytes))) e)))
 
-  pub load-list-means : (kinds : List ℕ) (rules : List Rule) → Means b (loadList n kinds rules) (bookNumber b (loadList n kinds rules))
-  load-list-means kinds rules =
-      when (When (length kinds ≡ n → ⊥) torn (OfSheet b (operators n kinds) rules)) (ltb mostOperators n || ltb mostRules (length rules)) oversize _
+  pub stage-list-means : (kinds : List ℕ) (rules : List Rule) → Means b (stageList n kinds rules) (bookNumber b (stageList n kinds rules))
+  unfolding listNumber
+  stage-list-means kinds rules =
+      when (When (length kinds ≡ n → ⊥) torn (OfSheet (operators n kinds) rules)) (ltb mostOperators n || ltb mostRules (length rules)) oversize _
       (decides-or (ltb mostOperators n) (ltb mostRules (length rules)) (decides-less mostOperators n) (decides-less mostRules (length rules)))
-      (λ e. when (OfSheet b (operators n kinds) rules) (not (eqb (length kinds) n)) torn _
+      (λ e. when (OfSheet (operators n kinds) rules) (not (eqb (length kinds) n)) torn _
       (decides-not (eqb (length kinds) n) (eqb-true (length kinds) n, eq-eqb (length kinds) n))
-      (λ _. rules-mean b (operators n kinds) rules (few-operators n (ltb mostRules (length rules)) e)))
+      (λ _. rules-mean (operators n kinds) rules (few-operators n (ltb mostRules (length rules)) e)))
+
+-- ---- a switch
+pub switch-means : (b : Book) → Means b switch (bookNumber b switch)
+switch-means b = go (b .note) refl
+  where
+    Noted : Type 0
+    Noted = (s : Rules) × (b .note ≡ some s) × UsesOther b (s .operators)
+
+    go : (note : Option Rules) → b .note ≡ note → When (b .note ≡ none) nothingStaged (When Noted inUse Accepted) (notedNumber b note)
+    go none e = inl (e, refl)
+    go (some s) e = inr (
+      λ z. Option·none-ne-some s (sym z ∙ e),
+      when Accepted (not (allBelow placeCount (unused b (s .operators)))) inUse accepted (
+        λ h. (s, e, decides-in-use b (s .operators) .0 h),
+        λ n. let (t, f, u) = n in decides-in-use b (s .operators) .1 (subst (λ (r : Rules). UsesOther b (r .operators)) (Option·some-inj .0 (sym f ∙ e)) u),
+      )
+          (λ _. refl),
+    )

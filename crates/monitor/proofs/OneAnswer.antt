@@ -20,7 +20,7 @@ use Rattle.disambiguation.specs.ExactlyOne.{EveryRowHasExactlyOne}
 use Rattle.brackets.specs.Enclosed.{enclosed}
 use Rattle.brackets.specs.SameMeaning.{ShortestRow}
 use Rattle.places.specs.Store.{imageOf}
-use Rattle.monitor.specs.Call.{Question, Call, lentBefore, load, loadList, putRow, putRecord, drop, ask, fetchRecord, fetchRow, image, build, repair, judge, yield, operand, shortestRow, Reply}
+use Rattle.monitor.specs.Call.{Question, Call, lentBefore, stage, stageList, switch, putRow, putRecord, drop, ask, fetchRecord, fetchRow, image, build, repair, judge, yield, operand, shortestRow, Reply}
 use Rattle.monitor.specs.Book.{Book, slotRow, askedNumber}
 use Rattle.monitor.specs.Answers.{Lent, Valued, Records, Image, Told, Count, Part, Silent, Rest, Answers}
 
@@ -124,8 +124,9 @@ module _ (b : Book) (one : EveryRowHasExactlyOne (b .operators) (b .rules)) wher
   silent-same r s n f g = same-reply r s n (f .length ∙ sym (g .length)) (f .output ∙ sym (g .output)) (f .count ∙ sym (g .count)) (f .part ∙ sym (g .part))
 
   rest-same : (c : Call) (r s : Reply) → r .number ≡ s .number → Rest b c r → Rest b c s → r ≡ s
-  rest-same (load n bytes) r s e f g = silent-same r s e f g
-  rest-same (loadList n kinds rules) r s e f g = silent-same r s e f g
+  rest-same (stage n bytes) r s e f g = silent-same r s e f g
+  rest-same (stageList n kinds rules) r s e f g = silent-same r s e f g
+  rest-same switch r s e f g = silent-same r s e f g
   rest-same (putRow k row) r s e f g = silent-same r s e f g
   rest-same (putRecord k bytes) r s e f g = silent-same r s e f g
   rest-same (drop k) r s e f g = silent-same r s e f g

@@ -25,8 +25,8 @@ use Rattle.places.proofs.Images.{length-image}
 use Rattle.monitor.specs.Call.{Question, Call, lentBefore, ask, fetchRecord, fetchRow, image, repair}
 use Rattle.monitor.specs.Panel.{placeCheck}
 use Rattle.monitor.specs.Steps.{told}
-use Rattle.monitor.specs.Book.{rowIn, isBlank, blankCheck, slotRow, bookNumber}
-use Rattle.monitor.specs.Run.{panelAfter, answer, bookAfter, Rules, inForce, lastPut, AnsweredBy, HoldsTree}
+use Rattle.monitor.specs.Book.{Rules, rowIn, isBlank, blankCheck, slotRow, bookNumber}
+use Rattle.monitor.specs.Run.{panelAfter, answer, bookAfter, inForce, lastPut, AnsweredBy, HoldsTree}
 use Rattle.monitor.specs.Promises.{Within}
 use Rattle.monitor.proofs.Slots.{HeldTree, Holds, bytes-long, bytes-fit, row-back}
 use Rattle.monitor.proofs.Stands.{same-number}
@@ -45,7 +45,7 @@ module _ (cs : List Call) where
   pub same-rules : bookAfter cs .rules ≡ rules
   same-rules = ap (λ (r : Rules). r .rules) (book-in-force cs)
 
-  -- The panel's sheet is that of the last accepted load.
+  -- The panel's sheet is the one that the last accepted switch found staged.
   pub sheet-in-force : InForce (panelAfter cs .sheet) ops rules
   sheet-in-force = rw (← same-ops, ← same-rules) (stands cs .in-force)
 

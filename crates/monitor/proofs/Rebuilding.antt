@@ -1,4 +1,4 @@
--- After an accepted load every place holds its row's tree under the new sheet. Assumes nothing.
+-- After an accepted switch every place holds its row's tree under the new sheet. Assumes nothing.
 use Prim.Native.Nat.{ℕ, zero, suc, _≤_, _<_}
 use native.Mathlib.Omega.{arith}
 use native.Mathlib.Decide.{ℕ-discrete}

@@ -27,7 +27,7 @@ use Rattle.brackets.specs.Shortest.{shortestBy, shortestNumber}
 use Rattle.brackets.proofs.ShortestRows.{shortest-of-tree}
 use Rattle.brackets.proofs.InForceShortest.{shortest-by-rules}
 use Rattle.places.specs.Store.{placeCount, slotBytes, held, imageOf}
-use Rattle.monitor.specs.Call.{Question, Call, lentBefore, load, loadList, putRow, putRecord, drop, ask, fetchRecord, fetchRow, image, build, repair, judge, yield, operand, shortestRow}
+use Rattle.monitor.specs.Call.{Question, Call, lentBefore, stage, stageList, switch, putRow, putRecord, drop, ask, fetchRecord, fetchRow, image, build, repair, judge, yield, operand, shortestRow}
 use Rattle.monitor.specs.Panel.{Panel, placeCheck}
 use Rattle.monitor.specs.Steps.{ops, told, outcome, reply}
 use Rattle.monitor.specs.Book.{Book, rowIn, isBlank, blankCheck, slotRow, SlotTree, askedNumber}
@@ -186,8 +186,9 @@ module _ (p : Panel) (b : Book) (s : Stands p b) where
   silent number = record { length = no-length (eqb number accepted); output = no-output (eqb number accepted); count = refl; part = refl }
 
   rest : (c : Call) → Rest b c (reply p c)
-  rest (load n bytes) = silent (outcome p (load n bytes) .number)
-  rest (loadList n kinds rules) = silent (outcome p (loadList n kinds rules) .number)
+  rest (stage n bytes) = silent (outcome p (stage n bytes) .number)
+  rest (stageList n kinds rules) = silent (outcome p (stageList n kinds rules) .number)
+  rest switch = silent (outcome p switch .number)
   rest (putRow k row) = silent (outcome p (putRow k row) .number)
   rest (putRecord k bytes) = silent (outcome p (putRecord k bytes) .number)
   rest (drop k) = silent (outcome p (drop k) .number)

@@ -9,35 +9,40 @@ use mathlib.Core.List.{List, [], _∷_, _++_}
 use lib.ListN.{length}
 use borrow.Author.Tests.{lt-ltb, le-ltb}
 use Rattle.expression.specs.Refusal.{Check, first}
-use Rattle.expression.specs.Token.{Operators, operators, class}
+use Rattle.expression.specs.Token.{Operators, class}
 use Rattle.expression.specs.Decode.{treeOf}
 use Rattle.expression.specs.Checks.{shortCheck, recordBytes, rowTokens, rowChecks, recordChecks, recordNumber, buildNumber, repairNumber, yieldNumber}
 use Rattle.expression.proofs.Numbers.{passed-first, first-append, record-numbered}
-use Rattle.disambiguation.specs.Rules.{Rule}
 use Rattle.disambiguation.specs.Below.{allBelow}
-use Rattle.disambiguation.specs.SheetChecks.{operatorsIn}
+use Rattle.sheet.specs.Layout.{isLoaded}
 use Rattle.sheet.specs.InForce.{InForce}
-use Rattle.sheet.proofs.Laws.{fresh-in-force}
+use Rattle.sheet.proofs.Laws.{fresh-in-force, fresh-not-loaded}
 use Rattle.brackets.specs.Shortest.{shortestNumber}
 use Rattle.brackets.proofs.InForceShortest.{shortest-by-rules}
 use Rattle.places.specs.Store.{placeCount, storeBytes, held}
 use Rattle.places.specs.Store as store
 use Rattle.places.proofs.Laws.{held-fresh}
-use Rattle.monitor.specs.Call.{Question, Call, load, loadList, putRow, putRecord, drop, ask, fetchRecord, fetchRow, image, build, repair, judge, yield, operand, shortestRow}
-use Rattle.monitor.specs.Panel.{Panel, fresh, placeCheck, isEmpty, emptyCheck, usesOther, inUseCheck, sheetChecks, listChecks}
-use Rattle.monitor.specs.Steps.{ops, loadNumber, listLoadNumber, putRowNumber, putRecordNumber, dropNumber, fetchRecordNumber, fetchRowNumber, imageNumber, told, reply}
-use Rattle.monitor.specs.Book.{Book, blank, rowIn, isBlank, blankCheck, slotRow, askedNumber, bookNumber}
+use Rattle.monitor.specs.Call.{Question, Call, stage, stageList, switch, putRow, putRecord, drop, ask, fetchRecord, fetchRow, image, build, repair, judge, yield, operand, shortestRow}
+use Rattle.monitor.specs.Panel.{Panel, fresh, placeCheck, isEmpty, emptyCheck, usesOther, inUseCheck}
+use Rattle.monitor.specs.Steps.{ops, switchNumber, putRowNumber, putRecordNumber, dropNumber, fetchRecordNumber, fetchRowNumber, imageNumber, told, reply}
+use Rattle.monitor.specs.Book.{Rules, Book, blank, rowIn, isBlank, blankCheck, slotRow, askedNumber, notedNumber, bookNumber}
 use Rattle.monitor.proofs.Slots.{Holds, same-empty, same-length, same-uses, held-accepted, read-back}
 
--- The panel's sheet is the book's, and each place holds the tree of its slot's row.
+-- The words of a stage, where its note in the book has a sheet or none.
+abbrev pub OnStage : List ℕ → Option Rules → Type 0
+OnStage staged none = isLoaded staged ≡ false
+OnStage staged (some s) = (isLoaded staged ≡ true) × InForce staged (s .operators) (s .rules)
+
+-- The panel's sheet is the book's, its stage has the noted one, and each place holds the tree of its slot's row.
 pub record Stands (p : Panel) (b : Book) : Type 0 where
   pub in-force : InForce (p .sheet) (b .operators) (b .rules)
+  pub on-stage : OnStage (p .staged) (b .note)
   pub size : length (p .places) ≡ storeBytes
   pub holds : (k : ℕ) → k < placeCount → Holds (b .operators) (b .rules) (b .slots k) (held (p .places) k)
 
 pub fresh-stands : Stands fresh blank
 unfolding store.fresh
-fresh-stands = record { in-force = fresh-in-force; size = refl; holds = λ k h. held-fresh k }
+fresh-stands = record { in-force = fresh-in-force; on-stage = fresh-not-loaded; size = refl; holds = λ k h. held-fresh k }
 
 -- ---- lists of checks
 -- where the place is over 15, 8 is the number; below, the rest tells
@@ -80,20 +85,20 @@ module _ (p : Panel) (b : Book) (s : Stands p b) where
   empty-same k h = same-empty (b .operators) (b .rules) (b .slots k) (held (p .places) k) (s .holds k h)
 
   -- 11, of operators that come
-  in-use-same : (new : Operators) → inUseCheck (ops p) new (held (p .places)) ≡ inUseCheck (b .operators) new (slotRow b)
+  pub in-use-same : (new : Operators) → inUseCheck (ops p) new (held (p .places)) ≡ inUseCheck (b .operators) new (slotRow b)
   in-use-same new =
       ap (λ old. inUseCheck old new (held (p .places))) same-operators
       ∙ ap (λ x. (not x, 11))
       (all-agree placeCount (λ k. not (usesOther (b .operators) new (held (p .places) k))) (λ k. not (usesOther (b .operators) new (slotRow b k)))
       (λ k h. ap not (same-uses (b .operators) (b .rules) (b .operators) new (b .slots k) (held (p .places) k) (s .holds k h))))
 
-  load-same : (n : ℕ) (bytes : List ℕ) → loadNumber p n bytes ≡ bookNumber b (load n bytes)
-  unfolding loadNumber
-  load-same n bytes = ap (λ (c : Check). first (sheetChecks n bytes ++ (c ∷ []))) (in-use-same (operatorsIn n bytes))
-
-  list-same : (n : ℕ) (kinds : List ℕ) (rules : List Rule) → listLoadNumber p n kinds rules ≡ bookNumber b (loadList n kinds rules)
-  unfolding listLoadNumber
-  list-same n kinds rules = ap (λ (c : Check). first (listChecks n kinds rules ++ (c ∷ []))) (in-use-same (operators n kinds))
+  switch-same : switchNumber p ≡ notedNumber b (b .note)
+  unfolding switchNumber
+  switch-same = go (b .note) (s .on-stage)
+    where
+      go : (note : Option Rules) → OnStage (p .staged) note → switchNumber p ≡ notedNumber b note
+      go none e = rw e
+      go (some new) (e, f) = rw (e, f .operators) (ap (λ (c : Check). first (c ∷ [])) (in-use-same (new .operators)))
 
   fetch-record-same : (k : ℕ) (out : List ℕ) → fetchRecordNumber p k (length out) ≡ askedNumber b (fetchRecord k out)
   unfolding fetchRecordNumber
@@ -144,8 +149,9 @@ module _ (p : Panel) (b : Book) (s : Stands p b) where
 
   pub same-number : (c : Call) → reply p c .number ≡ bookNumber b c
   unfolding putRowNumber putRecordNumber
-  same-number (load n bytes) = load-same n bytes
-  same-number (loadList n kinds rules) = list-same n kinds rules
+  same-number (stage n bytes) = refl
+  same-number (stageList n kinds rules) = refl
+  same-number switch = switch-same
   same-number (putRow k row) = ap (λ o. first (placeCheck k ∷ rowChecks o row)) same-operators
   same-number (putRecord k bytes) = ap (λ o. first (placeCheck k ∷ recordChecks o bytes)) same-operators
   same-number (drop k) = drop-same k

@@ -26,7 +26,7 @@ use Rattle.places.specs.Store.{placeCount, held, stored}
 use Rattle.monitor.specs.Call.{putRow, putRecord}
 use Rattle.monitor.specs.Panel.{Panel, panel, ifAccepted, rebuilt, rebuiltTo}
 use Rattle.monitor.specs.Steps.{putRowNumber, placesAfterRow, putRecordNumber, placesAfterRecord, dropNumber, placesAfterDrop}
-use Rattle.monitor.specs.Contracts.{Changes, Drops, afterRecord, StoresRow, StoresRecord}
+use Rattle.monitor.specs.Contracts.{Puts, Drops, afterRecord, StoresRow, StoresRecord}
 use Rattle.monitor.proofs.AnswerWays.{empty-true, empty-false}
 
 -- ---- the numbers with room for every record
@@ -152,33 +152,50 @@ pub ruleset rebuild-all-ways = (rebuilt-none, rebuilt-more, rebuilt-all, needs)
 
 -- ---- put_row, put_record
 module _ (sheet places : List ℕ) (k : ℕ) (bytes : List ℕ) where
-  abbrev here : Panel
-  here = panel sheet places
+  abbrev here : List ℕ → Panel
+  here staged = panel sheet staged places
 
-  pub put-row-over : placeCount ≤ k → Changes (panel sheet places) (putRow k bytes) 8 (panel sheet places)
+  pub put-row-over : placeCount ≤ k → Puts sheet places (putRow k bytes) 8 places
   unfolding putRowNumber placesAfterRow
   put-row-over h =
-      let e : 8 ≡ putRowNumber here k bytes = simp (le-ltb k placeCount h) in
-      record { numbered = e; stands = ap (panel sheet) (unstored (putRowNumber here k bytes) (built (operatorsOf sheet) (closesIn sheet) bytes) places k e (λ e. omega arith)) }
+      record {
+        changes = λ staged.
+            let e : 8 ≡ putRowNumber (here staged) k bytes = simp (le-ltb k placeCount h) in
+            record {
+              numbered = e;
+              stands = ap (panel sheet staged) (unstored (putRowNumber (here staged) k bytes) (built (operatorsOf sheet) (closesIn sheet) bytes) places k e (λ e. omega arith));
+            };
+      }
 
-  pub put-row-done : {r : ℕ} {places′ : List ℕ} → k < placeCount → StoresRow sheet places k bytes r places′ → Changes (panel sheet places) (putRow k bytes) r (panel sheet places′)
+  pub put-row-done : {r : ℕ} {places′ : List ℕ} → k < placeCount → StoresRow sheet places k bytes r places′ → Puts sheet places (putRow k bytes) r places′
   unfolding putRowNumber placesAfterRow rowNumber
   put-row-done h w =
-      let e : rowNumber (operatorsOf sheet) bytes ≡ putRowNumber here k bytes = simp (lt-ltb k placeCount h) in
-      record { numbered = w .numbered ∙ e; stands = ap (panel sheet) (w .stands ∙ ap (λ x. ifAccepted x (stored places k (built (operatorsOf sheet) (closesIn sheet) bytes)) places) e) }
+      record {
+        changes = λ staged.
+            let e : rowNumber (operatorsOf sheet) bytes ≡ putRowNumber (here staged) k bytes = simp (lt-ltb k placeCount h) in
+            record {
+              numbered = w .numbered ∙ e;
+              stands = ap (panel sheet staged) (w .stands ∙ ap (λ x. ifAccepted x (stored places k (built (operatorsOf sheet) (closesIn sheet) bytes)) places) e);
+            };
+      }
 
-  pub put-record-over : placeCount ≤ k → Changes (panel sheet places) (putRecord k bytes) 8 (panel sheet places)
+  pub put-record-over : placeCount ≤ k → Puts sheet places (putRecord k bytes) 8 places
   unfolding putRecordNumber placesAfterRecord
   put-record-over h =
-      let e : 8 ≡ putRecordNumber here k bytes = simp (le-ltb k placeCount h) in
-      record { numbered = e; stands = ap (panel sheet) (unstored (putRecordNumber here k bytes) (rebuilt sheet bytes) places k e (λ e. omega arith)) }
+      record {
+        changes = λ staged.
+            let e : 8 ≡ putRecordNumber (here staged) k bytes = simp (le-ltb k placeCount h) in
+            record { numbered = e; stands = ap (panel sheet staged) (unstored (putRecordNumber (here staged) k bytes) (rebuilt sheet bytes) places k e (λ e. omega arith)) };
+      }
 
-  pub put-record-done : {r : ℕ} {places′ : List ℕ} → k < placeCount → StoresRecord sheet places k bytes r places′
-      → Changes (panel sheet places) (putRecord k bytes) r (panel sheet places′)
+  pub put-record-done : {r : ℕ} {places′ : List ℕ} → k < placeCount → StoresRecord sheet places k bytes r places′ → Puts sheet places (putRecord k bytes) r places′
   unfolding putRecordNumber placesAfterRecord recordNumber
   put-record-done h w =
-      let e : recordNumber (operatorsOf sheet) bytes ≡ putRecordNumber here k bytes = simp (lt-ltb k placeCount h) in
-      record { numbered = w .numbered ∙ e; stands = ap (panel sheet) (w .stands ∙ ap (λ x. ifAccepted x (stored places k (rebuilt sheet bytes)) places) e) }
+      record {
+        changes = λ staged.
+            let e : recordNumber (operatorsOf sheet) bytes ≡ putRecordNumber (here staged) k bytes = simp (lt-ltb k placeCount h) in
+            record { numbered = w .numbered ∙ e; stands = ap (panel sheet staged) (w .stands ∙ ap (λ x. ifAccepted x (stored places k (rebuilt sheet bytes)) places) e) };
+      }
 
 pub ruleset put-row-ways = (put-row-over, put-row-done, needs)
 
@@ -186,22 +203,22 @@ pub ruleset put-record-ways = (put-record-over, put-record-done, needs)
 
 -- ---- drop_place
 module _ (places : List ℕ) (k : ℕ) where
-  dropped : {places′ : List ℕ} (number : ℕ) → ((sheet : List ℕ) → number ≡ dropNumber (panel sheet places) k) → places′ ≡ ifAccepted number (stored places k []) places → Drops places k number places′
+  dropped : {places′ : List ℕ} (number : ℕ) → ((sheet staged : List ℕ) → number ≡ dropNumber (panel sheet staged places) k) → places′ ≡ ifAccepted number (stored places k []) places → Drops places k number places′
   unfolding placesAfterDrop
   dropped number e w =
-      record { changes = λ sheet. record { numbered = e sheet; stands = ap (panel sheet) (w ∙ ap (λ x. ifAccepted x (stored places k []) places) (e sheet)) } }
+      record { changes = λ sheet staged. record { numbered = e sheet staged; stands = ap (panel sheet staged) (w ∙ ap (λ x. ifAccepted x (stored places k []) places) (e sheet staged)) } }
 
   pub drop-over : placeCount ≤ k → Drops places k 8 places
   unfolding dropNumber
-  drop-over h = dropped 8 (λ sheet. simp (le-ltb k placeCount h)) refl
+  drop-over h = dropped 8 (λ sheet staged. simp (le-ltb k placeCount h)) refl
 
   module _ (h : k < placeCount) {bytes : List ℕ} (same : bytes ≡ held places k) where
     pub drop-none : length bytes ≡ 0 → Drops places k 9 places
     unfolding dropNumber
-    drop-none z = dropped 9 (λ sheet. simp (lt-ltb k placeCount h, empty-true (held places k) (ap length (sym same) ∙ z))) refl
+    drop-none z = dropped 9 (λ sheet staged. simp (lt-ltb k placeCount h, empty-true (held places k) (ap length (sym same) ∙ z))) refl
 
     pub drop-done : {places′ : List ℕ} → (length bytes ≡ 0 → ⊥) → places′ ≡ stored places k [] → Drops places k 0 places′
     unfolding dropNumber
-    drop-done n w = dropped 0 (λ sheet. simp (lt-ltb k placeCount h, empty-false (held places k) (λ z. n (ap length same ∙ z)))) w
+    drop-done n w = dropped 0 (λ sheet staged. simp (lt-ltb k placeCount h, empty-false (held places k) (λ z. n (ap length same ∙ z)))) w
 
 pub ruleset drop-ways = (drop-over, drop-none, drop-done, needs)

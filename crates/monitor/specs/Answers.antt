@@ -12,7 +12,7 @@ use Rattle.expression.specs.Operand.{operandRecord}
 use Rattle.disambiguation.specs.Conflicts.{conflictCount, ConflictFreeTree}
 use Rattle.brackets.specs.SameMeaning.{ShortestRow}
 use Rattle.places.specs.Store.{imageOf}
-use Rattle.monitor.specs.Call.{Question, Call, lentBefore, load, loadList, putRow, putRecord, ask, fetchRecord, fetchRow, image, build, repair, judge, yield, operand, shortestRow, Reply}
+use Rattle.monitor.specs.Call.{Question, Call, lentBefore, stage, stageList, switch, putRow, putRecord, ask, fetchRecord, fetchRow, image, build, repair, judge, yield, operand, shortestRow, Reply}
 use Rattle.monitor.specs.Call as call
 use Rattle.monitor.specs.Book.{Book, slotRow, SlotTree, askedNumber, bookNumber}
 
@@ -87,8 +87,9 @@ module _ (b : Book) where
     pub part : r .part ≡ []
 
   abbrev pub Rest : Call → Reply → Type 0
-  Rest (load n bytes) r = Silent r
-  Rest (loadList n kinds rules) r = Silent r
+  Rest (stage n bytes) r = Silent r
+  Rest (stageList n kinds rules) r = Silent r
+  Rest switch r = Silent r
   Rest (putRow k row) r = Silent r
   Rest (putRecord k bytes) r = Silent r
   Rest (call.drop k) r = Silent r

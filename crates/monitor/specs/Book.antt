@@ -2,10 +2,10 @@
 use Prim.Native.Nat.{ℕ}
 use mathlib.Core.Bool.{Bool, true, false, cond}
 use mathlib.Core.Option.{Option, none, some}
-use mathlib.Core.List.{List, [], _∷_, _++_}
+use mathlib.Core.List.{List, [], _∷_}
 use lib.Dec.{eqb}
 use lib.ListN.{length}
-use Rattle.expression.specs.Refusal.{Check, first, empty}
+use Rattle.expression.specs.Refusal.{Check, first, empty, nothingStaged}
 use Rattle.expression.specs.Token.{Operators, operators, class}
 use Rattle.expression.specs.Tree.{Tree}
 use Rattle.expression.specs.Decode.{treeOf}
@@ -13,20 +13,29 @@ use Rattle.expression.specs.Operand.{rowOf}
 use Rattle.expression.specs.Checks.{shortCheck, recordBytes, rowChecks, recordChecks, recordNumber, buildNumber, repairNumber, yieldNumber}
 use Rattle.disambiguation.specs.Rules.{Rule}
 use Rattle.disambiguation.specs.Conflicts.{ConflictFreeTree}
-use Rattle.disambiguation.specs.SheetChecks.{rulesIn, operatorsIn}
+use Rattle.disambiguation.specs.SheetChecks.{rulesIn, operatorsIn, sheetNumber, listNumber}
 use Rattle.brackets.specs.Shortest.{shortestBy, shortestNumber}
 use Rattle.places.specs.Store.{slotBytes}
-use Rattle.monitor.specs.Call.{Question, Call, load, loadList, putRow, putRecord, drop, ask, fetchRecord, fetchRow, image, build, repair, judge, yield, operand, shortestRow}
-use Rattle.monitor.specs.Panel.{placeCheck, inUseCheck, sheetChecks, listChecks, ifAccepted}
+use Rattle.monitor.specs.Call.{Question, Call, stage, stageList, switch, putRow, putRecord, drop, ask, fetchRecord, fetchRow, image, build, repair, judge, yield, operand, shortestRow}
+use Rattle.monitor.specs.Panel.{placeCheck, inUseCheck, ifAccepted}
 
--- n and the kinds, the rules, and the slots, each blank or with one row
+-- a sheet as it is written down: n and the kinds, and the rules
+pub record Rules : Type 0 where
+  pub operators : Operators
+  pub rules : List Rule
+
+abbrev pub ruledBy : Operators → List Rule → Rules
+ruledBy ops rules = record { operators = ops; rules = rules }
+
+-- n and the kinds, the rules, the note beside, which may have one sheet, and the slots, each blank or with one row
 pub record Book : Type 0 where
   pub operators : Operators
   pub rules : List Rule
+  pub note : Option Rules
   pub slots : ℕ → Option (List ℕ)
 
 abbrev pub blank : Book
-blank = record { operators = operators 0 []; rules = []; slots = λ k. none }
+blank = record { operators = operators 0 []; rules = []; note = none; slots = λ k. none }
 
 -- a slot's row; a blank slot has none
 abbrev pub rowIn : Option (List ℕ) → List ℕ
@@ -62,23 +71,40 @@ module _ (b : Book) where
   askedNumber (operand right bytes) = recordNumber (b .operators) bytes
   askedNumber (shortestRow bytes out) = shortestNumber (b .operators) bytes (shortestBy (b .operators) (b .rules) (treeOf (class (b .operators)) bytes)) (length out)
 
+  -- 15: no sheet is noted; 11 by the noted one
+  abbrev pub notedNumber : Option Rules → ℕ
+  notedNumber none = nothingStaged
+  notedNumber (some s) = first (inUseCheck (b .operators) (s .operators) slotRow ∷ [])
+
   -- and of each call
   abbrev pub bookNumber : Call → ℕ
-  bookNumber (load n bytes) = first (sheetChecks n bytes ++ (inUseCheck (b .operators) (operatorsIn n bytes) slotRow ∷ []))
-  bookNumber (loadList n kinds rules) = first (listChecks n kinds rules ++ (inUseCheck (b .operators) (operators n kinds) slotRow ∷ []))
+  bookNumber (stage n bytes) = sheetNumber n bytes
+  bookNumber (stageList n kinds rules) = listNumber n kinds rules
+  bookNumber switch = notedNumber (b .note)
   bookNumber (putRow k row) = first (placeCheck k ∷ rowChecks (b .operators) row)
   bookNumber (putRecord k bytes) = first (placeCheck k ∷ recordChecks (b .operators) bytes)
   bookNumber (drop k) = first (placeCheck k ∷ blankCheck (b .slots k) ∷ [])
   bookNumber (ask q) = askedNumber q
 
+  -- the note is the sheet given
+  abbrev pub withNote : Rules → Book
+  withNote s = record { operators = b .operators; rules = b .rules; note = some s; slots = b .slots }
+
+  -- what is noted becomes the book's n, kinds and rules, and the note is cleared
+  abbrev pub ruledByNote : Option Rules → Book
+  ruledByNote none = b
+  ruledByNote (some s) = record { operators = s .operators; rules = s .rules; note = none; slots = b .slots }
+
   -- the place's slot gets what is given
   abbrev pub withSlot : ℕ → Option (List ℕ) → Book
-  withSlot k slot = record { operators = b .operators; rules = b .rules; slots = λ j. cond (eqb j k) slot (b .slots j) }
+  withSlot k slot = record { operators = b .operators; rules = b .rules; note = b .note; slots = λ j. cond (eqb j k) slot (b .slots j) }
 
-  -- Load: n, the kinds and the rules become the call's, slots stay. Put of a row: the slot gets the row; of a record: its yield. Drop: the slot goes blank.
+  -- Staging: the call's sheet is noted. Switch: the noted one is put in force and the note cleared; slots stay. Put of a row: the slot gets the row; of a record: its yield.
+  -- Drop: the slot goes blank.
   abbrev pub entered : Call → Book
-  entered (load n bytes) = record { operators = operatorsIn n bytes; rules = rulesIn n bytes; slots = b .slots }
-  entered (loadList n kinds rules) = record { operators = operators n kinds; rules = rules; slots = b .slots }
+  entered (stage n bytes) = withNote (ruledBy (operatorsIn n bytes) (rulesIn n bytes))
+  entered (stageList n kinds rules) = withNote (ruledBy (operators n kinds) rules)
+  entered switch = ruledByNote (b .note)
   entered (putRow k row) = withSlot k (some row)
   entered (putRecord k bytes) = withSlot k (some (rowOf (treeOf (class (b .operators)) bytes)))
   entered (drop k) = withSlot k none

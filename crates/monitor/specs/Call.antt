@@ -17,10 +17,11 @@ pub data Question : Type 0 where
   -- docs/REFERENCE.md, section 6
   shortestRow : (bytes : List ℕ) (out : List ℕ) → Question
 
--- All calls. A load's bytes are its kinds and then its rules; `loadList` is the load whose kinds and rules come as two lists.
+-- All calls. A staging's bytes are its kinds and then its rules; `stageList` is the staging whose kinds and rules come as two lists.
 pub data Call : Type 0 where
-  load : (n : ℕ) (bytes : List ℕ) → Call
-  loadList : (n : ℕ) (kinds : List ℕ) (rules : List Rule) → Call
+  stage : (n : ℕ) (bytes : List ℕ) → Call
+  stageList : (n : ℕ) (kinds : List ℕ) (rules : List Rule) → Call
+  switch : Call
   putRow : (place : ℕ) (row : List ℕ) → Call
   putRecord : (place : ℕ) (bytes : List ℕ) → Call
   drop : (place : ℕ) → Call
@@ -40,8 +41,9 @@ lentBefore (shortestRow bytes out) = out
 
 -- the same of any call
 abbrev pub lentTo : Call → List ℕ
-lentTo (load n bytes) = []
-lentTo (loadList n kinds rules) = []
+lentTo (stage n bytes) = []
+lentTo (stageList n kinds rules) = []
+lentTo switch = []
 lentTo (putRow k row) = []
 lentTo (putRecord k bytes) = []
 lentTo (drop k) = []

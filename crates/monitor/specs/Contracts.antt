@@ -29,9 +29,17 @@ pub record Changes (p : Panel) (c : Call) (r : ℕ) (later : Panel) : Type 0 whe
   pub numbered : r ≡ reply p c .number
   pub stands : later ≡ after p c
 
--- A drop looks at no sheet: it does so whatever sheet is in force.
+-- A staging changes what is staged alone, whatever sheet is in force and whatever the places hold,
+pub record Stages (staged : List ℕ) (c : Call) (r : ℕ) (later : List ℕ) : Type 0 where
+  pub changes : (sheet places : List ℕ) → Changes (panel sheet staged places) c r (panel sheet later places)
+
+-- a put the places alone, whatever is staged,
+pub record Puts (sheet places : List ℕ) (c : Call) (r : ℕ) (later : List ℕ) : Type 0 where
+  pub changes : (staged : List ℕ) → Changes (panel sheet staged places) c r (panel sheet staged later)
+
+-- and a drop too, whatever sheets there are.
 pub record Drops (places : List ℕ) (k r : ℕ) (later : List ℕ) : Type 0 where
-  pub changes : (sheet : List ℕ) → Changes (panel sheet places) (call.drop k) r (panel sheet later)
+  pub changes : (sheet staged : List ℕ) → Changes (panel sheet staged places) (call.drop k) r (panel sheet staged later)
 
 -- ---- questions with a lent output
 -- The question answered r, and the output became `later`.
@@ -40,32 +48,36 @@ pub record AnswersInto (p : Panel) (q : Question) (r : Answer) (later : List ℕ
   pub measured : r .length ≡ reply p (ask q) .length
   pub output : later ≡ reply p (ask q) .output
 
+-- None looks at the stage.
+pub record AnswersOn (sheet places : List ℕ) (q : Question) (r : Answer) (later : List ℕ) : Type 0 where
+  pub answers : (staged : List ℕ) → AnswersInto (panel sheet staged places) q r later
+
 -- One that looks at no place answers so whatever the places hold,
 pub record AnswersUnder (sheet : List ℕ) (q : Question) (r : Answer) (later : List ℕ) : Type 0 where
-  pub answers : (places : List ℕ) → AnswersInto (panel sheet places) q r later
+  pub answers : (staged places : List ℕ) → AnswersInto (panel sheet staged places) q r later
 
 -- and one that looks at no sheet whatever sheet is in force.
 pub record AnswersFrom (places : List ℕ) (q : Question) (r : Answer) (later : List ℕ) : Type 0 where
-  pub answers : (sheet : List ℕ) → AnswersInto (panel sheet places) q r later
+  pub answers : (sheet staged : List ℕ) → AnswersInto (panel sheet staged places) q r later
 
--- ---- judge and operand, whatever the places hold
+-- ---- judge and operand, whatever is staged and whatever the places hold
 pub record Judges (sheet bytes : List ℕ) (r : Judgement) : Type 0 where
-  pub numbered : (places : List ℕ) → r .number ≡ reply (panel sheet places) (ask (judge bytes)) .number
-  pub counted : (places : List ℕ) → r .count ≡ reply (panel sheet places) (ask (judge bytes)) .count
+  pub numbered : (staged places : List ℕ) → r .number ≡ reply (panel sheet staged places) (ask (judge bytes)) .number
+  pub counted : (staged places : List ℕ) → r .count ≡ reply (panel sheet staged places) (ask (judge bytes)) .count
 
 -- The number of an operand call, for either side.
 pub record NumbersOperand (sheet bytes : List ℕ) (r : ℕ) : Type 0 where
-  pub numbered : (places : List ℕ) (right : Bool) → r ≡ reply (panel sheet places) (ask (operand right bytes)) .number
+  pub numbered : (staged places : List ℕ) (right : Bool) → r ≡ reply (panel sheet staged places) (ask (operand right bytes)) .number
 
 pub record FindsOperand (sheet : List ℕ) (right : Bool) (bytes part : List ℕ) : Type 0 where
-  pub found : (places : List ℕ) → part ≡ reply (panel sheet places) (ask (operand right bytes)) .part
+  pub found : (staged places : List ℕ) → part ≡ reply (panel sheet staged places) (ask (operand right bytes)) .part
 
 -- The same by its place in the record: the operand's own, and not one with the same bytes.
 pub record PlacesOperand (sheet : List ℕ) (right : Bool) (bytes : List ℕ) (r : Part) : Type 0 where
   pub placed : OperandAt (operatorsOf sheet) right bytes r
   pub found : FindsOperand sheet right bytes (take (r .to - r .from) (drop (r .from) bytes))
 
--- ---- inside the load
+-- ---- inside the switch
 -- The bytes use an operator that is not below n, or one of a set.
 unfoldable pub usesBy : ℕ → ℕ → List ℕ → Bool
 usesBy n set bytes = anyHolds (λ c. beyond (operators n []) c || (ltb c mostOperators && bitOf set c)) bytes
@@ -74,7 +86,7 @@ usesBy n set bytes = anyHolds (λ c. beyond (operators n []) c || (ltb c mostOpe
 unfoldable pub someUse : ℕ → ℕ → List ℕ → Bool
 someUse n set places = not (allBelow placeCount (λ k. not (usesBy n set (held places k))))
 
--- ---- inside the puts and the load
+-- ---- inside the puts and the switch
 -- What is built of a row, or of a record's row, is stored at a place; the places are as they were where it is refused.
 module _ (sheet places : List ℕ) (k : ℕ) where
   abbrev pub afterRow : List ℕ → List ℕ

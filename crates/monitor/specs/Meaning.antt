@@ -7,7 +7,7 @@ use mathlib.Core.List.{List, [], _∷_}
 use lib.ListN.{length}
 use lib.ListN as lists
 use Rattle.expression.specs.Limits.{mostOperators, mostRules, mostRuleBytes, bytesOfRule, mostTokens, mostRecordBytes}
-use Rattle.expression.specs.Refusal.{accepted, oversize, torn, stranger, dead, double, noRow, noTree, place, empty, short, inUse}
+use Rattle.expression.specs.Refusal.{accepted, oversize, torn, stranger, dead, double, noRow, noTree, place, empty, short, inUse, nothingStaged}
 use Rattle.expression.specs.Token.{Closing, Meaningless, prefixKind, Operators, operators, kindOf, class}
 use Rattle.expression.specs.Tree.{Tree}
 use Rattle.expression.specs.Tree as tree
@@ -16,8 +16,8 @@ use Rattle.disambiguation.specs.Rules.{Rule, priority, right}
 use Rattle.disambiguation.specs.ExactlyOne.{SomeRowHasNone, EveryRowHasOne, SomeRowHasTwo}
 use Rattle.disambiguation.specs.SheetChecks.{rulesIn, operatorsIn}
 use Rattle.places.specs.Store.{placeCount}
-use Rattle.monitor.specs.Call.{Question, Call, lentBefore, load, loadList, putRow, putRecord, drop, ask, fetchRecord, fetchRow, image, build, repair, judge, yield, operand, shortestRow}
-use Rattle.monitor.specs.Book.{Book}
+use Rattle.monitor.specs.Call.{Question, Call, lentBefore, stage, stageList, switch, putRow, putRecord, drop, ask, fetchRecord, fetchRow, image, build, repair, judge, yield, operand, shortestRow}
+use Rattle.monitor.specs.Book.{Rules, Book}
 use Rattle.monitor.specs.Answers.{Records, Told}
 
 -- Where the condition holds, the number is this one; where it does not, what follows tells the number.
@@ -40,6 +40,14 @@ StrangeKind kind = prefixKind < kind
 -- the kind is not 01 to 03, or an operator is not below n
 abbrev pub StrangeRule : ℕ → Rule → Type 0
 StrangeRule n r = (r .kind < priority) ⊎ (right < r .kind) ⊎ (n ≤ r .first) ⊎ (n ≤ r .second)
+
+-- A sheet: 3, an operator's kind, or a rule's kind or operators; 4, some row of any length has no conflict-free tree; 5, every row has one, and some row two.
+abbrev pub OfSheet : Operators → List Rule → ℕ → Type 0
+OfSheet new rules =
+    When (SomeOf StrangeKind (new .kinds) ⊎ SomeOf (StrangeRule (new .count)) rules) stranger
+    (When (SomeRowHasNone new rules) dead
+    (When (EveryRowHasOne new rules × SomeRowHasTwo new rules) double
+    Accepted))
 
 module _ (b : Book) where
   -- 8: the place is over 15. 9: its slot is blank.
@@ -70,15 +78,10 @@ module _ (b : Book) where
       (When ((t : Tree) × Records b bytes t × (mostTokens < length (tree.yield t))) oversize
       Else)))
 
-  -- A sheet: 3, an operator's kind, or a rule's kind or operators; 4, some row of any length has no conflict-free tree; 5, every row has one, and some row two;
-  -- 11, a slot's row uses an operator that is not below n, or one whose kind changes.
-  abbrev pub OfSheet : Operators → List Rule → ℕ → Type 0
-  OfSheet new rules =
-      When (SomeOf StrangeKind (new .kinds) ⊎ SomeOf (StrangeRule (new .count)) rules) stranger
-      (When (SomeRowHasNone new rules) dead
-      (When (EveryRowHasOne new rules × SomeRowHasTwo new rules) double
-      (When ((k : ℕ) × (row : List ℕ) × (k < placeCount) × (b .slots k ≡ some row) × SomeOf (λ c. (c < mostOperators) × ((new .count ≤ c) ⊎ (kindOf (b .operators) c ≡ kindOf new c → ⊥))) row) inUse
-      Accepted)))
+  -- 11: a slot's row uses an operator that is not below n of the new operators, or one whose kind they change.
+  abbrev pub UsesOther : Operators → Type 0
+  UsesOther new =
+      (k : ℕ) × (row : List ℕ) × (k < placeCount) × (b .slots k ≡ some row) × SomeOf (λ c. (c < mostOperators) × ((new .count ≤ c) ⊎ (kindOf (b .operators) c ≡ kindOf new c → ⊥))) row
 
   abbrev pub MeansAsked : Question → ℕ → Type 0
   MeansAsked (fetchRecord k out) = AtPlace k (NotBlank k (WithRoom (fetchRecord k out)))
@@ -92,16 +95,20 @@ module _ (b : Book) where
   MeansAsked (shortestRow bytes out) = OfRecord bytes (WithRoom (shortestRow bytes out))
 
   -- The number of a call is given under its condition, and under nothing else. 1 of a sheet: n over 32, or over 2,048 rules; 2: fewer than n kinds, or bytes that end within a rule;
-  -- of lists, any number of kinds but n.
+  -- of lists, any number of kinds but n. A switch: 15, no sheet is noted; 11 by the noted one.
   abbrev pub Means : Call → ℕ → Type 0
-  Means (load n bytes) =
+  Means (stage n bytes) =
       When ((mostOperators < n) ⊎ (mostRuleBytes < length (lists.drop n bytes))) oversize
       (When ((length bytes < n) ⊎ (length (lists.drop n bytes) % bytesOfRule ≡ 0 → ⊥)) torn
       (OfSheet (operatorsIn n bytes) (rulesIn n bytes)))
-  Means (loadList n kinds rules) =
+  Means (stageList n kinds rules) =
       When ((mostOperators < n) ⊎ (mostRules < length rules)) oversize
       (When (length kinds ≡ n → ⊥) torn
       (OfSheet (operators n kinds) rules))
+  Means switch =
+      When (b .note ≡ none) nothingStaged
+      (When ((s : Rules) × (b .note ≡ some s) × UsesOther (s .operators)) inUse
+      Accepted)
   Means (putRow k row) = AtPlace k (OfRow row Accepted)
   Means (putRecord k bytes) = AtPlace k (OfRecord bytes Accepted)
   Means (drop k) = AtPlace k (NotBlank k Accepted)

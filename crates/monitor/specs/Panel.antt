@@ -1,37 +1,39 @@
 -- A panel value, and the checks and the rebuilding that its calls share. Assumes nothing.
 use Prim.Native.Nat.{ℕ, zero, suc}
 use mathlib.Core.Bool.{Bool, true, false, not, _&&_, _||_, cond}
-use mathlib.Core.List.{List, [], _∷_, _++_}
+use mathlib.Core.List.{List, [], _∷_}
 use lib.Dec.{eqb, ltb}
 use Rattle.expression.specs.Lists.{anyHolds}
 use Rattle.expression.specs.Limits.{mostOperators}
-use Rattle.expression.specs.Refusal.{Check, accepted, place, empty, inUse}
-use Rattle.expression.specs.Token.{Operators, operators, kindOf, class}
+use Rattle.expression.specs.Refusal.{Check, accepted, place, empty, inUse, nothingStaged}
+use Rattle.expression.specs.Token.{Operators, kindOf, class}
 use Rattle.expression.specs.Decode.{treeOf}
 use Rattle.expression.specs.Operand.{rowOf}
 use Rattle.expression.specs.Checks.{recordNumber}
-use Rattle.disambiguation.specs.Rules.{Rule, L, R}
 use Rattle.disambiguation.specs.Below.{allBelow}
-use Rattle.disambiguation.specs.Verdict.{ruleChecks}
-use Rattle.disambiguation.specs.SheetChecks.{rulesIn, operatorsIn, orderChecks, listOrderChecks}
-use Rattle.sheet.specs.Layout.{operatorsOf}
+use Rattle.sheet.specs.Layout.{operatorsOf, isLoaded}
 use Rattle.sheet.specs.Layout as layout
 use Rattle.sheet.specs.Relation.{closesIn}
 use Rattle.parser.specs.Build.{built}
 use Rattle.places.specs.Store.{placeCount, held, stored}
 use Rattle.places.specs.Store as store
 
--- the sheet in force, and the store of the sixteen places, as they are lent
+-- the sheet in force, the one staged beside it, and the store of the sixteen places, as they are lent
 pub record Panel : Type 0 where
   pub sheet : List ℕ
+  pub staged : List ℕ
   pub places : List ℕ
 
-abbrev pub panel : List ℕ → List ℕ → Panel
-panel sheet places = record { sheet = sheet; places = places }
+abbrev pub panel : List ℕ → List ℕ → List ℕ → Panel
+panel sheet staged places = record { sheet = sheet; staged = staged; places = places }
 
--- n = 0, no rules, sixteen empty places
+-- the words of a stage with no sheet on it
+abbrev pub noneStaged : List ℕ
+noneStaged = layout.fresh
+
+-- n = 0, no rules, nothing staged, sixteen empty places
 abbrev pub fresh : Panel
-fresh = panel layout.fresh store.fresh
+fresh = panel layout.fresh noneStaged store.fresh
 
 -- 8 and 9
 abbrev pub placeCheck : ℕ → Check
@@ -59,13 +61,9 @@ usesOther old new bytes = anyHolds (λ c. beyond new c || changed old new c) byt
 abbrev pub inUseCheck : Operators → Operators → (ℕ → List ℕ) → Check
 inUseCheck old new holds = (not (allBelow placeCount (λ k. not (usesOther old new (holds k)))), inUse)
 
--- 1, 2, 3, 4, 5 of a sheet
-abbrev pub sheetChecks : ℕ → List ℕ → List Check
-sheetChecks n bytes = orderChecks n bytes ++ ruleChecks (operatorsIn n bytes) (L (rulesIn n bytes)) (R (rulesIn n bytes))
-
--- the same of a sheet whose kinds and rules come as lists
-abbrev pub listChecks : ℕ → List ℕ → List Rule → List Check
-listChecks n kinds rules = listOrderChecks n kinds rules ++ ruleChecks (operators n kinds) (L rules) (R rules)
+-- 15: no sheet was loaded onto the stage
+abbrev pub stagedCheck : List ℕ → Check
+stagedCheck staged = (not (isLoaded staged), nothingStaged)
 
 -- x, where the number is 0, and else y
 abbrev pub ifAccepted : {A : Type 0} → ℕ → A → A → A

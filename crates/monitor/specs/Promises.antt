@@ -4,11 +4,11 @@
 use Prim.Native.Nat.{ℕ, _≤_}
 use mathlib.Core.Path.{_≡_}
 use mathlib.Core.Logic.{_↔_, _⊎_}
-use mathlib.Core.Option.{some}
+use mathlib.Core.Option.{none, some}
 use mathlib.Core.List.{List, _∷_}
 use lib.ListN.{length}
 use Rattle.expression.specs.Limits.{mostTokens, mostRecordBytes}
-use Rattle.expression.specs.Refusal.{accepted, dead, double}
+use Rattle.expression.specs.Refusal.{accepted, dead, double, inUse, nothingStaged}
 use Rattle.expression.specs.Token.{Operators, operators, class}
 use Rattle.expression.specs.Grammar.{Row}
 use Rattle.expression.specs.Tree.{Tree, recordOf, Over}
@@ -22,12 +22,13 @@ use Rattle.disambiguation.specs.SheetChecks.{rulesIn, operatorsIn, InOrder, Lis
 use Rattle.sheet.specs.InForce.{InForce}
 use Rattle.parser.specs.FromTheLeft.{state, FromTheLeft}
 use Rattle.brackets.specs.SameMeaning.{ShortestRow}
-use Rattle.monitor.specs.Call.{Call, Reply, lentTo, load, loadList, putRecord, ask, build, repair, judge, yield, shortestRow}
+use Rattle.monitor.specs.Call.{Call, Reply, lentTo, stage, stageList, switch, putRecord, ask, build, repair, judge, yield, shortestRow}
 use Rattle.monitor.specs.Panel.{Panel}
 use Rattle.monitor.specs.Steps.{after, reply}
+use Rattle.monitor.specs.Book.{Rules, ruledBy}
 use Rattle.monitor.specs.Answers.{Answers}
 use Rattle.monitor.specs.Meaning.{Means}
-use Rattle.monitor.specs.Run.{panelAfter, answer, bookAfter, ruledBy, inForce, lastPut, Each, IsLoad, AnsweredBy, HoldsTree, Filled, RepairsTo}
+use Rattle.monitor.specs.Run.{panelAfter, answer, bookAfter, lastStaged, inForce, lastPut, Each, IsStaging, AnsweredBy, HoldsTree, Filled, RepairsTo}
 
 -- Demand 1. A refusal changes neither the panel nor a lent buffer. (That its number is that of docs/REFERENCE.md, section 4, is `answered` below, and each call's contract.)
 pub record Demand1 (p : Panel) (c : Call) : Type 0 where
@@ -66,7 +67,7 @@ module _ (cs : List Call) where
 
   -- Demand 3.
   pub record Demand3 : Type 0 where
-    -- The sheet in force is that of the last accepted load of the list, or the fresh panel's: the panel's has its operators, and its relation is that of its rules.
+    -- The sheet in force is the one that the last accepted switch of the list found staged, or the fresh panel's: the panel's has its operators, and its relation is that of its rules.
     pub sheet : InForce (panelAfter cs .sheet) ops rules
     -- Every row of any length over the operators of the sheet in force has exactly one conflict-free tree.
     pub one-tree : EveryRowHasExactlyOne ops rules
@@ -74,7 +75,7 @@ module _ (cs : List Call) where
     pub filled : (k : ℕ) → Filled cs k ↔ ((row : List ℕ) × (lastPut k cs ≡ some row))
     -- and it then holds that tree, for the row, or the record's row, of the last accepted put there.
     pub held-tree : (k : ℕ) (row : List ℕ) → lastPut k cs ≡ some row → (t : Tree) × ConflictFreeTree ops rules row t × HoldsTree cs k t
-    -- The book agrees with the list: its operators and rules are those of the last accepted load, its slots those of the last accepted puts;
+    -- The book agrees with the list: its operators and rules are those of the sheet in force, its slots those of the last accepted puts;
     pub book-sheet : ruledBy (bookAfter cs .operators) (bookAfter cs .rules) ≡ inForce cs
     pub book-slots : (k : ℕ) → bookAfter cs .slots k ≡ lastPut k cs
     -- an accepted put of a record there enters the row of the tree that the record is of.
@@ -86,14 +87,14 @@ module _ (cs : List Call) where
     pub one-answer : (c : Call) (r s : Reply) → Answers (bookAfter cs) c r → Answers (bookAfter cs) c s → r ≡ s
     -- Each number is given under its condition, and under nothing else.
     pub numbers : Each (λ before c. Means (bookAfter before) c (answer before c .number)) cs
-    -- A load keeps the length of every held record.
-    pub same-lengths : (c : Call) → IsLoad c → (k : ℕ) (t u : Tree) → HoldsTree cs k t → HoldsTree (c ∷ cs) k u → length (recordOf t) ≡ length (recordOf u)
+    -- A switch keeps the length of every held record.
+    pub same-lengths : (k : ℕ) (t u : Tree) → HoldsTree cs k t → HoldsTree (switch ∷ cs) k u → length (recordOf t) ≡ length (recordOf u)
     -- A sheet in order is refused for its rules exactly when some row of any length has no conflict-free tree under it, or two or more: in bytes,
     pub refused : (m : ℕ) (bytes : List ℕ) → InOrder m bytes
-        → ForItsRules (answer cs (load m bytes) .number) ↔ (SomeRowHasNone (operatorsIn m bytes) (rulesIn m bytes) ⊎ SomeRowHasTwo (operatorsIn m bytes) (rulesIn m bytes))
+        → ForItsRules (answer cs (stage m bytes) .number) ↔ (SomeRowHasNone (operatorsIn m bytes) (rulesIn m bytes) ⊎ SomeRowHasTwo (operatorsIn m bytes) (rulesIn m bytes))
     -- and with its kinds and rules as lists.
     pub refused-list : (m : ℕ) (kinds : List ℕ) (given : List Rule) → ListInOrder m kinds given
-        → ForItsRules (answer cs (loadList m kinds given) .number) ↔ (SomeRowHasNone (operators m kinds) given ⊎ SomeRowHasTwo (operators m kinds) given)
+        → ForItsRules (answer cs (stageList m kinds given) .number) ↔ (SomeRowHasNone (operators m kinds) given ⊎ SomeRowHasTwo (operators m kinds) given)
     -- Two trees over the operators of the sheet in force, within the lengths, repair to the same bytes exactly when their rows are the same.
     pub same-bytes : (t u : Tree) → Over (class ops) t → Over (class ops) u → Within t → Within u
         → ((bytes : List ℕ) × RepairsTo cs t bytes × RepairsTo cs u bytes) ↔ (tree.yield t ≡ tree.yield u)
@@ -119,6 +120,18 @@ module _ (cs : List Call) where
     pub repairs : (t : Tree) → Over (class ops) t → Within t
         → (u : Tree) × (finish (state (panelAfter cs .sheet) ops (tree.yield t)) ≡ some u)
         × ((out : List ℕ) → length (recordOf u) ≤ length out → AnsweredBy cs (ask (repair (recordOf t) out)) out (recordOf u))
+
+  -- W6, stage, then switch. In the list and in the book the sheet of the last accepted staging is noted until a switch is accepted.
+  pub record StageThenSwitch : Type 0 where
+    -- The book's note is that sheet, and the panel's stage has its operators, and the relation of its rules.
+    pub book-note : bookAfter cs .note ≡ lastStaged cs
+    pub staged : (s : Rules) → lastStaged cs ≡ some s → InForce (panelAfter cs .staged) (s .operators) (s .rules)
+    -- A staging, accepted or refused, changes no answer of any other call but a switch, and never gives 11.
+    pub unseen : (c d : Call) → IsStaging c → (d ≡ switch → ⊥) → answer (c ∷ cs) d ≡ answer cs d
+    pub never-in-use : (c : Call) → IsStaging c → answer cs c .number ≡ inUse → ⊥
+    -- A switch gives 15 exactly when nothing is staged. An accepted one found a sheet staged, puts that one in force, and leaves nothing staged.
+    pub nothing : (answer cs switch .number ≡ nothingStaged) ↔ (lastStaged cs ≡ none)
+    pub switched : answer cs switch .number ≡ accepted → (s : Rules) × (lastStaged cs ≡ some s) × (inForce (switch ∷ cs) ≡ s) × (lastStaged (switch ∷ cs) ≡ none)
 
 -- W4, chains of priority. Of any rules, which patterns they exclude: both where one or more priority rules lead from the one operator to the other, whatever their kinds, and else
 -- by left and right as written. With W5, what an operator sees of an operand is said in `Edges`. Demands 2 and 3 and the requests above speak of conflicts by these patterns.

@@ -8,18 +8,17 @@ use lib.Dec.{eqb}
 use lib.ListN.{length}
 use lib.ListN as lists
 use Rattle.expression.specs.Refusal.{accepted}
-use Rattle.expression.specs.Token.{Operators, operators, class}
+use Rattle.expression.specs.Token.{operators, class}
 use Rattle.expression.specs.Tree.{Tree, recordOf}
 use Rattle.expression.specs.Tree as tree
 use Rattle.expression.specs.Decode.{treeOf}
 use Rattle.expression.specs.Operand.{rowOf}
-use Rattle.disambiguation.specs.Rules.{Rule}
 use Rattle.disambiguation.specs.SheetChecks.{rulesIn, operatorsIn}
 use Rattle.places.specs.Store.{imageOf}
-use Rattle.monitor.specs.Call.{Call, load, loadList, putRow, putRecord, drop, ask, fetchRecord, fetchRow, image, repair, Reply}
+use Rattle.monitor.specs.Call.{Call, stage, stageList, switch, putRow, putRecord, drop, ask, fetchRecord, fetchRow, image, repair, Reply}
 use Rattle.monitor.specs.Panel.{Panel, fresh}
 use Rattle.monitor.specs.Steps.{after, reply}
-use Rattle.monitor.specs.Book.{Book, blank, next}
+use Rattle.monitor.specs.Book.{Rules, ruledBy, Book, blank, next}
 
 -- each call gets the panel that the one before it left
 unfoldable pub panelAfter : List Call → Panel
@@ -39,18 +38,28 @@ bookAfter (c ∷ cs) = next (bookAfter cs) c
 abbrev pub isAccepted : List Call → Call → Bool
 isAccepted cs c = eqb (answer cs c .number) accepted
 
--- The sheet in force, said of the list: the operators and the rules of the last accepted load, or the fresh panel's.
-pub record Rules : Type 0 where
-  pub operators : Operators
-  pub rules : List Rule
+-- What is staged, said of the list: the sheet of the last accepted staging; none where there was no such staging, or a switch was accepted since.
+unfoldable pub lastStaged : List Call → Option Rules
+lastStaged [] = none
+lastStaged (stage n bytes ∷ cs) = cond (isAccepted cs (stage n bytes)) (some (ruledBy (operatorsIn n bytes) (rulesIn n bytes))) (lastStaged cs)
+lastStaged (stageList n kinds rules ∷ cs) = cond (isAccepted cs (stageList n kinds rules)) (some (ruledBy (operators n kinds) rules)) (lastStaged cs)
+lastStaged (switch ∷ cs) = cond (isAccepted cs switch) none (lastStaged cs)
+lastStaged (putRow k row ∷ cs) = lastStaged cs
+lastStaged (putRecord k bytes ∷ cs) = lastStaged cs
+lastStaged (drop k ∷ cs) = lastStaged cs
+lastStaged (ask q ∷ cs) = lastStaged cs
 
-abbrev pub ruledBy : Operators → List Rule → Rules
-ruledBy ops rules = record { operators = ops; rules = rules }
+-- the sheet of an option, or the other
+abbrev pub orElse : Option Rules → Rules → Rules
+orElse none other = other
+orElse (some s) other = s
 
+-- The sheet in force, said of the list: what was staged at the last accepted switch, which is never nothing, or the fresh panel's.
 unfoldable pub inForce : List Call → Rules
 inForce [] = ruledBy (operators 0 []) []
-inForce (load n bytes ∷ cs) = cond (isAccepted cs (load n bytes)) (ruledBy (operatorsIn n bytes) (rulesIn n bytes)) (inForce cs)
-inForce (loadList n kinds rules ∷ cs) = cond (isAccepted cs (loadList n kinds rules)) (ruledBy (operators n kinds) rules) (inForce cs)
+inForce (stage n bytes ∷ cs) = inForce cs
+inForce (stageList n kinds rules ∷ cs) = inForce cs
+inForce (switch ∷ cs) = cond (isAccepted cs switch) (orElse (lastStaged cs) (inForce cs)) (inForce cs)
 inForce (putRow k row ∷ cs) = inForce cs
 inForce (putRecord k bytes ∷ cs) = inForce cs
 inForce (drop k ∷ cs) = inForce cs
@@ -59,11 +68,12 @@ inForce (ask q ∷ cs) = inForce cs
 -- The row, or the record's row, of the last accepted put at the place k; none where there was no such put, or a drop there was accepted since.
 unfoldable pub lastPut : ℕ → List Call → Option (List ℕ)
 lastPut k [] = none
-lastPut k (loadList n kinds rules ∷ cs) = lastPut k cs
 lastPut k (putRow j row ∷ cs) = cond (isAccepted cs (putRow j row) && eqb k j) (some row) (lastPut k cs)
 lastPut k (putRecord j bytes ∷ cs) = cond (isAccepted cs (putRecord j bytes) && eqb k j) (some (rowOf (treeOf (class (inForce cs .operators)) bytes))) (lastPut k cs)
 lastPut k (drop j ∷ cs) = cond (isAccepted cs (drop j) && eqb k j) none (lastPut k cs)
-lastPut k (load n bytes ∷ cs) = lastPut k cs
+lastPut k (stage n bytes ∷ cs) = lastPut k cs
+lastPut k (stageList n kinds rules ∷ cs) = lastPut k cs
+lastPut k (switch ∷ cs) = lastPut k cs
 lastPut k (ask q ∷ cs) = lastPut k cs
 
 -- the statement holds of each element of a list, with those before it: they follow it in the list
@@ -71,14 +81,15 @@ abbrev pub Each : {A : Type 0} → (List A → A → Type 0) → List A → Type
 Each P [] = Unit {0}
 Each P (c ∷ cs) = P cs c × Each P cs
 
--- a load in either form
-abbrev pub IsLoad : Call → Type 0
-IsLoad (load n bytes) = Unit {0}
-IsLoad (loadList n kinds rules) = Unit {0}
-IsLoad (putRow k row) = ⊥
-IsLoad (putRecord k bytes) = ⊥
-IsLoad (drop k) = ⊥
-IsLoad (ask q) = ⊥
+-- a staging in either form
+abbrev pub IsStaging : Call → Type 0
+IsStaging (stage n bytes) = Unit {0}
+IsStaging (stageList n kinds rules) = Unit {0}
+IsStaging switch = ⊥
+IsStaging (putRow k row) = ⊥
+IsStaging (putRecord k bytes) = ⊥
+IsStaging (drop k) = ⊥
+IsStaging (ask q) = ⊥
 
 module _ (cs : List Call) where
   -- the call is accepted, its answer is as long as the bytes, and its output is the bytes, then what stood there before

@@ -4,12 +4,12 @@ use mathlib.Core.List.{List, [], _∷_, _++_}
 use lib.ListN.{length}
 use Rattle.expression.specs.Refusal.{first}
 use Rattle.expression.specs.Lent.{outputAfter, lengthAfter}
-use Rattle.expression.specs.Token.{Operators, operators, class}
+use Rattle.expression.specs.Token.{Operators, class}
 use Rattle.expression.specs.Decode.{treeOf}
 use Rattle.expression.specs.Operand.{rowOf, operandPart}
 use Rattle.expression.specs.Checks.{shortCheck, rowTokens, rowChecks, recordChecks, recordNumber, buildNumber, repairNumber, yieldNumber}
 use Rattle.disambiguation.specs.Rules.{Rule}
-use Rattle.disambiguation.specs.SheetChecks.{kindsIn, rulesIn, operatorsIn}
+use Rattle.disambiguation.specs.SheetChecks.{kindsIn, rulesIn, sheetNumber, listNumber}
 use Rattle.sheet.specs.Layout.{operatorsOf}
 use Rattle.sheet.specs.Relation.{closesIn}
 use Rattle.sheet.specs.Loading.{sheetOf}
@@ -17,8 +17,8 @@ use Rattle.record.specs.Answers.{judgement}
 use Rattle.parser.specs.Build.{built}
 use Rattle.brackets.specs.Shortest.{shortestOf, shortestNumber}
 use Rattle.places.specs.Store.{placeCount, slotBytes, held, imageOf, stored}
-use Rattle.monitor.specs.Call.{Question, Call, lentTo, load, loadList, putRow, putRecord, drop, ask, fetchRecord, fetchRow, image, build, repair, judge, yield, operand, shortestRow, Reply}
-use Rattle.monitor.specs.Panel.{Panel, panel, placeCheck, emptyCheck, inUseCheck, sheetChecks, listChecks, ifAccepted, rebuilt, rebuiltTo}
+use Rattle.monitor.specs.Call.{Question, Call, lentTo, stage, stageList, switch, putRow, putRecord, drop, ask, fetchRecord, fetchRow, image, build, repair, judge, yield, operand, shortestRow, Reply}
+use Rattle.monitor.specs.Panel.{Panel, panel, noneStaged, placeCheck, emptyCheck, inUseCheck, stagedCheck, ifAccepted, rebuilt, rebuiltTo}
 
 -- What a call gives: its number; accepted, the bytes that it writes into its lent output; a judge's count; an operand's part.
 pub record Outcome : Type 0 where
@@ -37,12 +37,9 @@ module _ (p : Panel) where
   abbrev pub ops : Operators
   ops = operatorsOf (p .sheet)
 
-  -- The numbers.
-  unfoldable pub loadNumber : ℕ → List ℕ → ℕ
-  loadNumber n bytes = first (sheetChecks n bytes ++ (inUseCheck ops (operatorsIn n bytes) (held (p .places)) ∷ []))
-
-  unfoldable pub listLoadNumber : ℕ → List ℕ → List Rule → ℕ
-  listLoadNumber n kinds rules = first (listChecks n kinds rules ++ (inUseCheck ops (operators n kinds) (held (p .places)) ∷ []))
+  -- The numbers. A staging's is the sheet's own: it looks at nothing of the panel.
+  unfoldable pub switchNumber : ℕ
+  switchNumber = first (stagedCheck (p .staged) ∷ inUseCheck ops (operatorsOf (p .staged)) (held (p .places)) ∷ [])
 
   unfoldable pub putRowNumber : ℕ → List ℕ → ℕ
   putRowNumber k row = first (placeCheck k ∷ rowChecks ops row)
@@ -65,8 +62,11 @@ module _ (p : Panel) where
   imageNumber k room = first (placeCheck k ∷ shortCheck slotBytes room ∷ [])
 
   -- The panel after a call that changes it.
-  unfoldable pub afterLoad : ℕ → ℕ → List ℕ → List Rule → Panel
-  afterLoad number n kinds rules = ifAccepted number (panel (sheetOf n kinds rules) (rebuiltTo (sheetOf n kinds rules) placeCount (p .places))) p
+  unfoldable pub stagedAfter : ℕ → ℕ → List ℕ → List Rule → List ℕ
+  stagedAfter number n kinds rules = ifAccepted number (sheetOf n kinds rules) (p .staged)
+
+  unfoldable pub afterSwitch : Panel
+  afterSwitch = ifAccepted switchNumber (panel (p .staged) noneStaged (rebuiltTo (p .staged) placeCount (p .places))) p
 
   unfoldable pub placesAfterRow : ℕ → List ℕ → List ℕ
   placesAfterRow k row = ifAccepted (putRowNumber k row) (stored (p .places) k (built ops (closesIn (p .sheet)) row)) (p .places)
@@ -77,13 +77,17 @@ module _ (p : Panel) where
   unfoldable pub placesAfterDrop : ℕ → List ℕ
   placesAfterDrop k = ifAccepted (dropNumber k) (stored (p .places) k []) (p .places)
 
+  abbrev pub withStaged : List ℕ → Panel
+  withStaged staged = panel (p .sheet) staged (p .places)
+
   abbrev pub withPlaces : List ℕ → Panel
-  withPlaces places = panel (p .sheet) places
+  withPlaces places = panel (p .sheet) (p .staged) places
 
   -- A question changes nothing.
   abbrev pub after : Call → Panel
-  after (load n bytes) = afterLoad (loadNumber n bytes) n (kindsIn n bytes) (rulesIn n bytes)
-  after (loadList n kinds rules) = afterLoad (listLoadNumber n kinds rules) n kinds rules
+  after (stage n bytes) = withStaged (stagedAfter (sheetNumber n bytes) n (kindsIn n bytes) (rulesIn n bytes))
+  after (stageList n kinds rules) = withStaged (stagedAfter (listNumber n kinds rules) n kinds rules)
+  after switch = afterSwitch
   after (putRow k row) = withPlaces (placesAfterRow k row)
   after (putRecord k bytes) = withPlaces (placesAfterRecord k bytes)
   after (drop k) = withPlaces (placesAfterDrop k)
@@ -103,8 +107,9 @@ module _ (p : Panel) where
 
   -- and to all calls.
   abbrev pub outcome : Call → Outcome
-  outcome (load n bytes) = numbered (loadNumber n bytes)
-  outcome (loadList n kinds rules) = numbered (listLoadNumber n kinds rules)
+  outcome (stage n bytes) = numbered (sheetNumber n bytes)
+  outcome (stageList n kinds rules) = numbered (listNumber n kinds rules)
+  outcome switch = numbered switchNumber
   outcome (putRow k row) = numbered (putRowNumber k row)
   outcome (putRecord k bytes) = numbered (putRecordNumber k bytes)
   outcome (drop k) = numbered (dropNumber k)

@@ -1,7 +1,7 @@
-// The panel's calls: the sheet in force and the sixteen places are lent. After a refusal the panel and a lent output are as they were.
-ghost use Rattle.monitor.specs.Call.{load, putRow, putRecord, fetchRecord, fetchRow, image, build, repair, yield, shortestRow};
+// The panel's calls: the sheet in force, the staged one and the sixteen places are lent. After a refusal the panel and a lent output are as they were.
+ghost use Rattle.monitor.specs.Call.{stage, switch, putRow, putRecord, fetchRecord, fetchRow, image, build, repair, yield, shortestRow};
 ghost use Rattle.monitor.specs.Panel.{panel};
-ghost use Rattle.monitor.specs.Contracts.{Changes, Drops, AnswersInto, AnswersUnder, AnswersFrom, Judges, NumbersOperand, FindsOperand, PlacesOperand};
+ghost use Rattle.monitor.specs.Contracts.{Changes, Stages, Puts, Drops, AnswersOn, AnswersUnder, AnswersFrom, Judges, NumbersOperand, FindsOperand, PlacesOperand};
 use expression::limits::MOST_RECORD_BYTES;
 use expression::refusal;
 use places::limits;
@@ -17,25 +17,30 @@ mod storing;
 // The count of places, as a caller's number is compared with it.
 const PLACE_COUNT: u32 = limits::PLACE_COUNT as u32;
 
-// The sheet of n operators, their kinds and the rules takes the old one's place, and every held tree becomes the conflict-free tree of its row.
-pub fn load(
-    sheet: &mut [u32; SHEET_WORDS],
-    places: &mut [u8; STORE_BYTES],
-    n: u32,
-    bytes: &[u8],
-) -> u8
-    ensures { λ r. ⌜ Changes (panel (now (sheet .entry)) (now (places .entry))) (load n (now (bytes .entry))) r (panel (now (sheet .exit)) (now (places .exit))) ⌝ }
+// The sheet of n operators, their kinds and the rules is judged, and staged in place of an earlier one.
+pub fn stage(staged: &mut [u32; SHEET_WORDS], n: u32, bytes: &[u8]) -> u8
+    ensures { λ r. ⌜ Stages (now (staged .entry)) (stage n (now (bytes .entry))) r (now (staged .exit)) ⌝ }
 {
-    let mut new = [0u32; SHEET_WORDS];
-    let number = sheet::load(&mut new, n, bytes);
-    if number != refusal::ACCEPTED {
-        return number;
+    sheet::load(staged, n, bytes)
+}
+
+// The staged sheet is in force, nothing is staged, and every held tree is the conflict-free tree of its row.
+pub fn switch(
+    sheet: &mut [u32; SHEET_WORDS],
+    staged: &mut [u32; SHEET_WORDS],
+    places: &mut [u8; STORE_BYTES],
+) -> u8
+    ensures { λ r. ⌜ Changes (panel (now (sheet .entry)) (now (staged .entry)) (now (places .entry))) switch r (panel (now (sheet .exit)) (now (staged .exit)) (now (places .exit))) ⌝ }
+{
+    if !sheet::is_loaded(staged) {
+        return refusal::NOTHING_STAGED;
     }
-    if in_use::in_use(sheet, &new, places) {
+    if in_use::in_use(sheet, staged, places) {
         return refusal::IN_USE;
     }
-    storing::rebuild_all(&new, places);
-    *sheet = new;
+    storing::rebuild_all(staged, places);
+    *sheet = *staged;
+    *staged = [0u32; SHEET_WORDS];
     refusal::ACCEPTED
 }
 
@@ -46,7 +51,7 @@ pub fn put_row(
     place: u32,
     row: &[u8],
 ) -> u8
-    ensures { λ r. ⌜ Changes (panel (now (sheet .entry)) (now (places .entry))) (putRow place (now (row .entry))) r (panel (now (sheet .entry)) (now (places .exit))) ⌝ }
+    ensures { λ r. ⌜ Puts (now (sheet .entry)) (now (places .entry)) (putRow place (now (row .entry))) r (now (places .exit)) ⌝ }
 {
     if PLACE_COUNT <= place {
         return refusal::PLACE;
@@ -62,7 +67,7 @@ pub fn put_record(
     place: u32,
     bytes: &[u8],
 ) -> u8
-    ensures { λ r. ⌜ Changes (panel (now (sheet .entry)) (now (places .entry))) (putRecord place (now (bytes .entry))) r (panel (now (sheet .entry)) (now (places .exit))) ⌝ }
+    ensures { λ r. ⌜ Puts (now (sheet .entry)) (now (places .entry)) (putRecord place (now (bytes .entry))) r (now (places .exit)) ⌝ }
 {
     if PLACE_COUNT <= place {
         return refusal::PLACE;
@@ -124,7 +129,7 @@ pub fn fetch_row(
     place: u32,
     out: &mut [u8],
 ) -> Answer
-    ensures { λ r. ⌜ AnswersInto (panel (now (sheet .entry)) (now (places .entry))) (fetchRow place (now (out .entry))) r (now (out .exit)) ⌝ }
+    ensures { λ r. ⌜ AnswersOn (now (sheet .entry)) (now (places .entry)) (fetchRow place (now (out .entry))) r (now (out .exit)) ⌝ }
 {
     if PLACE_COUNT <= place {
         return Answer {

@@ -19,6 +19,7 @@ pub struct Lines {
 // Puts the reply to a line and a line end into the output, through the lent array; how much of the output is then filled.
 pub fn answer(
     sheet: &mut [u32; SHEET_WORDS],
+    staged: &mut [u32; SHEET_WORDS],
     places: &mut [u8; STORE_BYTES],
     line: &[u8],
     reply: &mut [u8; MOST_REPLY],
@@ -26,9 +27,9 @@ pub fn answer(
     at: usize,
 ) -> usize
     requires { ⌜ (at + mostReplyLine ≤ block) × (length (now out) ≡ block) ⌝ }
-    ensures { λ r. ⌜ Puts (panel (now (sheet .entry)) (now (places .entry))) (now (line .entry)) (now (out .entry)) (now (out .exit)) at r (panel (now (sheet .exit)) (now (places .exit))) ⌝ }
+    ensures { λ r. ⌜ Puts (panel (now (sheet .entry)) (now (staged .entry)) (now (places .entry))) (now (line .entry)) (now (out .entry)) (now (out .exit)) at r (panel (now (sheet .exit)) (now (staged .exit)) (now (places .exit))) ⌝ }
 {
-    let length = frame::reply(sheet, places, line, reply);
+    let length = frame::reply(sheet, staged, places, line, reply);
     let to = at + MOST_REPLY;
     let text = &reply[..];
     bytes::copy(&text[0..length], &mut out[at..to]);
@@ -40,20 +41,29 @@ pub fn answer(
 // Answers the complete lines of a buffer from a place on, as many as the output has room for: none only where there are none.
 pub fn answer_lines(
     sheet: &mut [u32; SHEET_WORDS],
+    staged: &mut [u32; SHEET_WORDS],
     places: &mut [u8; STORE_BYTES],
     buf: &[u8],
     from: usize,
     out: &mut [u8],
 ) -> Lines
     requires { ⌜ (from ≤ length (now buf)) × (length (now out) ≡ block) ⌝ }
-    ensures { λ r. ⌜ AnswersLines (panel (now (sheet .entry)) (now (places .entry))) (now (buf .entry)) from (now (out .exit)) (r .rest) (r .filled) (panel (now (sheet .exit)) (now (places .exit))) ⌝ }
+    ensures { λ r. ⌜ AnswersLines (panel (now (sheet .entry)) (now (staged .entry)) (now (places .entry))) (now (buf .entry)) from (now (out .exit)) (r .rest) (r .filled) (panel (now (sheet .exit)) (now (staged .exit)) (now (places .exit))) ⌝ }
 {
     let mut reply = [0u8; MOST_REPLY];
     let mut rest = from;
     let mut filled = 0;
     let mut end = line_io::line_end(buf, from);
     while end < buf.len() && filled <= MOST_FILLED {
-        filled = answer(sheet, places, &buf[rest..end], &mut reply, out, filled);
+        filled = answer(
+            sheet,
+            staged,
+            places,
+            &buf[rest..end],
+            &mut reply,
+            out,
+            filled,
+        );
         rest = end + 1;
         end = line_io::line_end(buf, rest);
     }

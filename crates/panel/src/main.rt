@@ -45,18 +45,19 @@ fn stopped() -> State
 // At the end of the input, the reply to a last line without line end.
 fn finish(
     sheet: &mut [u32; SHEET_WORDS],
+    staged: &mut [u32; SHEET_WORDS],
     places: &mut [u8; STORE_BYTES],
     line: &[u8],
     out: &mut [u8],
 ) -> State
     requires { ⌜ length (now out) ≡ block ⌝ }
-    ensures { λ r. ⌜ Finishes (panel (now (sheet .entry)) (now (places .entry))) (now (line .entry)) (panel (now (sheet .exit)) (now (places .exit))) (r .kept) (r .go) ⌝ }
+    ensures { λ r. ⌜ Finishes (panel (now (sheet .entry)) (now (staged .entry)) (now (places .entry))) (now (line .entry)) (panel (now (sheet .exit)) (now (staged .exit)) (now (places .exit))) (r .kept) (r .go) ⌝ }
 {
     if line.len() == 0 {
         return stopped();
     }
     let mut reply = [0u8; MOST_REPLY];
-    let filled = lines::answer(sheet, places, line, &mut reply, out, 0);
+    let filled = lines::answer(sheet, staged, places, line, &mut reply, out, 0);
     io::write_all(STDOUT_FILENO, &out[0..filled]);
     stopped()
 }
@@ -64,16 +65,17 @@ fn finish(
 // The replies to the complete lines of a block, written out each time that the output is full, and at the end.
 fn answer_block(
     sheet: &mut [u32; SHEET_WORDS],
+    staged: &mut [u32; SHEET_WORDS],
     places: &mut [u8; STORE_BYTES],
     buf: &[u8],
     out: &mut [u8],
 ) -> Block
     requires { ⌜ length (now out) ≡ block ⌝ }
-    ensures { λ r. ⌜ Covers (panel (now (sheet .entry)) (now (places .entry))) (now (buf .entry)) (r .rest) (panel (now (sheet .exit)) (now (places .exit))) (r .ok) ⌝ }
+    ensures { λ r. ⌜ Covers (panel (now (sheet .entry)) (now (staged .entry)) (now (places .entry))) (now (buf .entry)) (r .rest) (panel (now (sheet .exit)) (now (staged .exit)) (now (places .exit))) (r .ok) ⌝ }
 {
     let mut rest = 0;
     loop {
-        let b = lines::answer_lines(sheet, places, buf, rest, out);
+        let b = lines::answer_lines(sheet, staged, places, buf, rest, out);
         let filled = b.filled;
         rest = b.rest;
         if !io::write_all(STDOUT_FILENO, &out[0..filled]) {
@@ -122,6 +124,7 @@ fn read_block(buf: &mut [u8], kept: usize) -> Fetched
 // is the last line; else the lines that are complete now are answered, and the rest is kept.
 fn answer_read(
     sheet: &mut [u32; SHEET_WORDS],
+    staged: &mut [u32; SHEET_WORDS],
     places: &mut [u8; STORE_BYTES],
     buf: &mut [u8],
     out: &mut [u8],
@@ -129,16 +132,16 @@ fn answer_read(
     read: Fetched,
 ) -> State
     requires { ⌜ (kept ≤ read .to) × (read .to ≤ length (now buf)) × (length (now out) ≡ block) ⌝ }
-    ensures { λ r. ⌜ AnswersRead (panel (now (sheet .entry)) (now (places .entry))) (now (buf .entry)) kept (read .to) (read .failed) (now (buf .exit)) (panel (now (sheet .exit)) (now (places .exit))) (r .kept) (r .go) ⌝ }
+    ensures { λ r. ⌜ AnswersRead (panel (now (sheet .entry)) (now (staged .entry)) (now (places .entry))) (now (buf .entry)) kept (read .to) (read .failed) (now (buf .exit)) (panel (now (sheet .exit)) (now (staged .exit)) (now (places .exit))) (r .kept) (r .go) ⌝ }
 {
     if read.failed {
         return stopped();
     }
     let n = read.to;
     if n == kept {
-        return finish(sheet, places, &buf[0..kept], out);
+        return finish(sheet, staged, places, &buf[0..kept], out);
     }
-    let b = answer_block(sheet, places, &buf[0..n], out);
+    let b = answer_block(sheet, staged, places, &buf[0..n], out);
     let rest = b.rest;
     let left = keep_rest(buf, rest, n);
     State {
@@ -150,41 +153,44 @@ fn answer_read(
 // One read, and the replies to the lines that it completes, written out.
 fn turn(
     sheet: &mut [u32; SHEET_WORDS],
+    staged: &mut [u32; SHEET_WORDS],
     places: &mut [u8; STORE_BYTES],
     buf: &mut [u8],
     out: &mut [u8],
     s: State,
 ) -> State
     requires { ⌜ (s .kept ≤ mostKept) × (length (now buf) ≡ bufferBytes) × (length (now out) ≡ block) ⌝ }
-    ensures { λ r. ⌜ Turns (panel (now (sheet .entry)) (now (places .entry))) (now (buf .entry)) (s .kept) (now (buf .exit)) (panel (now (sheet .exit)) (now (places .exit))) (r .kept) (r .go) ⌝ }
+    ensures { λ r. ⌜ Turns (panel (now (sheet .entry)) (now (staged .entry)) (now (places .entry))) (now (buf .entry)) (s .kept) (now (buf .exit)) (panel (now (sheet .exit)) (now (staged .exit)) (now (places .exit))) (r .kept) (r .go) ⌝ }
 {
     let kept = s.kept;
     let read = read_block(buf, kept);
-    answer_read(sheet, places, buf, out, kept, read)
+    answer_read(sheet, staged, places, buf, out, kept, read)
 }
 
 // Lines are taken until the input ends. A proved loop has to end, and nothing says that the input does, so the turns are counted down.
 fn run(
     sheet: &mut [u32; SHEET_WORDS],
+    staged: &mut [u32; SHEET_WORDS],
     places: &mut [u8; STORE_BYTES],
     buf: &mut [u8],
     out: &mut [u8],
 )
     requires { ⌜ (length (now buf) ≡ bufferBytes) × (length (now out) ≡ block) ⌝ }
-    ensures { λ _. ⌜ TakesLines (panel (now (sheet .entry)) (now (places .entry))) (panel (now (sheet .exit)) (now (places .exit))) ⌝ }
+    ensures { λ _. ⌜ TakesLines (panel (now (sheet .entry)) (now (staged .entry)) (now (places .entry))) (panel (now (sheet .exit)) (now (staged .exit)) (now (places .exit))) ⌝ }
 {
     let mut turns = u64::MAX;
     let mut s = State { kept: 0, go: true };
     while 0 < turns && s.go {
-        s = turn(sheet, places, buf, out, s);
+        s = turn(sheet, staged, places, buf, out, s);
         turns -= 1;
     }
 }
 
 fn main() {
     let mut sheet = [0u32; SHEET_WORDS];
+    let mut staged = [0u32; SHEET_WORDS];
     let mut places = [0u8; STORE_BYTES];
     let mut buf = [0u8; BUFFER_BYTES];
     let mut out = [0u8; BLOCK];
-    run(&mut sheet, &mut places, &mut buf, &mut out);
+    run(&mut sheet, &mut staged, &mut places, &mut buf, &mut out);
 }

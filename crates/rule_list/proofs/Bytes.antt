@@ -1,4 +1,4 @@
--- What the buffer holds after all records, past the room for the kinds, is their rules' bytes, so the load of what is written is the load of the list. Assumes nothing.
+-- What the buffer holds after all records, past the room for the kinds, is their rules' bytes, so the staging of what is written is the staging of the list. Assumes nothing.
 use Prim.Native.Nat.{ℕ, zero, suc, _+_, _*_, _<_, _≤_}
 use native.Mathlib.Nat.{le-refl}
 use native.Mathlib.Omega.{arith}
@@ -9,10 +9,9 @@ use lib.Seq.{take-suc, take-suc-set, take-length, drop-set-add}
 use Rattle.expression.specs.Limits.{mostOperators, mostRules}
 use Rattle.expression.specs.Refusal.{oversize}
 use Rattle.disambiguation.specs.SheetChecks.{ruleBytes}
-use Rattle.monitor.specs.Call.{loadList}
-use Rattle.monitor.specs.Panel.{Panel}
-use Rattle.monitor.specs.Contracts.{Changes}
-use Rattle.rule_list.specs.Records.{rulesIn, bufferBytes, putAt, LoadsList}
+use Rattle.monitor.specs.Call.{stageList}
+use Rattle.monitor.specs.Contracts.{Stages}
+use Rattle.rule_list.specs.Records.{rulesIn, bufferBytes, putAt, StagesList}
 use Rattle.rule_list.specs.declared.Rule.{Rule}
 use Rattle.rule_list.proofs.Refusals.{over-rules}
 
@@ -86,13 +85,13 @@ module _ (list : List Rule) (bytes : List ℕ) (size : length bytes ≡ bufferBy
   written-bytes : take (length list * 3) (drop mostOperators (writtenTo list (length list) bytes)) ≡ ruleBytes (rulesIn list)
   written-bytes = written-to (length list) (le-refl (length list)) ∙ ap (λ (l : List Rule). ruleBytes (rulesIn l)) (take-length list)
 
--- ---- the load
-module _ (p : Panel) (n : ℕ) (kinds : List ℕ) (list : List Rule) where
+-- ---- the staging
+module _ (staged : List ℕ) (n : ℕ) (kinds : List ℕ) (list : List Rule) where
   -- Over the most records is refused as too large, and nothing changes.
-  pub list-over : mostRules < length list → Changes p (loadList n kinds (rulesIn list)) oversize p
-  list-over many = over-rules p n kinds (rulesIn list) (omega (arith, many, length-rulesIn list))
+  pub list-over : mostRules < length list → Stages staged (stageList n kinds (rulesIn list)) oversize staged
+  list-over many = over-rules staged n kinds (rulesIn list) (omega (arith, many, length-rulesIn list))
 
-  -- The load of the records written is the load with the list.
-  pub list-loads : (bytes : List ℕ) {r : ℕ} {later : Panel} → length bytes ≡ bufferBytes → length list ≤ mostRules
-      → LoadsList p n kinds (writtenTo list (length list) bytes) (length list) r later → Changes p (loadList n kinds (rulesIn list)) r later
-  list-loads bytes size few loads = loads .changes (rulesIn list) (written-bytes list bytes size few)
+  -- The staging of the records written is the staging of the list.
+  pub list-staged : (bytes : List ℕ) {r : ℕ} {later : List ℕ} → length bytes ≡ bufferBytes → length list ≤ mostRules
+      → StagesList staged n kinds (writtenTo list (length list) bytes) (length list) r later → Stages staged (stageList n kinds (rulesIn list)) r later
+  list-staged bytes size few s = s .stages (rulesIn list) (written-bytes list bytes size few)

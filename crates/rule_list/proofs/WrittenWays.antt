@@ -1,4 +1,4 @@
--- What each way through `load_written` gives. Assumes nothing.
+-- What each way through `stage_written` gives. Assumes nothing.
 use Prim.Native.Nat.{ℕ, _+_, _-_, _*_, _<_, _≤_}
 use native.Mathlib.Omega.{arith}
 use mathlib.Core.Path.{_≡_, ap, subst, _∙_}
@@ -11,21 +11,21 @@ use Rattle.expression.specs.Limits.{mostOperators, mostRules}
 use Rattle.expression.specs.Refusal.{oversize, torn}
 use Rattle.disambiguation.specs.SheetChecks.{ruleBytes}
 use Rattle.disambiguation.proofs.RuleBytes.{length-ruleBytes}
-use Rattle.monitor.specs.Call.{load}
-use Rattle.monitor.specs.Panel.{Panel}
-use Rattle.monitor.specs.Contracts.{Changes}
-use Rattle.monitor.proofs.ListLoads.{list-load, list-after}
-use Rattle.rule_list.specs.Records.{bufferBytes, LoadsList}
+use Rattle.monitor.specs.Call.{stage}
+use Rattle.monitor.specs.Panel.{panel}
+use Rattle.monitor.specs.Contracts.{Stages}
+use Rattle.monitor.proofs.ListSheets.{list-same, list-after}
+use Rattle.rule_list.specs.Records.{bufferBytes, StagesList}
 use Rattle.rule_list.proofs.Refusals.{over-operators, other-kinds}
 
-module _ {p : Panel} {n : ℕ} {kinds bytes : List ℕ} {count : ℕ} where
-  pub refuses-operators : mostOperators < n → LoadsList p n kinds bytes count oversize p
-  refuses-operators many = record { changes = λ list e. over-operators p n kinds list many }
+module _ {staged : List ℕ} {n : ℕ} {kinds bytes : List ℕ} {count : ℕ} where
+  pub refuses-operators : mostOperators < n → StagesList staged n kinds bytes count oversize staged
+  refuses-operators many = record { stages = λ list e. over-operators staged n kinds list many }
 
-  pub refuses-kinds : n ≤ mostOperators → count ≤ mostRules → (length kinds ≡ n → ⊥) → LoadsList p n kinds bytes count torn p
+  pub refuses-kinds : n ≤ mostOperators → count ≤ mostRules → (length kinds ≡ n → ⊥) → StagesList staged n kinds bytes count torn staged
   refuses-kinds few fit other =
       record {
-        changes = λ list e. other-kinds p n kinds list few (omega (arith, ap length e, length-take (count * 3) (drop mostOperators bytes), length-ruleBytes list, fit)) other;
+        stages = λ list e. other-kinds staged n kinds list few (omega (arith, ap length e, length-take (count * 3) (drop mostOperators bytes), length-ruleBytes list, fit)) other;
       }
 
 -- the kinds go to the places from here on, up to the rules' bytes
@@ -44,7 +44,7 @@ module _ (kinds bytes part : List ℕ) (few : length kinds ≤ mostOperators) (s
       let short : length mid ≤ length kinds = omega (arith, mid-len (from kinds) mostOperators bytes (omega (arith, size))) in
       e ∙ ap (λ (s : List ℕ). s ++ drop (length kinds) mid) (take-length kinds) ∙ ap (λ (s : List ℕ). kinds ++ s) (drop-of-length-le mid short) ∙ append-nil kinds
 
-  -- what is loaded: the kinds, and then the rules' bytes
+  -- what is staged: the kinds, and then the rules' bytes
   written : (count : ℕ) → take (mostOperators + count * 3 - from kinds) (drop (from kinds) (putMid (from kinds) (wide kinds) bytes part)) ≡ kinds ++ take (count * 3) (drop mostOperators bytes)
   written count =
       ap (take (mostOperators + count * 3 - from kinds)) (drop-at (take (from kinds) bytes) (part ++ postOf (from kinds) (wide kinds) bytes) (from kinds) (length-take-le (from kinds) bytes (omega (arith, size))))
@@ -56,17 +56,23 @@ module _ (kinds bytes part : List ℕ) (few : length kinds ≤ mostOperators) (s
       sum : mostOperators + count * 3 - from kinds ≡ length kinds + count * 3
       sum = omega (arith, few)
 
-pub loads-written : {p : Panel} {n : ℕ} {kinds bytes part : List ℕ} {count r : ℕ} {later : Panel} → n ≤ mostOperators → length kinds ≡ n → length bytes ≡ bufferBytes
+pub staged-written : {staged : List ℕ} {n : ℕ} {kinds bytes part : List ℕ} {count r : ℕ} {later : List ℕ} → n ≤ mostOperators → length kinds ≡ n → length bytes ≡ bufferBytes
     → part ≡ take (length kinds) kinds ++ drop (length kinds) (midOf (from kinds) (wide kinds) bytes)
-    → Changes p (load n (take (mostOperators + count * 3 - from kinds) (drop (from kinds) (putMid (from kinds) (wide kinds) bytes part)))) r later → LoadsList p n kinds bytes count r later
-loads-written {p} {n} {kinds} {bytes} {part} {count} {r} {later} few as-many size e c =
+    → Stages staged (stage n (take (mostOperators + count * 3 - from kinds) (drop (from kinds) (putMid (from kinds) (wide kinds) bytes part)))) r later → StagesList staged n kinds bytes count r later
+staged-written {staged} {n} {kinds} {bytes} {part} {count} {r} {later} few as-many size e c =
     record {
-      changes =
+      stages =
           λ list f.
           let all : List ℕ = kinds ++ ruleBytes list in
           let is = written kinds bytes part (omega (arith, few, as-many)) size e count ∙ ap (λ (s : List ℕ). kinds ++ s) f in
-          let d : Changes p (load n all) r later = subst (λ (s : List ℕ). Changes p (load n s) r later) is c in
-          record { numbered = d .numbered ∙ list-load n kinds list as-many p; stands = d .stands ∙ list-after n kinds list as-many p };
+          let d : Stages staged (stage n all) r later = subst (λ (s : List ℕ). Stages staged (stage n s) r later) is c in
+          record {
+            changes = λ sheet places.
+                record {
+                  numbered = d .changes sheet places .numbered ∙ list-same n kinds list as-many;
+                  stands = d .changes sheet places .stands ∙ list-after n kinds list as-many (panel sheet staged places);
+                };
+          };
     }
 
-pub ruleset load-written-ways = (refuses-operators, refuses-kinds, loads-written, needs)
+pub ruleset stage-written-ways = (refuses-operators, refuses-kinds, staged-written, needs)

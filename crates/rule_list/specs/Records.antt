@@ -6,9 +6,8 @@ use lib.ListN.{set, take, drop}
 use Rattle.expression.specs.Limits.{mostOperators, mostRuleBytes}
 use Rattle.disambiguation.specs.Rules as rules
 use Rattle.disambiguation.specs.SheetChecks.{ruleBytes}
-use Rattle.monitor.specs.Call.{loadList}
-use Rattle.monitor.specs.Panel.{Panel}
-use Rattle.monitor.specs.Contracts.{Changes}
+use Rattle.monitor.specs.Call.{stageList}
+use Rattle.monitor.specs.Contracts.{Stages}
 use Rattle.rule_list.specs.declared.Rule.{Rule}
 
 -- the rule that a record gives
@@ -29,6 +28,6 @@ putAt bytes i r =
     let at = mostOperators + i * 3 in
     set (set (set bytes at (r .kind)) (at + 1) (r .first)) (at + 2) (r .second)
 
--- The load with a list of kinds, and with the rules whose bytes are the buffer's first 3 * count after the room for the kinds.
-pub record LoadsList (p : Panel) (n : ℕ) (kinds buffer : List ℕ) (count r : ℕ) (later : Panel) : Type 0 where
-  pub changes : (list : List rules.Rule) → take (count * 3) (drop mostOperators buffer) ≡ ruleBytes list → Changes p (loadList n kinds list) r later
+-- The staging with a list of kinds, and with the rules whose bytes are the buffer's first 3 * count after the room for the kinds.
+pub record StagesList (staged : List ℕ) (n : ℕ) (kinds buffer : List ℕ) (count r : ℕ) (later : List ℕ) : Type 0 where
+  pub stages : (list : List rules.Rule) → take (count * 3) (drop mostOperators buffer) ≡ ruleBytes list → Stages staged (stageList n kinds list) r later

@@ -1,11 +1,9 @@
-// The load of a sheet whose kinds and rules come as two lent lists. Only `tihvomen_load_rules` walks the list of rules; all else has plain parameters.
-ghost use Rattle.monitor.specs.Call.{loadList};
-ghost use Rattle.monitor.specs.Panel.{panel};
-ghost use Rattle.monitor.specs.Contracts.{Changes};
+// The staging of a sheet whose kinds and rules come as two lent lists. Only `tihvomen_stage_rules` walks the list of rules; all else has plain parameters.
+ghost use Rattle.monitor.specs.Call.{stageList};
+ghost use Rattle.monitor.specs.Contracts.{Stages};
 ghost use Rattle.rule_list.specs.Records.{rulesIn};
 use expression::limits;
 use expression::refusal;
-use places::limits::STORE_BYTES;
 use sheet::layout::SHEET_WORDS;
 use written::BUFFER_BYTES;
 
@@ -19,17 +17,16 @@ pub struct Rule {
     pub second: u8,
 }
 
-// The sheet of n operators, the kinds and the list's rules takes the old one's place, as in the load of their bytes. Too many records are
-// refused before any is read. Exported as it stands, for C and Rust.
+// The sheet of n operators, the kinds and the list's rules is staged, as in the staging of their bytes. Too many records are refused before
+// any is read. Exported as it stands, for C and Rust.
 #[no_mangle]
-pub extern "C" fn tihvomen_load_rules(
-    sheet: &mut [u32; SHEET_WORDS],
-    places: &mut [u8; STORE_BYTES],
+pub extern "C" fn tihvomen_stage_rules(
+    staged: &mut [u32; SHEET_WORDS],
     n: u32,
     kinds: &[u8],
     rules: &[Rule],
 ) -> u8
-    ensures { λ r. ⌜ Changes (panel (now (sheet .entry)) (now (places .entry))) (loadList n (now (kinds .entry)) (rulesIn (now (rules .entry)))) r (panel (now (sheet .exit)) (now (places .exit))) ⌝ }
+    ensures { λ r. ⌜ Stages (now (staged .entry)) (stageList n (now (kinds .entry)) (rulesIn (now (rules .entry)))) r (now (staged .exit)) ⌝ }
 {
     if limits::MOST_RULES < rules.len() {
         return refusal::OVERSIZE;
@@ -40,5 +37,5 @@ pub extern "C" fn tihvomen_load_rules(
         written::put_rule(&mut bytes, i, rules[i]);
         i = i + 1;
     }
-    written::load_written(sheet, places, n, kinds, &mut bytes, i)
+    written::stage_written(staged, n, kinds, &mut bytes, i)
 }

@@ -1,13 +1,11 @@
-// The buffer for a sheet's bytes: the rules' bytes are written one record at a time, and the kinds right before them as they are loaded.
+// The buffer for a sheet's bytes: the rules' bytes are written one record at a time, and the kinds right before them as they are staged.
 ghost use Prim.Native.Nat.{_<_, _≤_};
 ghost use mathlib.Core.Path.{_≡_};
 ghost use Rattle.expression.specs.Limits.{mostRules};
-ghost use Rattle.monitor.specs.Panel.{panel};
-ghost use Rattle.rule_list.specs.Records.{putAt, LoadsList};
+ghost use Rattle.rule_list.specs.Records.{putAt, StagesList};
 use crate::Rule;
 use expression::limits;
 use expression::refusal;
-use places::limits::STORE_BYTES;
 use sheet::layout::SHEET_WORDS;
 
 // Room for a kind byte of every operator, and then for the bytes of the most rules.
@@ -26,17 +24,16 @@ pub fn put_rule(bytes: &mut [u8; BUFFER_BYTES], i: usize, rule: Rule)
     bytes[at + 2] = rule.second;
 }
 
-// Loads the kinds, and the first `count` rules whose bytes are in the buffer.
-pub fn load_written(
-    sheet: &mut [u32; SHEET_WORDS],
-    places: &mut [u8; STORE_BYTES],
+// Stages the kinds, and the first `count` rules whose bytes are in the buffer.
+pub fn stage_written(
+    staged: &mut [u32; SHEET_WORDS],
     n: u32,
     kinds: &[u8],
     bytes: &mut [u8; BUFFER_BYTES],
     count: usize,
 ) -> u8
     requires { ⌜ count ≤ mostRules ⌝ }
-    ensures { λ r. ⌜ LoadsList (panel (now (sheet .entry)) (now (places .entry))) n (now (kinds .entry)) (now (bytes .entry)) count r (panel (now (sheet .exit)) (now (places .exit))) ⌝ }
+    ensures { λ r. ⌜ StagesList (now (staged .entry)) n (now (kinds .entry)) (now (bytes .entry)) count r (now (staged .exit)) ⌝ }
 {
     if (limits::MOST_OPERATORS as u32) < n {
         return refusal::OVERSIZE;
@@ -49,5 +46,5 @@ pub fn load_written(
     let all: &mut [u8] = bytes;
     bytes::copy(kinds, &mut all[from..KIND_BYTES]);
     let written = &all[..];
-    monitor::load(sheet, places, n, &written[from..to])
+    monitor::stage(staged, n, &written[from..to])
 }

@@ -22,7 +22,7 @@ use Rattle.disambiguation.specs.Conflicts.{conflicts, conflictCount}
 use Rattle.disambiguation.specs.Below.{allBelow}
 use Rattle.disambiguation.specs.Verdict.{safe, total, level, verdict}
 use Rattle.disambiguation.specs.SheetChecks.{strangeRule, strangeKind, kindsIn, rulesIn, operatorsIn, sheetNumber}
-use Rattle.sheet.specs.Layout.{countWord, prefixWordAt, sheetWords, operatorsBy, operatorsOf, fresh}
+use Rattle.sheet.specs.Layout.{countWord, prefixWordAt, loadedWord, sheetWords, operatorsBy, operatorsOf, isLoaded, fresh}
 use Rattle.sheet.specs.Kinds.{prefixWord}
 use Rattle.sheet.specs.Relation.{bitOf, closesIn}
 use Rattle.sheet.specs.Marking.{unmarked, marks, marksAll}
@@ -41,12 +41,15 @@ closes-fresh = closes-everywhere fresh (λ a b. false) (λ a b e. absurd (false�
 
 -- ---- the sheet that is made of n kinds and rules
 module _ (n : ℕ) (few : n ≤ mostOperators) (kinds : List ℕ) (rules : List Rule) where
-  -- the words of its relation, and with the count
+  -- the words of its relation, with the count, and with the kinds
   abbrev relationOf : List ℕ
   relationOf = related n left (marksAll marks rules unmarked) fresh
 
   abbrev counted : List ℕ
   counted = set relationOf countWord n
+
+  abbrev typed : List ℕ
+  typed = set counted prefixWordAt (prefixWord kinds n)
 
   long : length relationOf ≡ sheetWords
   long = length-related n few left (marksAll marks rules unmarked) fresh
@@ -56,8 +59,9 @@ module _ (n : ℕ) (few : n ≤ mostOperators) (kinds : List ℕ) (rules : List 
   unfolding operatorsOf sheetOf
   operators-made as-many plain =
       ap₂ (λ (m w : ℕ). operatorsBy (m % 256) w)
-      (getD-set-other counted prefixWordAt countWord (prefixWord kinds n) 0 (λ e. omega arith) ∙ getD-set-same relationOf countWord n 0 (omega (arith, long)))
-      (getD-set-same counted prefixWordAt (prefixWord kinds n) 0 (omega (arith, length-set relationOf countWord n, long)))
+      (getD-set-other typed loadedWord countWord 1 0 (λ e. omega arith) ∙ getD-set-other counted prefixWordAt countWord (prefixWord kinds n) 0 (λ e. omega arith)
+      ∙ getD-set-same relationOf countWord n 0 (omega (arith, long)))
+      (getD-set-other typed loadedWord prefixWordAt 1 0 (λ e. omega arith) ∙ getD-set-same counted prefixWordAt (prefixWord kinds n) 0 (omega (arith, length-set relationOf countWord n, long)))
       ∙ ap (λ (m : ℕ). operatorsBy m (prefixWord kinds n)) (omega arith)
       ∙ operators-back n kinds as-many plain
 
@@ -65,10 +69,17 @@ module _ (n : ℕ) (few : n ≤ mostOperators) (kinds : List ℕ) (rules : List 
   pub closes-made : anyHolds (strangeRule n) rules ≡ false → (a b : ℕ) → a < mostOperators → b < mostOperators → closesIn (sheetOf n kinds rules) a b ≡ R rules a b
   unfolding sheetOf
   closes-made plain a b ha hb =
-      closes-bit (set counted prefixWordAt (prefixWord kinds n)) a b ha hb
-      ∙ ap (λ (w : ℕ). bitOf w b) (getD-set-other counted prefixWordAt a (prefixWord kinds n) 0 (λ e. omega arith) ∙ getD-set-other relationOf countWord a n 0 (λ e. omega arith))
+      closes-bit (set typed loadedWord 1) a b ha hb
+      ∙ ap (λ (w : ℕ). bitOf w b)
+      (getD-set-other typed loadedWord a 1 0 (λ e. omega arith) ∙ getD-set-other counted prefixWordAt a (prefixWord kinds n) 0 (λ e. omega arith)
+      ∙ getD-set-other relationOf countWord a n 0 (λ e. omega arith))
       ∙ sym (closes-bit relationOf a b ha hb)
       ∙ related-is-R n few rules plain a b ha hb
+
+  -- it was loaded
+  pub loaded-made : isLoaded (sheetOf n kinds rules) ≡ true
+  unfolding isLoaded sheetOf
+  loaded-made = ap (λ w. not (eqb w 0)) (getD-set-same typed loadedWord 1 0 (omega (arith, length-set counted prefixWordAt (prefixWord kinds n), length-set relationOf countWord n, long)))
 
 -- what number 0 says of n and the bytes
 pub record Accepted (n : ℕ) (bytes : List ℕ) : Type 0 where
@@ -129,6 +140,11 @@ made-in-force n bytes z =
     opposed a b ha hb =
         opposite (operatorsIn n bytes) rules (accepted-passes (operatorsIn n bytes) rules (k .accepts)) a b ha hb
         ∙ ap not (sym (closes-made n (k .few) kinds rules (k .plain) a b (omega (arith, k .few)) (omega (arith, k .few, infix-below (operatorsIn n bytes) b hb))))
+
+-- the fresh sheet was not loaded
+pub fresh-not-loaded : isLoaded fresh ≡ false
+unfolding isLoaded
+fresh-not-loaded = refl
 
 -- before any load
 pub fresh-in-force : InForce fresh (operators 0 []) []

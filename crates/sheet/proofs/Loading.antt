@@ -17,7 +17,7 @@ use Rattle.expression.specs.Limits.{mostOperators, mostRuleBytes, bytesOfRule}
 use Rattle.expression.specs.Refusal.{accepted, oversize, torn, stranger}
 use Rattle.disambiguation.specs.Rules.{L, R}
 use Rattle.disambiguation.specs.SheetChecks.{strangeRule, strangeKind, kindsIn, rulesIn, operatorsIn, sheetNumber}
-use Rattle.sheet.specs.Layout.{countWord, prefixWordAt, operatorsBy}
+use Rattle.sheet.specs.Layout.{countWord, prefixWordAt, loadedWord, operatorsBy}
 use Rattle.sheet.specs.Kinds.{prefixWord}
 use Rattle.sheet.specs.Loading.{sizeNumber, rulesNumber, Relates, sheetOf, Loads}
 use Rattle.sheet.proofs.PrefixWord.{operators-back}
@@ -160,14 +160,14 @@ module _ {size number word : ℕ} {odd : Bool} (before : List ℕ) (n : ℕ) (by
   pub load-rules : (number ≡ 0 → ⊥) → Loads before n bytes number before
   load-rules h = refused n bytes before sheet-number h
 
-  pub load-accepted : number ≡ 0 → Loads before n bytes 0 (set (set t countWord n) prefixWordAt word)
+  pub load-accepted : number ≡ 0 → Loads before n bytes 0 (set (set (set t countWord n) prefixWordAt word) loadedWord 1)
   unfolding sheetOf
   load-accepted z =
       record {
         number = sym z ∙ sheet-number;
         stands =
             rw (eq-eqb (sheetNumber n bytes) accepted (sym sheet-number ∙ z))
-            (ap₂ (λ (w : List ℕ) (x : ℕ). set (set w countWord n) prefixWordAt x) (relates-here .relation z) word-here);
+            (ap₂ (λ (w : List ℕ) (x : ℕ). set (set (set w countWord n) prefixWordAt x) loadedWord 1) (relates-here .relation z) word-here);
       }
 
 pub ruleset load-ways = (few-operators, few-byte, kinds-there, kinds-few, load-size, load-kinds, load-rules, load-accepted, needs)

@@ -17,7 +17,7 @@ use Rattle.expression.specs.Limits.{mostOperators}
 use Rattle.expression.specs.Token.{Operators}
 use Rattle.disambiguation.specs.Below.{allBelow}
 use Rattle.disambiguation.specs.Verdict.{safe, total, within, level}
-use Rattle.sheet.specs.Layout.{countWord, prefixWordAt, operatorsBy, operatorsOf, prefixIn, somePrefix}
+use Rattle.sheet.specs.Layout.{countWord, prefixWordAt, loadedWord, operatorsBy, operatorsOf, prefixIn, somePrefix, isLoaded}
 use Rattle.sheet.specs.Kinds.{without}
 use Rattle.sheet.specs.Relation.{bitOf, closesIn, turned}
 use Rattle.sheet.specs.Tests.{noneInBoth, eachInOne, safeFor, totalFor, levelPair, levelFor}
@@ -111,6 +111,13 @@ unfolding somePrefix
 word-some t = refl
 
 pub ruleset some-prefix-ways = (word-some, needs)
+
+-- ---- is_loaded
+pub word-loaded : (t : List ℕ) → not (eqb (getD t loadedWord 0) 0) ≡ isLoaded t
+unfolding isLoaded
+word-loaded t = refl
+
+pub ruleset is-loaded-ways = (word-loaded, needs)
 
 -- ---- is_safe and is_total
 module _ (n w : ℕ) (t u : List ℕ) where

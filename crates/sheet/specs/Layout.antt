@@ -2,7 +2,8 @@
 --     word a, below 32: bit b is set where operator a closes before b
 --     word 32: the count of operators, in its lowest byte
 --     word 33: bit c is set where operator c is a prefix operator
---     words 34 and 35: set aside, 0
+--     word 34: 1 in a sheet that was loaded, so that one of no operators and no rules is told from none
+--     word 35: set aside, 0
 use Prim.Native.Nat.{ℕ, zero, suc, _+_, _%_}
 use mathlib.Core.Bool.{Bool, not, _&&_}
 use mathlib.Core.List.{List, [], _∷_, _++_}
@@ -21,12 +22,16 @@ countWord = mostOperators
 abbrev pub prefixWordAt : ℕ
 prefixWordAt = mostOperators + 1
 
+-- the place of the mark of a loaded sheet
+abbrev pub loadedWord : ℕ
+loadedWord = mostOperators + 2
+
 -- the words set aside, and all words of a sheet
 abbrev pub spareWords : ℕ
-spareWords = 2
+spareWords = 1
 
 abbrev pub sheetWords : ℕ
-sheetWords = mostOperators + 2 + spareWords
+sheetWords = mostOperators + 3 + spareWords
 
 -- the kinds of n operators, of which those in the word are prefix operators
 abbrev pub kindsBelow : ℕ → ℕ → List ℕ
@@ -48,6 +53,10 @@ prefixIn sheet c = ltb c mostOperators && bitOf (getD sheet prefixWordAt 0) c
 unfoldable pub somePrefix : List ℕ → Bool
 somePrefix sheet = not (eqb (getD sheet prefixWordAt 0) 0)
 
--- The fresh sheet: no operators and no rules.
+-- A sheet was loaded into the words.
+unfoldable pub isLoaded : List ℕ → Bool
+isLoaded sheet = not (eqb (getD sheet loadedWord 0) 0)
+
+-- The fresh sheet: no operators and no rules, and none was loaded.
 abbrev pub fresh : List ℕ
 fresh = replicate sheetWords 0

@@ -12,7 +12,7 @@ use Rattle.expression.specs.Token.{Operators}
 use Rattle.disambiguation.specs.Rules.{Rule, left, L, R}
 use Rattle.disambiguation.specs.Verdict.{ruleChecks}
 use Rattle.disambiguation.specs.SheetChecks.{rulesOf, strangeRule, kindsIn, rulesIn, sheetNumber}
-use Rattle.sheet.specs.Layout.{countWord, prefixWordAt, operatorsBy, fresh}
+use Rattle.sheet.specs.Layout.{countWord, prefixWordAt, loadedWord, operatorsBy, fresh}
 use Rattle.sheet.specs.Kinds.{prefixWord}
 use Rattle.sheet.specs.Marking.{unmarked, marks, marksAll}
 use Rattle.sheet.specs.Chaining.{related}
@@ -33,7 +33,8 @@ pub record Relates (n word : ℕ) (bytes : List ℕ) (r : ℕ) (made : List ℕ)
 
 -- The sheet that is made of n kinds and rules: priority chained, left as written.
 unfoldable pub sheetOf : ℕ → List ℕ → List Rule → List ℕ
-sheetOf n kinds rules = set (set (related n left (marksAll marks rules unmarked) fresh) countWord n) prefixWordAt (prefixWord kinds n)
+sheetOf n kinds rules =
+    set (set (set (related n left (marksAll marks rules unmarked) fresh) countWord n) prefixWordAt (prefixWord kinds n)) loadedWord 1
 
 -- A load of n operators with the kinds and rules of the bytes answered r, and the lent sheet became `after`: it is written only where the load is accepted.
 pub record Loads (before : List ℕ) (n : ℕ) (bytes : List ℕ) (r : ℕ) (after : List ℕ) : Type 0 where

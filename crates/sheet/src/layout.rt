@@ -1,10 +1,12 @@
-// The words of a lent sheet, as in the specification's `Layout`: the relation's, the count of operators, the prefix operators, and two set aside.
+// The words of a lent sheet, as in the specification's `Layout`: the relation's, the count of operators, the prefix operators, the mark of a loaded sheet, and one set aside.
 use expression::limits::MOST_OPERATORS;
 
 pub const COUNT_WORD: usize = MOST_OPERATORS as usize;
 
 pub const PREFIX_WORD: usize = COUNT_WORD + 1;
 
-const SPARE_WORDS: usize = 2;
+pub const LOADED_WORD: usize = PREFIX_WORD + 1;
 
-pub const SHEET_WORDS: usize = MOST_OPERATORS as usize + 2 + SPARE_WORDS;
+const SPARE_WORDS: usize = 1;
+
+pub const SHEET_WORDS: usize = MOST_OPERATORS as usize + 3 + SPARE_WORDS;

@@ -3,7 +3,7 @@
 ghost use mathlib.Core.Path.{_≡_};
 ghost use Prim.Native.Nat.{_≤_};
 ghost use Rattle.expression.specs.Limits.{mostOperators};
-ghost use Rattle.sheet.specs.Layout.{operatorsOf, prefixIn, somePrefix, fresh};
+ghost use Rattle.sheet.specs.Layout.{operatorsOf, prefixIn, somePrefix, isLoaded, fresh};
 ghost use mathlib.Core.Bool.{_&&_};
 ghost use lib.Dec.{ltb};
 ghost use Rattle.sheet.specs.Relation.{bitOf, closesIn};
@@ -74,6 +74,13 @@ pub fn some_prefix(sheet: &[u32; SHEET_WORDS]) -> bool
     sheet[layout::PREFIX_WORD] != 0
 }
 
+// A sheet was loaded into the words, be it one of no operators and no rules.
+pub fn is_loaded(sheet: &[u32; SHEET_WORDS]) -> bool
+    ensures { λ r. ⌜ r ≡ isLoaded (now (sheet .entry)) ⌝ }
+{
+    sheet[layout::LOADED_WORD] != 0
+}
+
 // Numbers 1 and 2, or 0: the checks that need no look at the bytes. The kinds come first, a byte for each operator.
 fn size_number(n: u32, length: usize) -> u8
     ensures { λ r. ⌜ r ≡ sizeNumber n length ⌝ }
@@ -129,6 +136,7 @@ pub fn load(sheet: &mut [u32; SHEET_WORDS], n: u32, bytes: &[u8]) -> u8
     }
     made[layout::COUNT_WORD] = n;
     made[layout::PREFIX_WORD] = prefixes;
+    made[layout::LOADED_WORD] = 1;
     *sheet = made;
     refusal::ACCEPTED
 }

@@ -7,10 +7,10 @@ use Rattle.panel.proofs.answer_block.Statement.{statement}
 use Rattle.panel.proofs.answer_block.Tie as tie
 
 abbrev Inv-loop : tie.InvT-loop
-Inv-loop sheet₀ places₀ buf out₀ rest₀ sheet places out rest = Reached (panel sheet₀ places₀) buf out rest (panel sheet places)
+Inv-loop sheet₀ staged₀ places₀ buf out₀ rest₀ sheet staged places out rest = Reached (panel sheet₀ staged₀ places₀) buf out rest (panel sheet staged places)
 
 abbrev μ-loop : tie.MeasureT-loop
-μ-loop sheet₀ places₀ buf out₀ rest₀ sheet places out rest = length buf - rest
+μ-loop sheet₀ staged₀ places₀ buf out₀ rest₀ sheet staged places out rest = length buf - rest
 
 pub answer-block-spec : {M : Type 1} → statement M
 answer-block-spec =

@@ -9,12 +9,12 @@ use Rattle.panel.proofs.run.Statement.{statement}
 use Rattle.panel.proofs.run.Tie as tie
 
 abbrev Inv-loop : tie.InvT-loop
-Inv-loop sheet₀ places₀ buf₀ out₀ turns₀ s₀ sheet places buf out turns s =
+Inv-loop sheet₀ staged₀ places₀ buf₀ out₀ turns₀ s₀ sheet staged places buf out turns s =
     (s .kept ≤ mostKept) × (length buf ≡ bufferBytes) × (length out ≡ block) × (length buf₀ ≡ bufferBytes) × (length out₀ ≡ block)
-    × TakesLines (panel sheet₀ places₀) (panel sheet places)
+    × TakesLines (panel sheet₀ staged₀ places₀) (panel sheet staged places)
 
 abbrev μ-loop : tie.MeasureT-loop
-μ-loop sheet₀ places₀ buf₀ out₀ turns₀ s₀ sheet places buf out turns s = turns
+μ-loop sheet₀ staged₀ places₀ buf₀ out₀ turns₀ s₀ sheet staged places buf out turns s = turns
 
 pub run-spec : {M : Type 1} → statement M
 run-spec =
@@ -26,7 +26,7 @@ run-spec =
     (λ c κs. search run-ways)
     (λ c. search run-ways)
     (λ c. search run-ways)
-    (λ c. search run-ways)
+    (λ c. (search run-ways, search run-ways, search run-ways, search run-ways, search run-ways, search run-ways))
     (λ c. search run-ways)
     (λ c. search run-ways)
     (λ c. search run-ways)

@@ -23,4 +23,5 @@ load-spec =
     (λ c. search load-ways)
     (λ c. search load-ways)
     (λ c. search load-ways)
+    (λ c. search load-ways)
     (λ c. search load-ways))

@@ -7,10 +7,10 @@ use Rattle.panel.proofs.lines.answer_lines.Statement.{statement}
 use Rattle.panel.proofs.lines.answer_lines.Tie as tie
 
 abbrev Inv-loop : tie.InvT-loop
-Inv-loop sheet₀ places₀ buf from out₀ reply₀ rest₀ filled₀ end₀ sheet places out reply rest filled end = Answering (panel sheet₀ places₀) buf from out rest filled end (panel sheet places)
+Inv-loop sheet₀ staged₀ places₀ buf from out₀ reply₀ rest₀ filled₀ end₀ sheet staged places out reply rest filled end = Answering (panel sheet₀ staged₀ places₀) buf from out rest filled end (panel sheet staged places)
 
 abbrev μ-loop : tie.MeasureT-loop
-μ-loop sheet₀ places₀ buf from out₀ reply₀ rest₀ filled₀ end₀ sheet places out reply rest filled end = length buf - end
+μ-loop sheet₀ staged₀ places₀ buf from out₀ reply₀ rest₀ filled₀ end₀ sheet staged places out reply rest filled end = length buf - end
 
 pub answer-lines-spec : {M : Type 1} → statement M
 answer-lines-spec =
