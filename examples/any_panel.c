@@ -11,10 +11,22 @@ static uint8_t next_byte(uint32_t *state) {
     return (uint8_t)(*state >> 24);
 }
 
-/* A panel that no run of calls makes: a sheet of 32 operators with some bytes changed, and places of any bytes. */
+/* Some bytes of a sheet become others. */
+static void damage(struct panel_sheet *sheet, uint32_t changes, uint32_t *state) {
+    uint8_t *bytes = (uint8_t *)sheet;
+    for (; changes > 0; changes--) {
+        uint8_t at = (uint8_t)(next_byte(state) % sizeof *sheet);
+        bytes[at] = next_byte(state);
+    }
+}
+
+/*
+ * A panel that no run of calls makes: a sheet of 32 operators with some bytes changed, the same on the stage or nothing
+ * with some bytes changed, and places of any bytes.
+ */
 static void scramble(struct panel *p, uint32_t state) {
     uint8_t bytes[32 + 3 * 32 * 32];
-    uint8_t *sheet = (uint8_t *)&p->sheet;
+    const uint32_t changes = state % 40;
     for (int i = 0; i < 32; i++)
         bytes[i] = i % 8 == 3 ? PANEL_PREFIX : PANEL_INFIX;
     for (int pair = 0; pair < 32 * 32; pair++) {
@@ -23,11 +35,11 @@ static void scramble(struct panel *p, uint32_t state) {
         bytes[32 + 3 * pair + 2] = (uint8_t)(pair % 32);
     }
     panel_fresh(p);
-    CHECK(panel_load(p, 32, bytes, sizeof bytes) == PANEL_ACCEPTED);
-    for (uint32_t changes = state % 40; changes > 0; changes--) {
-        uint8_t at = (uint8_t)(next_byte(&state) % sizeof p->sheet);
-        sheet[at] = next_byte(&state);
-    }
+    CHECK(panel_stage(p, 32, bytes, sizeof bytes) == PANEL_ACCEPTED && panel_switch(p) == PANEL_ACCEPTED);
+    if (state % 3 > 0)
+        CHECK(panel_stage(p, 32, bytes, sizeof bytes) == PANEL_ACCEPTED);
+    damage(&p->sheet, changes, &state);
+    damage(&p->stage, next_byte(&state) % 4, &state);
     for (size_t i = 0; i < sizeof p->places; i++)
         p->places[i] = next_byte(&state);
 }
@@ -100,12 +112,21 @@ static struct panel shortened(struct panel p) {
     return p;
 }
 
+/* A switch of a panel and of its copy: the same number, then the same bytes; refused, those of before. Counts the numbers. */
+static void check_switch(struct panel *p, struct panel *copy, int *seen) {
+    const struct panel before = *p;
+    enum panel_number number = panel_switch(p);
+    CHECK(panel_switch(copy) == number && memcmp(p, copy, sizeof *p) == 0);
+    CHECK(number == PANEL_ACCEPTED || memcmp(p, &before, sizeof before) == 0);
+    seen[number]++;
+}
+
 /* A copy of such a panel gets the same answers. */
 int main(void) {
     static const uint8_t sheet_a[] = {0, 0, 1, 1, 0, 2, 1, 1, 2, 0, 0};
     static const uint8_t row[] = {0x20, 0x80, 0x00, 0x81, 0x21, 0x01, 0x82};
-    static const int met[] = {0, 1, 3, 7, 9, 13, 14};
-    int taken = 0, seen[PANEL_NO_READING + 1] = {0};
+    static const int met[] = {0, 1, 3, 7, 9, 13, 14}, switched[] = {0, 11, 15};
+    int taken = 0, seen[PANEL_NO_READING + 1] = {0}, switches[PANEL_NOTHING_STAGED + 1] = {0};
     for (uint32_t seed = 0; seed < 500; seed++) {
         struct panel p, copy, short_places;
         uint8_t one[300] = {0}, other[300] = {0};
@@ -120,12 +141,16 @@ int main(void) {
         short_places = shortened(p);
         check_values_of(&p, seen);
         check_values_of(&short_places, seen);
-        CHECK(panel_load(&p, 2, sheet_a, sizeof sheet_a) == panel_load(&copy, 2, sheet_a, sizeof sheet_a));
+        check_switch(&p, &copy, switches);
+        CHECK(panel_stage(&p, 2, sheet_a, sizeof sheet_a) == panel_stage(&copy, 2, sheet_a, sizeof sheet_a));
+        check_switch(&p, &copy, switches);
         CHECK(panel_put_row(&p, 3, row, sizeof row) == panel_put_row(&copy, 3, row, sizeof row));
         CHECK(memcmp(&p, &copy, sizeof p) == 0);
     }
     CHECK(taken > 0);
     for (size_t i = 0; i < sizeof met / sizeof met[0]; i++)
         CHECK(seen[met[i]] > 0);
+    for (size_t i = 0; i < sizeof switched / sizeof switched[0]; i++)
+        CHECK(switches[switched[i]] > 0);
     return failures != 0;
 }

@@ -1,4 +1,4 @@
-/* One condition under two sheets: load, put, fetch, and print the tree. Made and run by bin/test-bindings. */
+/* One condition under two sheets: stage, switch, put, fetch, and print the tree. Made and run by bin/test-bindings. */
 #include "panel.h"
 
 #include <stdio.h>
@@ -40,11 +40,11 @@ static int print_place(const struct panel *p) {
     return 0;
 }
 
-/* Loads a sheet of "or", "and" and "not" with these rules and those by which "or" and "and" group to the left. */
-static enum panel_number load(struct panel *p, const struct panel_rule *first, const struct panel_rule *second) {
+/* Stages a sheet of "or", "and" and "not" with these rules and those by which "or" and "and" group to the left. */
+static enum panel_number stage(struct panel *p, const struct panel_rule *first, const struct panel_rule *second) {
     static const uint8_t kinds[] = {PANEL_INFIX, PANEL_INFIX, PANEL_PREFIX};
     const struct panel_rule rules[] = {*first, *second, {PANEL_LEFT, OR, OR}, {PANEL_LEFT, AND, AND}};
-    return panel_load_rules(p, OPERATORS, kinds, sizeof kinds, rules, 4);
+    return panel_stage_rules(p, OPERATORS, kinds, sizeof kinds, rules, 4);
 }
 
 int main(void) {
@@ -57,17 +57,25 @@ int main(void) {
     struct panel p = PANEL_FRESH;
 
     printf("before any sheet: %s\n", panel_word(panel_put_row(&p, 3, row, sizeof row)));
-    printf("\"not\", \"and\", \"or\": %s\n", panel_word(load(&p, &not_over_and, &and_over_or)));
+    printf("\"not\", \"and\", \"or\" staged: %s\n", panel_word(stage(&p, &not_over_and, &and_over_or)));
+    printf("switch: %s\n", panel_word(panel_switch(&p)));
     printf("the row: %s\n", panel_word(panel_put_row(&p, 3, row, sizeof row)));
     if (print_place(&p) != 0)
         return 1;
 
-    printf("\"and\", \"not\", \"or\": %s\n", panel_word(load(&p, &and_over_not, &not_over_or)));
+    printf("\"and\", \"not\", \"or\" staged: %s\n", panel_word(stage(&p, &and_over_not, &not_over_or)));
     if (print_place(&p) != 0)
         return 1;
 
-    printf("no rules: %s\n", panel_word(panel_load(&p, OPERATORS, no_rules, sizeof no_rules)));
-    printf("both ways: %s\n", panel_word(panel_load(&p, OPERATORS, both_ways, sizeof both_ways)));
-    printf("fewer operators: %s\n", panel_word(panel_load(&p, 0, NULL, 0)));
+    /* A sheet that is refused leaves the staged one. */
+    printf("no rules staged: %s\n", panel_word(panel_stage(&p, OPERATORS, no_rules, sizeof no_rules)));
+    printf("both ways staged: %s\n", panel_word(panel_stage(&p, OPERATORS, both_ways, sizeof both_ways)));
+    printf("switch: %s\n", panel_word(panel_switch(&p)));
+    if (print_place(&p) != 0)
+        return 1;
+
+    printf("switch: %s\n", panel_word(panel_switch(&p)));
+    printf("fewer operators staged: %s\n", panel_word(panel_stage(&p, 0, NULL, 0)));
+    printf("switch: %s\n", panel_word(panel_switch(&p)));
     return print_place(&p);
 }

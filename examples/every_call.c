@@ -68,18 +68,51 @@ static void check_operands(const struct panel *p) {
     CHECK(panel_operand(p, NULL, 0, PANEL_RIGHT_SIDE).number == PANEL_NO_TREE);
 }
 
+/* Stages a sheet and switches it in; answers the first number that is not 0. */
+static enum panel_number change_sheet(struct panel *p, unsigned n, const uint8_t *bytes, size_t length) {
+    enum panel_number number = panel_stage(p, n, bytes, length);
+    return number == PANEL_ACCEPTED ? panel_switch(p) : number;
+}
+
 static void check_rules(struct panel *p) {
     static const struct panel_rule rules[] = {{PANEL_PRIORITY, 1, 0}, {PANEL_LEFT, 1, 1}, {PANEL_LEFT, 0, 0}};
     static const uint8_t kinds[] = {PANEL_INFIX, PANEL_INFIX, PANEL_PREFIX + 1};
     struct panel other = *p;
-    CHECK(panel_load_rules(p, 1, kinds, 1, rules, 3) == PANEL_STRANGER && memcmp(p, &other, sizeof other) == 0);
-    CHECK(panel_load_rules(p, 2, kinds, 2, NULL, 0) == PANEL_DOUBLE && memcmp(p, &other, sizeof other) == 0);
-    CHECK(panel_load_rules(p, 2, NULL, 0, rules, 3) == PANEL_TORN && memcmp(p, &other, sizeof other) == 0);
-    CHECK(panel_load_rules(p, 2, kinds, 3, rules, 3) == PANEL_TORN && memcmp(p, &other, sizeof other) == 0);
-    CHECK(panel_load_rules(p, 3, kinds, 3, rules, 3) == PANEL_STRANGER && memcmp(p, &other, sizeof other) == 0);
-    CHECK(panel_load_rules(p, 2, kinds, 2, rules, 3) == PANEL_ACCEPTED);
-    CHECK(panel_load(&other, 2, sheet_a, sizeof sheet_a) == PANEL_ACCEPTED);
+    CHECK(panel_stage_rules(p, 1, kinds, 1, rules, 3) == PANEL_STRANGER && memcmp(p, &other, sizeof other) == 0);
+    CHECK(panel_stage_rules(p, 2, kinds, 2, NULL, 0) == PANEL_DOUBLE && memcmp(p, &other, sizeof other) == 0);
+    CHECK(panel_stage_rules(p, 2, NULL, 0, rules, 3) == PANEL_TORN && memcmp(p, &other, sizeof other) == 0);
+    CHECK(panel_stage_rules(p, 2, kinds, 3, rules, 3) == PANEL_TORN && memcmp(p, &other, sizeof other) == 0);
+    CHECK(panel_stage_rules(p, 3, kinds, 3, rules, 3) == PANEL_STRANGER && memcmp(p, &other, sizeof other) == 0);
+    CHECK(panel_stage_rules(p, 2, kinds, 2, rules, 3) == PANEL_ACCEPTED);
+    CHECK(panel_stage(&other, 2, sheet_a, sizeof sheet_a) == PANEL_ACCEPTED);
     CHECK(memcmp(p, &other, sizeof other) == 0);
+    CHECK(panel_switch(p) == PANEL_ACCEPTED);
+}
+
+/* A staged sheet waits for a switch and is not seen before it; sheet A is in force. */
+static void check_stage(const struct panel *a, uint8_t *out) {
+    static const uint8_t left[] = {PANEL_INFIX, PANEL_LEFT, 0, 0}, tokens[] = {0x80, 0x01, 0x81}, made[] = {0x01, 0x80, 0x81};
+    struct panel p = *a, before = *a;
+    CHECK(panel_switch(&p) == PANEL_NOTHING_STAGED && memcmp(&p, &before, sizeof p) == 0);
+    CHECK(panel_put_row(&p, 3, tokens, sizeof tokens) == PANEL_ACCEPTED);
+    /* The staged sheet lacks the operator that is held. */
+    CHECK(panel_stage(&p, 1, left, sizeof left) == PANEL_ACCEPTED);
+    CHECK(panel_operators(&p) == 2);
+    CHECK(panel_put_row(&p, 4, tokens, sizeof tokens) == PANEL_ACCEPTED && panel_drop(&p, 4) == PANEL_ACCEPTED);
+    CHECK(wrote(panel_fetch_record(&p, 3, out, 300), made, sizeof made, out, 300));
+    /* Refused: a sheet without rules is not staged in its place, and it is not switched in. */
+    before = p;
+    CHECK(panel_stage(&p, 1, left, 1) == PANEL_DOUBLE && memcmp(&p, &before, sizeof p) == 0);
+    CHECK(panel_stage_rules(&p, 1, left, 1, NULL, 0) == PANEL_DOUBLE && memcmp(&p, &before, sizeof p) == 0);
+    CHECK(panel_switch(&p) == PANEL_IN_USE && memcmp(&p, &before, sizeof p) == 0);
+    CHECK(panel_drop(&p, 3) == PANEL_ACCEPTED);
+    CHECK(panel_switch(&p) == PANEL_ACCEPTED && panel_operators(&p) == 1);
+    CHECK(panel_switch(&p) == PANEL_NOTHING_STAGED);
+    /* A sheet without operators and rules is one; a later sheet takes its place. */
+    CHECK(panel_stage(&p, 0, NULL, 0) == PANEL_ACCEPTED);
+    CHECK(panel_switch(&p) == PANEL_ACCEPTED && panel_operators(&p) == 0);
+    CHECK(panel_stage(&p, 0, NULL, 0) == PANEL_ACCEPTED && panel_stage(&p, 1, left, sizeof left) == PANEL_ACCEPTED);
+    CHECK(panel_switch(&p) == PANEL_ACCEPTED && panel_operators(&p) == 1);
 }
 
 /* The reply to a line is this text, and the output past it is as before. */
@@ -94,11 +127,16 @@ static void check_lines(void) {
     struct panel p = PANEL_FRESH;
     char out[PANEL_MOST_REPLY];
     CHECK(panel_reply(&p, NULL, 0, out) == 2 && memcmp(out, "0c", 2) == 0);
+    CHECK(replies(&p, "0A", "0f"));
     CHECK(replies(&p, "01020000010100020101020000", "00"));
+    CHECK(replies(&p, "0a00", "0c"));
+    CHECK(replies(&p, "0a", "00"));
     CHECK(replies(&p, "02038000810182", "00"));
     CHECK(replies(&p, "0403", "000080018182"));
     CHECK(replies(&p, "0304", "09"));
     CHECK(replies(&p, "01020000010001020101020000", "00"));
+    CHECK(replies(&p, "0403", "000080018182"));
+    CHECK(replies(&p, "0a", "00"));
     CHECK(replies(&p, "0403", "000100808182"));
     CHECK(replies(&p, "0403\r", "0c"));
     CHECK(panel_reply(&p, "0903", 4, out) == PANEL_MOST_REPLY && memcmp(out, "00050100808182", 14) == 0);
@@ -118,9 +156,7 @@ static void check_places(struct panel *p, uint8_t *out) {
     CHECK(untouched(panel_fetch_row(p, 0, NULL, 0), PANEL_SHORT, out, 300));
     CHECK(wrote(panel_image(p, 15, out, 300), image, sizeof image, out, 300));
     CHECK(untouched(panel_image(p, 15, out, 255), PANEL_SHORT, out, 300));
-    CHECK(panel_load(p, 1, NULL, 0) == PANEL_TORN);
-    CHECK(panel_load(p, 1, sheet_a, 1) == PANEL_DOUBLE);
-    CHECK(panel_load(p, 0, NULL, 0) == PANEL_IN_USE);
+    CHECK(change_sheet(p, 0, NULL, 0) == PANEL_IN_USE);
     CHECK(panel_drop(p, 15) == PANEL_ACCEPTED && panel_drop(p, 15) == PANEL_EMPTY);
     CHECK(panel_drop(p, 0) == PANEL_ACCEPTED && panel_drop(p, 255) == PANEL_PLACE);
     CHECK(untouched(panel_fetch_row(p, 0, out, 300), PANEL_EMPTY, out, 300));
@@ -163,8 +199,8 @@ static void check_prefix(struct panel *p, uint8_t *out) {
     static const uint8_t meanings[] = {PANEL_SUM, PANEL_DIFFERENCE, PANEL_MINUS}, no_minus[] = {6, 7, PANEL_LARGER};
     static const int32_t readings[] = {INT32_MAX, -1, 1};
     struct panel_part operand;
-    CHECK(panel_load(p, 3, sheet, 2) == PANEL_TORN);
-    CHECK(panel_load(p, 3, sheet, sizeof sheet) == PANEL_ACCEPTED);
+    CHECK(panel_stage(p, 3, sheet, 2) == PANEL_TORN);
+    CHECK(change_sheet(p, 3, sheet, sizeof sheet) == PANEL_ACCEPTED);
     CHECK(wrote(panel_build(p, tokens, sizeof tokens, out, 300), made, sizeof made, out, 300));
     CHECK(panel_judge(p, made, sizeof made).count == 0 && panel_judge(p, wrong, sizeof wrong).count == 3);
     CHECK(wrote(panel_shortest_row(p, made, sizeof made, out, 300), tokens, sizeof tokens, out, 300));
@@ -174,9 +210,9 @@ static void check_prefix(struct panel *p, uint8_t *out) {
     CHECK(panel_put_row(p, 3, tokens, sizeof tokens) == PANEL_ACCEPTED);
     CHECK(gave(panel_evaluate(p, 3, meanings, 3, readings, 3), PANEL_ACCEPTED, -INT32_MAX + 1));
     CHECK(gave(panel_evaluate(p, 3, no_minus, 3, readings, 3), PANEL_NO_MEANING, 0));
-    CHECK(panel_load(p, 3, changed, sizeof changed) == PANEL_IN_USE);
+    CHECK(change_sheet(p, 3, changed, sizeof changed) == PANEL_IN_USE);
     CHECK(panel_drop(p, 3) == PANEL_ACCEPTED);
-    CHECK(panel_load(p, 3, changed, sizeof changed) == PANEL_ACCEPTED);
+    CHECK(panel_switch(p) == PANEL_ACCEPTED);
 }
 
 int main(void) {
@@ -184,20 +220,22 @@ int main(void) {
     uint8_t out[300];
     memset(out, 0xEE, sizeof out);
     panel_fresh(&p);
-    CHECK(panel_load(&p, 33, NULL, 0) == PANEL_OVERSIZE);
-    CHECK(panel_load(&p, 2, sheet_a, 10) == PANEL_TORN);
-    CHECK(panel_load(&p, 1, sheet_a, sizeof sheet_a) == PANEL_TORN);
-    CHECK(panel_load(&p, 1, sheet_a + 1, sizeof sheet_a - 1) == PANEL_STRANGER);
-    CHECK(panel_load(&p, 2, sheet_a, sizeof sheet_a) == PANEL_ACCEPTED);
+    CHECK(panel_stage(&p, 33, NULL, 0) == PANEL_OVERSIZE);
+    CHECK(panel_stage(&p, 1, NULL, 0) == PANEL_TORN);
+    CHECK(panel_stage(&p, 2, sheet_a, 10) == PANEL_TORN);
+    CHECK(panel_stage(&p, 1, sheet_a, sizeof sheet_a) == PANEL_TORN);
+    CHECK(panel_stage(&p, 1, sheet_a + 1, sizeof sheet_a - 1) == PANEL_STRANGER);
+    CHECK(panel_switch(&p) == PANEL_NOTHING_STAGED);
     check_rules(&p);
+    check_stage(&p, out);
     check_lines();
     check_trees(&p, out);
     check_operands(&p);
     check_places(&p, out);
     check_values(&p);
     check_prefix(&p, out);
-    CHECK(panel_load(&p, 0, NULL, 0) == PANEL_ACCEPTED);
-    for (int number = PANEL_ACCEPTED; number <= PANEL_NO_READING; number++)
+    CHECK(change_sheet(&p, 0, NULL, 0) == PANEL_ACCEPTED);
+    for (int number = PANEL_ACCEPTED; number <= PANEL_NOTHING_STAGED; number++)
         CHECK(strncmp(panel_word((enum panel_number)number), "unknown", 7) != 0);
     return failures != 0;
 }

@@ -10,15 +10,16 @@ enum { LIMIT = 0x80, HOLDOVER = 0x81, ANTENNA_LOST = 0x82, PEERS = 0x83, READING
 static const uint8_t meanings[] = {PANEL_LESS, PANEL_OR, PANEL_AND, PANEL_NOT};
 
 /*
- * Loads a sheet: "less" binds tightest, then "not", then `tighter`, then `looser`; "not" is prefix, and the others group to
- * the left. Priority leads on: "less" is over `tighter` too.
+ * Stages a sheet and switches it in: "less" binds tightest, then "not", then `tighter`, then `looser`; "not" is prefix, and
+ * the others group to the left. Priority leads on: "less" is over `tighter` too.
  */
-static enum panel_number load(struct panel *p, uint8_t tighter, uint8_t looser) {
+static enum panel_number change_sheet(struct panel *p, uint8_t tighter, uint8_t looser) {
     const uint8_t sheet[] = {
         PANEL_INFIX, PANEL_INFIX, PANEL_INFIX, PANEL_PREFIX,
         PANEL_PRIORITY, LESS, NOT, PANEL_PRIORITY, NOT, tighter, PANEL_PRIORITY, tighter, looser,
         PANEL_LEFT, LESS, LESS, PANEL_LEFT, OR, OR, PANEL_LEFT, AND, AND};
-    return panel_load(p, OPERATORS, sheet, sizeof sheet);
+    enum panel_number number = panel_stage(p, OPERATORS, sheet, sizeof sheet);
+    return number == PANEL_ACCEPTED ? panel_switch(p) : number;
 }
 
 /* Runs the condition at a site with this limit. All else is the same at every site; the readings are lent 80 first. */
@@ -43,11 +44,11 @@ int main(void) {
     struct panel p = PANEL_FRESH;
 
     printf("3000 seconds in holdover, the antenna lost, five peers in reach\n");
-    printf("\"and\" first: %s\n", panel_word(load(&p, AND, OR)));
+    printf("\"and\" first: %s\n", panel_word(change_sheet(&p, AND, OR)));
     printf("the row: %s\n", panel_word(panel_put_row(&p, 3, row, sizeof row)));
     print_sites(&p);
 
-    printf("\"or\" first: %s\n", panel_word(load(&p, OR, AND)));
+    printf("\"or\" first: %s\n", panel_word(change_sheet(&p, OR, AND)));
     print_sites(&p);
 
     printf("meanings for three operators: %s\n", panel_word(panel_evaluate(&p, 3, meanings, 3, no_values, 4).number));

@@ -1,5 +1,5 @@
 /*
- * The condition panel for C99 and C++: an operator sheet and sixteen places, each empty or holding one tree.
+ * The condition panel for C99 and C++: an operator sheet, a stage for the next one, and sixteen places for a tree each.
  *
  * To link: `bin/library PREFIX` installs headers and archive, then `cc page.c $(pkg-config --cflags --libs tihvomen)`.
  * Without PREFIX it makes target/lib/libtihvomen.a alone. The archive is for x86-64 (SSE2 and nothing later), ELF and the
@@ -34,22 +34,23 @@ enum panel_side {
     PANEL_RIGHT_SIDE = 1
 };
 
-/* The sheet in force. What its words mean is known to the library alone. */
+/* A sheet, in force or staged. What its words mean is known to the library alone. */
 struct panel_sheet {
     uint32_t words[PANEL_SHEET_WORDS];
 };
 
 /*
- * A panel: the sheet in force and the sixteen places. All zero bytes are a fresh panel. It may be copied like any struct.
- * Only the calls write it. Bytes that no call made also get one fixed answer, and the call still ends.
+ * A panel: the sheet in force, the stage and the sixteen places. All zero bytes are a fresh panel. It may be copied like
+ * any struct. Only the calls write it. Bytes that no call made also get one fixed answer, and the call still ends.
  */
 struct panel {
     struct panel_sheet sheet;
+    struct panel_sheet stage; /* the staged sheet, or nothing */
     uint8_t places[PANEL_STORE_BYTES];
 };
 
 /* A fresh panel, as in `struct panel p = PANEL_FRESH;` */
-#define PANEL_FRESH {{{0}}, {0}}
+#define PANEL_FRESH {{{0}}, {{0}}, {0}}
 
 /* The number of a call that writes an answer, and the answer's length; 0 after a refusal. */
 struct panel_answer {
@@ -87,10 +88,10 @@ static inline struct panel_answer panel_answered(struct panel_raw_answer raw) {
     return answer;
 }
 
-/* The panel is fresh: no operators, no rules, sixteen empty places. */
+/* The panel is fresh: no operators, no rules, nothing staged, sixteen empty places. */
 static inline void panel_fresh(struct panel *p) {
     for (size_t i = 0; i < PANEL_SHEET_WORDS; i++)
-        p->sheet.words[i] = 0;
+        p->sheet.words[i] = p->stage.words[i] = 0;
     for (size_t i = 0; i < PANEL_STORE_BYTES; i++)
         p->places[i] = 0;
 }
@@ -101,26 +102,33 @@ PANEL_NODISCARD static inline unsigned panel_operators(const struct panel *p) {
 }
 
 /*
- * The sheet of n operators takes the old one's place, and each held tree is rebuilt: it is then the one that its row has
- * under the new sheet. The bytes are n kinds of operators, then the rules, three bytes each. A sheet is accepted only if
- * each row over its operators, however long, has one conflict-free tree and no second. Numbers: 1, 2, 3, 4, 5, 11.
+ * Stages the sheet of n operators, in place of one staged earlier: it is kept beside the sheet in force until a switch. The
+ * bytes are n kinds of operators, then the rules, three bytes each. A sheet is accepted only if each row over its
+ * operators, however long, has one conflict-free tree and no second. Numbers: 1, 2, 3, 4, 5.
  */
-PANEL_NODISCARD static inline enum panel_number panel_load(
+PANEL_NODISCARD static inline enum panel_number panel_stage(
     struct panel *p, unsigned n, const uint8_t *kinds_and_rules, size_t length) {
-    const uint8_t *from = panel_from(kinds_and_rules, length);
-    return (enum panel_number)tihvomen_load(p->sheet.words, p->places, n, from, length);
+    return (enum panel_number)tihvomen_stage(p->stage.words, n, panel_from(kinds_and_rules, length), length);
 }
 
 /*
  * The same with the rules as a list of records and the kinds as a list beside it: the same number and the same panel as
- * with their bytes; any number of kinds but n is 2. Numbers: 1, 2, 3, 4, 5, 11.
+ * with their bytes; any number of kinds but n is 2. Numbers: 1, 2, 3, 4, 5.
  */
-PANEL_NODISCARD static inline enum panel_number panel_load_rules(
+PANEL_NODISCARD static inline enum panel_number panel_stage_rules(
     struct panel *p, unsigned n, const uint8_t *kinds, size_t kind_count, const struct panel_rule *rules, size_t count) {
     struct panel_rule none = {0, 0, 0};
     const struct panel_rule *from = count == 0 ? &none : rules;
-    return (enum panel_number)tihvomen_load_rules(
-        p->sheet.words, p->places, n, panel_from(kinds, kind_count), kind_count, from, count);
+    return (enum panel_number)tihvomen_stage_rules(
+        p->stage.words, n, panel_from(kinds, kind_count), kind_count, from, count);
+}
+
+/*
+ * The staged sheet takes the place of the one in force, and nothing is staged then. Each held tree is rebuilt: it is then
+ * the one that its row has under the new sheet. Numbers: 15, 11.
+ */
+PANEL_NODISCARD static inline enum panel_number panel_switch(struct panel *p) {
+    return (enum panel_number)tihvomen_switch(p->sheet.words, p->stage.words, p->places);
 }
 
 /* The place holds the conflict-free tree of the row. Numbers: 8, 1, 3, 6. */
@@ -235,7 +243,7 @@ PANEL_NODISCARD static inline struct panel_part panel_operand(
 PANEL_NODISCARD static inline size_t panel_reply(
     struct panel *p, const char *line, size_t length, char out[PANEL_MOST_REPLY]) {
     const uint8_t *from = panel_from((const uint8_t *)line, length);
-    return tihvomen_reply(p->sheet.words, p->places, from, length, (uint8_t *)out);
+    return tihvomen_reply(p->sheet.words, p->stage.words, p->places, from, length, (uint8_t *)out);
 }
 
 #endif

@@ -1,8 +1,8 @@
 /*
  * The functions of libtihvomen.a, as the archive has them. panel.h has a call for each that takes the panel apart; use
- * those. A list is two arguments, address and length, and the address is never NULL here. `sheet` is
- * PANEL_SHEET_WORDS words, `places` PANEL_STORE_BYTES bytes, the output of a reply PANEL_MOST_REPLY bytes. A refused
- * load leaves sheet and places as they were.
+ * those. A list is two arguments, address and length, and the address is never NULL here. `sheet` and `stage` are
+ * PANEL_SHEET_WORDS words each, `places` PANEL_STORE_BYTES bytes, the output of a reply PANEL_MOST_REPLY bytes. A refused
+ * call leaves them as they were.
  */
 #ifndef TIHVOMEN_PANEL_EXPORTS_H
 #define TIHVOMEN_PANEL_EXPORTS_H
@@ -38,9 +38,10 @@ struct panel_raw_part {
 };
 
 uint8_t tihvomen_operators(const uint32_t *sheet);
-uint8_t tihvomen_load(uint32_t *sheet, uint8_t *places, uint32_t n, const uint8_t *kinds_and_rules, size_t);
-uint8_t tihvomen_load_rules(
-    uint32_t *sheet, uint8_t *places, uint32_t n, const uint8_t *kinds, size_t, const struct panel_rule *rules, size_t);
+uint8_t tihvomen_stage(uint32_t *stage, uint32_t n, const uint8_t *kinds_and_rules, size_t);
+uint8_t tihvomen_stage_rules(
+    uint32_t *stage, uint32_t n, const uint8_t *kinds, size_t, const struct panel_rule *rules, size_t);
+uint8_t tihvomen_switch(uint32_t *sheet, uint32_t *stage, uint8_t *places);
 uint8_t tihvomen_put_row(const uint32_t *sheet, uint8_t *places, uint32_t place, const uint8_t *row, size_t);
 uint8_t tihvomen_put_record(const uint32_t *sheet, uint8_t *places, uint32_t place, const uint8_t *record, size_t);
 uint8_t tihvomen_drop(uint8_t *places, uint32_t place);
@@ -55,7 +56,8 @@ struct panel_raw_answer tihvomen_yield(const uint32_t *sheet, const uint8_t *rec
 struct panel_raw_answer tihvomen_shortest_row(const uint32_t *sheet, const uint8_t *record, size_t, uint8_t *out, size_t);
 uint8_t tihvomen_operand_number(const uint32_t *sheet, const uint8_t *record, size_t);
 struct panel_raw_part tihvomen_operand(const uint32_t *sheet, const uint8_t *record, size_t, bool right);
-size_t tihvomen_reply(uint32_t *sheet, uint8_t *places, const uint8_t *line, size_t, uint8_t *out);
+size_t tihvomen_reply(
+    uint32_t *sheet, uint32_t *stage, uint8_t *places, const uint8_t *line, size_t, uint8_t *out);
 
 #ifdef __cplusplus
 }

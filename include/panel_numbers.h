@@ -34,14 +34,16 @@ enum panel_number {
     PANEL_EMPTY = 9,
     /* the answer does not fit into the lent output */
     PANEL_SHORT = 10,
-    /* a tree that is held uses an operator which the new sheet lacks or has with another kind */
+    /* a tree that is held uses an operator which the staged sheet lacks or has with another kind */
     PANEL_IN_USE = 11,
     /* the line is no frame: no digit pairs, a kind that does not exist, or a length that its kind does not have */
     PANEL_FRAME = 12,
     /* an operator of the tree that is to be evaluated has no meaning of its kind: 1 to 9 infix, 10 and 11 prefix */
     PANEL_NO_MEANING = 13,
     /* a reading of the tree that is to be evaluated lies beyond the lent list */
-    PANEL_NO_READING = 14
+    PANEL_NO_READING = 14,
+    /* a switch where no sheet is staged */
+    PANEL_NOTHING_STAGED = 15
 };
 
 /* What a number says: its word, then a sentence without a full stop. */
@@ -60,10 +62,11 @@ static inline const char *panel_word(enum panel_number number) {
     case PANEL_EMPTY: return "empty: the place holds nothing";
     case PANEL_SHORT: return "short: the lent output is shorter than the answer";
     case PANEL_IN_USE:
-        return "in use: a held tree uses an operator that the new sheet does not have, or has with another kind";
+        return "in use: a held tree uses an operator that the staged sheet does not have, or has with another kind";
     case PANEL_FRAME: return "frame: the line is not digit pairs, or not of a known kind and its length";
     case PANEL_NO_MEANING: return "no meaning: an operator of the tree has no meaning of its kind";
     case PANEL_NO_READING: return "no reading: a reading of the tree lies beyond the lent list";
+    case PANEL_NOTHING_STAGED: return "nothing staged: no sheet waits for a switch";
     }
     return "unknown: the panel gives no such number";
 }

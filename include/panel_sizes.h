@@ -19,7 +19,7 @@ enum {
     PANEL_MOST_OPERATORS = 32,                             /* operators of a sheet */
     PANEL_MOST_RULES = 2048,                               /* rules of a sheet */
     PANEL_MOST_TOKENS = 255,                               /* room for every row and every record */
-    /* characters of a line: 12,356, for the longest load */
+    /* characters of a line: 12,356, for the longest sheet */
     PANEL_MOST_LINE = 2 * (2 + PANEL_MOST_OPERATORS + 3 * PANEL_MOST_RULES),
     PANEL_IMAGE_BYTES = 1 + PANEL_MOST_TOKENS,             /* the length of an image: a record's length and the record */
     PANEL_MOST_REPLY = 2 * (1 + PANEL_IMAGE_BYTES),        /* room for every reply: number and answer in digits */

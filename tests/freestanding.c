@@ -54,7 +54,7 @@ static bool row_is_right(void) {
     struct panel p;
     uint8_t out[PANEL_MOST_TOKENS];
     panel_fresh(&p);
-    if (panel_load(&p, 2, sheet, sizeof sheet) != PANEL_ACCEPTED)
+    if (panel_stage(&p, 2, sheet, sizeof sheet) != PANEL_ACCEPTED || panel_switch(&p) != PANEL_ACCEPTED)
         return false;
     if (panel_put_row(&p, 3, row, sizeof row) != PANEL_ACCEPTED)
         return false;
@@ -66,10 +66,12 @@ static bool row_is_right(void) {
 static bool lines_are_right(void) {
     static const char *const lines[][2] = {
         {"01020000010100020101020000", "00"},
+        {"0a", "00"},
         {"02038000810182", "00"},
         {"0403", "000080018182"},
         {"0304", "09"},
         {"01020000010001020101020000", "00"},
+        {"0a", "00"},
         {"0403", "000100808182"}};
     struct panel p = PANEL_FRESH;
     for (size_t i = 0; i < sizeof lines / sizeof lines[0]; i++) {

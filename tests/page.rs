@@ -19,9 +19,9 @@ fn print(what: &str, said: impl Display) {
     println!("{what}: {said}");
 }
 
-/// Loads a sheet: "less" binds tightest, then "not", then `tighter`, then `looser`; "not" is prefix, and the others group to the
-/// left. Priority leads on: "less" is over `tighter` too.
-fn load(panel: &mut Panel, tighter: u8, looser: u8) -> Result<(), Refusal> {
+/// Stages a sheet and switches it in: "less" binds tightest, then "not", then `tighter`, then `looser`; "not" is prefix, and the
+/// others group to the left. Priority leads on: "less" is over `tighter` too.
+fn change_sheet(panel: &mut Panel, tighter: u8, looser: u8) -> Result<(), Refusal> {
     let rules = [
         Rule::priority(LESS, NOT),
         Rule::priority(NOT, tighter),
@@ -30,7 +30,8 @@ fn load(panel: &mut Panel, tighter: u8, looser: u8) -> Result<(), Refusal> {
         Rule::left(OR, OR),
         Rule::left(AND, AND),
     ];
-    panel.load_rules(4, &[INFIX, INFIX, INFIX, PREFIX], &rules)
+    panel.stage_rules(4, &[INFIX, INFIX, INFIX, PREFIX], &rules)?;
+    panel.switch()
 }
 
 /// Runs the condition at two sites with limits of their own.
@@ -50,11 +51,11 @@ fn main() {
     let mut panel = Panel::new();
 
     println!("3000 seconds in holdover, the antenna lost, five peers in reach");
-    print("\"and\" first", said(load(&mut panel, AND, OR)));
+    print("\"and\" first", said(change_sheet(&mut panel, AND, OR)));
     print("the row", said(panel.put_row(3, &row)));
     print_sites(&panel);
 
-    print("\"or\" first", said(load(&mut panel, OR, AND)));
+    print("\"or\" first", said(change_sheet(&mut panel, OR, AND)));
     print_sites(&panel);
 
     print("meanings for three operators", said(panel.evaluate(3, &MEANINGS[..3], &[0; 4])));

@@ -15,7 +15,7 @@ enum { ROUNDING = 128, SLACK = 512, RANDOM_LISTS = 400 };
 
 /* What the calls are lent. */
 static struct panel p;
-static struct list lent, loaded;
+static struct list lent, staged;
 static struct panel_rule rule_list[PANEL_MOST_RULES + 1];
 static char line[PANEL_MOST_LINE + 3];
 static size_t line_length;
@@ -27,7 +27,8 @@ static volatile size_t answer;
 static void do_nothing(void) { answer = 0; }
 static void do_fresh(void) { panel_fresh(&p); }
 static void do_operators(void) { answer = panel_operators(&p); }
-static void do_load(void) { answer = panel_load(&p, PANEL_MOST_OPERATORS, loaded.bytes, loaded.length); }
+static void do_stage(void) { answer = panel_stage(&p, PANEL_MOST_OPERATORS, staged.bytes, staged.length); }
+static void do_switch(void) { answer = panel_switch(&p); }
 static void do_put_row(void) { answer = panel_put_row(&p, place, lent.bytes, lent.length); }
 static void do_put_record(void) { answer = panel_put_record(&p, place, lent.bytes, lent.length); }
 static void do_drop(void) { answer = panel_drop(&p, place); }
@@ -42,9 +43,9 @@ static void do_judge(void) { answer = panel_judge(&p, lent.bytes, lent.length).c
 static void do_operand(void) { answer = panel_operand(&p, lent.bytes, lent.length, side).length; }
 static void do_reply(void) { answer = panel_reply(&p, line, line_length, (char *)out); }
 
-static void do_load_rules(void) {
-    size_t count = (loaded.length - PANEL_MOST_OPERATORS) / 3;
-    answer = panel_load_rules(&p, PANEL_MOST_OPERATORS, loaded.bytes, PANEL_MOST_OPERATORS, rule_list, count);
+static void do_stage_rules(void) {
+    size_t count = (staged.length - PANEL_MOST_OPERATORS) / 3;
+    answer = panel_stage_rules(&p, PANEL_MOST_OPERATORS, staged.bytes, PANEL_MOST_OPERATORS, rule_list, count);
 }
 
 static void do_evaluate(void) {
@@ -54,8 +55,8 @@ static void do_evaluate(void) {
     answer = (size_t)panel_evaluate(&p, place, meanings, sizeof meanings, readings, 128).number;
 }
 
-/* What a call looks at beside the panel. */
-enum lends { NOTHING, RULES, LIST, LINE };
+/* What a call looks at beside the sheet in force and the places. */
+enum lends { NOTHING, STAGE, RULES, LIST, LINE };
 
 static struct call {
     const char *name;
@@ -65,8 +66,9 @@ static struct call {
 } calls[] = {
     {"fresh", do_fresh, NOTHING, PANEL_STACK_FRESH, 0},
     {"operators", do_operators, NOTHING, PANEL_STACK_OPERATORS, 0},
-    {"load", do_load, RULES, PANEL_STACK_LOAD, 0},
-    {"load_rules", do_load_rules, RULES, PANEL_STACK_LOAD_RULES, 0},
+    {"stage", do_stage, RULES, PANEL_STACK_STAGE, 0},
+    {"stage_rules", do_stage_rules, RULES, PANEL_STACK_STAGE_RULES, 0},
+    {"switch", do_switch, STAGE, PANEL_STACK_SWITCH, 0},
     {"put_row", do_put_row, LIST, PANEL_STACK_PUT_ROW, 0},
     {"put_record", do_put_record, LIST, PANEL_STACK_PUT_RECORD, 0},
     {"drop", do_drop, NOTHING, PANEL_STACK_DROP, 0},
@@ -106,7 +108,7 @@ static void add_digits(uint8_t byte) {
     }
 }
 
-/* Measures the reply to a line: its kind, a byte where the kind has one, and a list. */
+/* Measures the reply to a line: its kind, a byte where one is to follow, and a list. */
 static void measure_line(uint8_t kind, bool has_byte, uint8_t byte, const struct list *list) {
     line_length = 0;
     add_digits(kind);
@@ -117,7 +119,7 @@ static void measure_line(uint8_t kind, bool has_byte, uint8_t byte, const struct
     measure(LINE);
 }
 
-/* All calls on this panel with this list, but for loads. */
+/* All calls on this panel with this list, but for those with sheets. */
 static void measure_list(void) {
     static const struct list nothing = {0, {0}};
     measure(NOTHING);
@@ -131,20 +133,32 @@ static void measure_list(void) {
     }
 }
 
-/* The loads of 2,048 rules on this panel. */
-static void measure_loads(void) {
+/* The stagings of 2,048 rules. */
+static void measure_stagings(void) {
     for (int sheet = 0; sheet < SHEETS; sheet++)
         for (size_t count = PANEL_MOST_RULES; count <= PANEL_MOST_RULES + 1; count++) {
-            make_sheet(&loaded, sheet, count);
+            make_sheet(&staged, sheet, count);
             for (size_t i = 0; i < count; i++) {
-                const uint8_t *rule = loaded.bytes + PANEL_MOST_OPERATORS + 3 * i;
+                const uint8_t *rule = staged.bytes + PANEL_MOST_OPERATORS + 3 * i;
                 rule_list[i].kind = rule[0];
                 rule_list[i].first = rule[1];
                 rule_list[i].second = rule[2];
             }
             measure(RULES);
-            measure_line(1, true, PANEL_MOST_OPERATORS, &loaded);
+            measure_line(1, true, PANEL_MOST_OPERATORS, &staged);
         }
+}
+
+/* The switches of this panel: with nothing staged, then with each of the good sheets. */
+static void measure_switches(void) {
+    static const struct list nothing = {0, {0}};
+    measure(STAGE);
+    for (int sheet = ALL_LEFT; sheet <= CHAIN; sheet++) {
+        make_sheet(&staged, sheet, PANEL_MOST_RULES);
+        do_stage();
+        measure(STAGE);
+        measure_line(10, false, 0, &nothing);
+    }
 }
 
 /* Every place of the panel gets the list: by a call, or as bytes that no call puts there. */
@@ -161,7 +175,7 @@ static bool fill(bool by_call) {
     return true;
 }
 
-/* The list on panels with this sheet that hold it everywhere, and with loads if it is one of the deepest. */
+/* The list on panels with this sheet that hold it everywhere, and with switches if it is one of the deepest. */
 static void measure_on(const struct panel *sheet, bool deepest) {
     for (int by_call = 0; by_call < 2; by_call++) {
         p = *sheet;
@@ -170,7 +184,7 @@ static void measure_on(const struct panel *sheet, bool deepest) {
             continue;
         measure_list();
         if (deepest)
-            measure_loads();
+            measure_switches();
     }
 }
 
@@ -185,8 +199,10 @@ static bool measure_all(void) {
     for (int which = ALL_LEFT; which <= CHAIN; which++) {
         struct panel sheet = PANEL_FRESH;
         struct list record;
-        make_sheet(&loaded, which, PANEL_MOST_RULES);
-        if (panel_load(&sheet, PANEL_MOST_OPERATORS, loaded.bytes, loaded.length) != PANEL_ACCEPTED)
+        make_sheet(&staged, which, PANEL_MOST_RULES);
+        if (panel_stage(&sheet, PANEL_MOST_OPERATORS, staged.bytes, staged.length) != PANEL_ACCEPTED)
+            return false;
+        if (panel_switch(&sheet) != PANEL_ACCEPTED)
             return false;
         for (size_t i = 0; i < 2 * LETTERS * NODES; i++) {
             make_spine(&record, letters[i / (2 * NODES)], nodes[i / 2 % NODES], i % 2 == 0);
@@ -207,6 +223,8 @@ static bool measure_all(void) {
                 lent = record;
             damage(&lent);
             measure_on(&sheet, i % 16 == 0);
+            if (i % 16 == 0)
+                measure_stagings();
         }
     }
     return true;

@@ -21,10 +21,11 @@ static bool refused(struct panel_answer answer, enum panel_number number) {
     return answer.number == number && answer.length == 0;
 }
 
-/* A panel with sheet A, and trees at the places 0 and 3. */
+/* A panel with sheet A in force and staged, and trees at the places 0 and 3. */
 static struct panel filled(void) {
     struct panel p = PANEL_FRESH;
-    CHECK(panel_load(&p, 2, sheet_a, sizeof sheet_a) == PANEL_ACCEPTED);
+    CHECK(panel_stage(&p, 2, sheet_a, sizeof sheet_a) == PANEL_ACCEPTED && panel_switch(&p) == PANEL_ACCEPTED);
+    CHECK(panel_stage(&p, 2, sheet_a, sizeof sheet_a) == PANEL_ACCEPTED);
     CHECK(panel_put_row(&p, 0, row, sizeof row) == PANEL_ACCEPTED);
     CHECK(panel_put_row(&p, 3, row + 1, 3) == PANEL_ACCEPTED);
     return p;
@@ -56,14 +57,14 @@ static void check_counts(void) {
     struct panel p = filled();
     const struct panel before = p;
     for (size_t i = 0; i < sizeof counts / sizeof counts[0]; i++) {
-        CHECK(panel_load(&p, counts[i], sheet_a, sizeof sheet_a) == PANEL_OVERSIZE);
-        CHECK(panel_load(&p, counts[i], NULL, 0) == PANEL_OVERSIZE);
-        CHECK(panel_load_rules(&p, counts[i], sheet_a, 2, rules, 3) == PANEL_OVERSIZE);
-        CHECK(panel_load_rules(&p, counts[i], NULL, 0, NULL, 0) == PANEL_OVERSIZE);
+        CHECK(panel_stage(&p, counts[i], sheet_a, sizeof sheet_a) == PANEL_OVERSIZE);
+        CHECK(panel_stage(&p, counts[i], NULL, 0) == PANEL_OVERSIZE);
+        CHECK(panel_stage_rules(&p, counts[i], sheet_a, 2, rules, 3) == PANEL_OVERSIZE);
+        CHECK(panel_stage_rules(&p, counts[i], NULL, 0, NULL, 0) == PANEL_OVERSIZE);
     }
-    CHECK(panel_load(&p, PANEL_MOST_OPERATORS, kinds, PANEL_MOST_OPERATORS) == PANEL_DOUBLE);
-    CHECK(panel_load(&p, PANEL_MOST_OPERATORS, NULL, 0) == PANEL_TORN);
-    CHECK(panel_load(&p, PANEL_MOST_OPERATORS + 1, NULL, 0) == PANEL_OVERSIZE);
+    CHECK(panel_stage(&p, PANEL_MOST_OPERATORS, kinds, PANEL_MOST_OPERATORS) == PANEL_DOUBLE);
+    CHECK(panel_stage(&p, PANEL_MOST_OPERATORS, NULL, 0) == PANEL_TORN);
+    CHECK(panel_stage(&p, PANEL_MOST_OPERATORS + 1, NULL, 0) == PANEL_OVERSIZE);
     CHECK(memcmp(&p, &before, sizeof p) == 0);
 }
 

@@ -24,7 +24,7 @@ pub fn kinds(prefixed: bool) -> Vec<u8> {
     (0..32).map(|operator| if prefixed && operator % 4 == 3 { PREFIX } else { INFIX }).collect()
 }
 
-/// The sheet of 32 operators of these kinds and `rules(groups)`, as a load has it after n.
+/// The sheet of 32 operators of these kinds and `rules(groups)`, as a staging has it after n.
 pub fn sheet(prefixed: bool, groups: u8) -> Vec<u8> {
     [kinds(prefixed), rules(groups)].concat()
 }

@@ -1,16 +1,22 @@
-//! A stream of frames for the line programs: loads, puts, fetches, judges, repairs, drops, images and damaged lines.
+//! A stream of frames for the line programs: sheets, switches, puts, fetches, judges, repairs, drops, images and damaged lines.
 use crate::inputs;
-use crate::loads;
 use crate::random::Random;
+use crate::stagings;
 
 /// So many lines with operators of these kinds, the first ones of which every sheet has; the same lines every time.
 pub fn stream(lines: usize, kinds: &[u8]) -> Vec<u8> {
     let mut random = Random::new(7);
     let mut text = Vec::new();
     let mut n = 0;
+    let mut staged = false;
     for line in 0..lines {
-        let frame = if line == 0 || random.once_in(60) {
-            load(&mut random, kinds, &mut n)
+        // A switch after each sheet, and now and then another.
+        let frame = if staged || random.once_in(1000) {
+            staged = false;
+            vec![10]
+        } else if line == 0 || random.once_in(60) {
+            staged = true;
+            sheet(&mut random, kinds, &mut n)
         } else {
             call(&mut random, &kinds[..usize::from(n)])
         };
@@ -27,12 +33,12 @@ pub fn stream(lines: usize, kinds: &[u8]) -> Vec<u8> {
 }
 
 /// A sheet, mostly with more operators than before so that it is not in use.
-fn load(random: &mut Random, kinds: &[u8], n: &mut u8) -> Vec<u8> {
+fn sheet(random: &mut Random, kinds: &[u8], n: &mut u8) -> Vec<u8> {
     let (count, rules) = if random.once_in(6) {
-        loads::any_rules(random, *n)
+        stagings::any_rules(random, *n)
     } else {
         *n = (*n).max([2, 4, 8, 16, 32][random.below(5)]);
-        (*n, loads::good_rules(random, *n))
+        (*n, stagings::good_rules(random, *n))
     };
     let mut own = kinds.to_vec();
     own.resize(count.into(), 0);

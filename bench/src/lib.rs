@@ -9,9 +9,9 @@ pub mod timing;
 // The random inputs are those of the differential tests.
 #[path = "../../rust/tests/differential/inputs.rs"]
 pub mod inputs;
-#[path = "../../rust/tests/differential/loads.rs"]
-pub mod loads;
 #[path = "../../rust/tests/differential/random.rs"]
 pub mod random;
+#[path = "../../rust/tests/differential/stagings.rs"]
+pub mod stagings;
 #[path = "../../rust/tests/differential/tree.rs"]
 pub mod tree;

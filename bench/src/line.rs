@@ -77,7 +77,7 @@ impl Lines {
         let Lines { panel, frame, answer } = self;
         let frame = &frame[..length];
         match *frame {
-            [1, n, ref bytes @ ..] => panel.load(n, bytes).map(|()| 0),
+            [1, n, ref bytes @ ..] => panel.stage(n, bytes).map(|()| 0),
             [2, place, ref row @ ..] => panel.put_row(place, row).map(|()| 0),
             [3, place] => panel.drop_place(place).map(|()| 0),
             [4, place] => panel.fetch_record(place, answer),
@@ -89,6 +89,7 @@ impl Lines {
             }),
             [8, ref record @ ..] => panel.repair(record, answer),
             [9, place] => panel.image(place, answer),
+            [10] => panel.switch().map(|()| 0),
             _ => Err(12),
         }
     }

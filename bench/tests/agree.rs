@@ -2,8 +2,8 @@
 use tihvomen_bench::fast;
 use tihvomen_bench::inputs::{any_tree, meanings, perhaps_damaged, readings};
 use tihvomen_bench::line::Lines;
-use tihvomen_bench::loads;
 use tihvomen_bench::random::Random;
+use tihvomen_bench::stagings::{self, Staging};
 
 /// A call to both panels with equal outputs; equal numbers, lengths and outputs after it.
 fn written(
@@ -28,60 +28,80 @@ fn row(random: &mut Random, kinds: &[u8]) -> Vec<u8> {
     perhaps_damaged(random, row)
 }
 
-/// One call to both; `kinds` are those of the sheet in force.
-fn call(random: &mut Random, proved: &mut tihvomen::Panel, fast: &mut fast::Panel, kinds: &mut Vec<u8>) {
+/// The kinds of the sheet in force, and of the staged one.
+struct Kinds {
+    in_force: Vec<u8>,
+    staged: Vec<u8>,
+}
+
+/// A sheet staged on both.
+fn stage(random: &mut Random, proved: &mut tihvomen::Panel, fast: &mut fast::Panel, kinds: &mut Kinds) {
+    let in_use: Vec<Option<u8>> = kinds.in_force.iter().copied().map(Some).collect();
+    let mut staging = stagings::any(random, &in_use);
+    if random.once_in(2) {
+        let n = kinds.in_force.len() as u8;
+        staging = Staging { n, kinds: kinds.in_force.clone(), rules: stagings::good_rules(random, n) };
+    }
+    let accepted = fast.stage(staging.n, &staging.bytes());
+    assert_eq!(proved.stage(staging.n, &staging.bytes()).map_err(|refusal| refusal.number()), accepted);
+    if accepted.is_ok() {
+        // In the byte form the kinds are the first n bytes.
+        kinds.staged = staging.bytes()[..usize::from(staging.n)].to_vec();
+    }
+}
+
+/// A switch of both.
+fn switch(random: &mut Random, proved: &mut tihvomen::Panel, fast: &mut fast::Panel, kinds: &mut Kinds) {
+    let accepted = fast.switch();
+    assert_eq!(proved.switch().map_err(|refusal| refusal.number()), accepted);
+    if accepted.is_ok() {
+        kinds.in_force.clone_from(&kinds.staged);
+    }
+    for place in 0..16 {
+        written(random, |out| proved.fetch_record_into(place, out), |out| fast.fetch_record(place, out));
+    }
+}
+
+/// One call to both.
+fn call(random: &mut Random, proved: &mut tihvomen::Panel, fast: &mut fast::Panel, all_kinds: &mut Kinds) {
     let place = random.below(18) as u8;
     let number = |refusal: tihvomen::Refusal| refusal.number();
-    match random.below(17) {
-        0 | 1 => {
-            let in_use: Vec<Option<u8>> = kinds.iter().copied().map(Some).collect();
-            let mut load = loads::any(random, &in_use);
-            if random.once_in(2) {
-                load = loads::Load { n: kinds.len() as u8, kinds: kinds.clone(), rules: vec![] };
-                load.rules = loads::good_rules(random, load.n);
-            }
-            let accepted = fast.load(load.n, &load.bytes());
-            assert_eq!(proved.load(load.n, &load.bytes()).map_err(number), accepted);
-            if accepted.is_ok() {
-                // In the byte form the kinds are the first n bytes.
-                *kinds = load.bytes()[..usize::from(load.n)].to_vec();
-            }
-            for place in 0..16 {
-                written(random, |out| proved.fetch_record_into(place, out), |out| fast.fetch_record(place, out));
-            }
-        }
-        2 | 3 => {
+    let kinds = &all_kinds.in_force;
+    match random.below(19) {
+        0 | 1 => stage(random, proved, fast, all_kinds),
+        2 | 3 => switch(random, proved, fast, all_kinds),
+        4 | 5 => {
             let row = row(random, kinds);
             assert_eq!(proved.put_row(place, &row).map_err(number), fast.put_row(place, &row));
         }
-        4 | 5 => {
+        6 | 7 => {
             let record = record(random, kinds);
             assert_eq!(proved.put_record(place, &record).map_err(number), fast.put_record(place, &record));
         }
-        6 => assert_eq!(proved.drop_place(place).map_err(number), fast.drop_place(place)),
-        7 => written(random, |out| proved.fetch_row_into(place, out), |out| fast.fetch_row(place, out)),
-        8 => written(random, |out| proved.image_into(place, out), |out| fast.image(place, out)),
-        9 => {
+        8 => assert_eq!(proved.drop_place(place).map_err(number), fast.drop_place(place)),
+        9 => written(random, |out| proved.fetch_row_into(place, out), |out| fast.fetch_row(place, out)),
+        10 => written(random, |out| proved.image_into(place, out), |out| fast.image(place, out)),
+        11 => {
             let row = row(random, kinds);
             written(random, |out| proved.build_into(&row, out), |out| fast.build(&row, out));
         }
-        10 => {
+        12 => {
             let record = record(random, kinds);
             written(random, |out| proved.repair_into(&record, out), |out| fast.repair(&record, out));
         }
-        11 => {
+        13 => {
             let record = record(random, kinds);
             written(random, |out| proved.yield_row_into(&record, out), |out| fast.yield_row(&record, out));
         }
-        12 => {
+        14 => {
             let record = record(random, kinds);
             written(random, |out| proved.shortest_row_into(&record, out), |out| fast.shortest_row(&record, out));
         }
-        13 => {
+        15 => {
             let record = record(random, kinds);
             assert_eq!(proved.judge(&record).map_err(number), fast.judge(&record));
         }
-        14 | 15 => {
+        16 | 17 => {
             let (meanings, readings) = (meanings(random, kinds), readings(random));
             let value = proved.evaluate(place, &meanings, &readings).map_err(number);
             assert_eq!(value, fast.evaluate(place, &meanings, &readings));
@@ -101,9 +121,10 @@ fn the_fast_panel_agrees() {
         let mut random = Random::new(seed);
         let (mut proved, mut fast) = (tihvomen::Panel::new(), fast::Panel::default());
         let n = random.below(33) as u8;
-        let load = loads::good(&mut random, n);
-        assert_eq!((proved.load(n, &load.bytes()), fast.load(n, &load.bytes())), (Ok(()), Ok(())));
-        let mut kinds = load.kinds;
+        let staging = stagings::good(&mut random, n);
+        assert_eq!((proved.stage(n, &staging.bytes()), fast.stage(n, &staging.bytes())), (Ok(()), Ok(())));
+        let mut kinds = Kinds { in_force: Vec::new(), staged: staging.kinds };
+        switch(&mut random, &mut proved, &mut fast, &mut kinds);
         for _ in 0..150 {
             call(&mut random, &mut proved, &mut fast, &mut kinds);
         }
@@ -122,8 +143,8 @@ fn small_sheets_agree() {
             for prefixes in 0..1u8 << n {
                 let kinds: Vec<u8> = (0..n).map(|operator| prefixes >> operator & 1).collect();
                 let bytes = [kinds, rules.clone()].concat();
-                let proved = tihvomen::Panel::new().load(n, &bytes).map_err(|refusal| refusal.number());
-                assert_eq!(proved, fast::Panel::default().load(n, &bytes), "{n} {bytes:02x?}");
+                let proved = tihvomen::Panel::new().stage(n, &bytes).map_err(|refusal| refusal.number());
+                assert_eq!(proved, fast::Panel::default().stage(n, &bytes), "{n} {bytes:02x?}");
             }
         }
     }
@@ -132,13 +153,14 @@ fn small_sheets_agree() {
 /// The listing of docs/REFERENCE.md, section 8, and lines of a wrong length.
 #[test]
 fn lines_are_answered() {
-    let run = "01020000010100020101020000 02038000810182 0403 0304 01020000010001020101020000 0403";
-    let replies = "00 00 000080018182 09 00 000100808182";
+    let run = "01020000010100020101020000 0a 02038000810182 0403 0304 01020000010001020101020000 0A 0403 0a";
+    let replies = "00 00 00 000080018182 09 00 00 000100808182 0f";
     let longest = "00".repeat(6178);
-    let wrong = ["", "0", "0403\r", "01", "02", "0400ff", "0a", "04FF", longest.as_str(), &format!("{longest}0")];
+    let wrong =
+        ["", "0", "0403\r", "01", "02", "0400ff", "0a00", "0b", "04FF", longest.as_str(), &format!("{longest}0")];
     let mut lines = Lines::default();
     let mut answered = Vec::new();
     run.split(' ').chain(wrong).for_each(|line| lines.reply(line.as_bytes(), &mut answered));
-    let expected = format!("{replies} 0c 0c 0c 0c 0c 0c 0c 08 0c 01").replace(' ', "\n") + "\n";
+    let expected = format!("{replies} 0c 0c 0c 0c 0c 0c 0c 0c 08 0c 01").replace(' ', "\n") + "\n";
     assert_eq!(String::from_utf8(answered).unwrap(), expected);
 }

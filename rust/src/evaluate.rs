@@ -14,7 +14,8 @@ impl Panel {
     /// ```
     /// let mut panel = tihvomen::Panel::new();
     /// // Two infix operators and a prefix one: 01 over 02, 02 over 00. Here 00 is "or", 01 is "less" and 02 is "not".
-    /// panel.load(3, &[0, 0, 1, 1, 1, 2, 1, 2, 0, 2, 1, 1, 2, 0, 0])?;
+    /// panel.stage(3, &[0, 0, 1, 1, 1, 2, 1, 2, 0, 2, 1, 1, 2, 0, 0])?;
+    /// panel.switch()?;
     /// // The limit is less than the time in holdover, or the antenna is not there.
     /// panel.put_row(3, &[0x80, 0x01, 0x81, 0x00, 0x02, 0x82])?;
     /// assert_eq!(panel.evaluate(3, &[1, 3, 10], &[14_400, 3_000, 1])?, 0);

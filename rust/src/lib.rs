@@ -1,4 +1,4 @@
-//! The condition panel: one operator sheet and sixteen places, each empty or holding one tree.
+//! The condition panel: an operator sheet, a stage for the next one, and sixteen places, each empty or holding one tree.
 //!
 //! The calls are those of the proved library `libtihvomen.a`, which `bin/library` makes; this crate gives them Rust's
 //! habits and adds nothing. Every call takes any bytes and ends. After a refusal the panel and a lent output are as they
@@ -10,12 +10,13 @@
 //! let mut panel = Panel::new();
 //! // Or, and, not: 02 over 01, 01 over 00, the two infix ones left with themselves.
 //! let rules = [Rule::priority(2, 1), Rule::priority(1, 0), Rule::left(1, 1), Rule::left(0, 0)];
-//! panel.load_rules(3, &[INFIX, INFIX, PREFIX], &rules)?;
+//! panel.stage_rules(3, &[INFIX, INFIX, PREFIX], &rules)?;
+//! panel.switch()?;
 //! // a or not b and c
 //! panel.put_row(3, &[0x80, 0x00, 0x02, 0x81, 0x01, 0x82])?;
 //! # #[cfg(feature = "alloc")]
 //! assert_eq!(panel.fetch_record(3)?, [0x00, 0x80, 0x01, 0x02, 0x81, 0x82]);
-//! assert_eq!(panel.load_rules(1, &[INFIX], &[]), Err(Refusal::Double));
+//! assert_eq!(panel.stage_rules(1, &[INFIX], &[]), Err(Refusal::Double));
 //! # Ok::<(), Refusal>(())
 //! ```
 //!

@@ -16,7 +16,7 @@ impl Panel {
     /// assert_eq!(panel.reply_into(b"0403", &mut out), "0080");
     /// ```
     pub fn reply_into<'a>(&mut self, line: &[u8], out: &'a mut [u8; MOST_REPLY]) -> &'a str {
-        let length = linked::reply(&mut self.sheet, &mut self.places, line, out);
+        let length = linked::reply(&mut self.sheet, &mut self.stage, &mut self.places, line, out);
         text(&out[..length])
     }
 }

@@ -1,12 +1,12 @@
 //! The linked functions. Unsafe code stands here and nowhere else.
 //!
-//! A slice goes over as address and length; a Rust slice's address is never null. Sheet, places and the output of a reply
-//! have fixed lengths and go over by address alone. The structs are laid out as in C.
+//! A slice goes over as address and length; a Rust slice's address is never null. Sheet, stage, places and the output of a
+//! reply have fixed lengths and go over by address alone. The structs are laid out as in C.
 #![allow(unsafe_code)]
 use crate::rule::Rule;
 use crate::sizes::{MOST_REPLY, SHEET_WORDS, STORE_BYTES};
 
-/// The sheet in force. All zero is the fresh panel's; what the words mean is known to the library alone.
+/// A sheet, in force or staged. All zero is the fresh panel's; what the words mean is known to the library alone.
 pub type Sheet = [u32; SHEET_WORDS];
 
 /// The sixteen places. All zero is the fresh panel's.
@@ -43,16 +43,16 @@ mod exports {
 
     extern "C" {
         pub fn tihvomen_operators(sheet: &Sheet) -> u8;
-        pub fn tihvomen_load(sheet: &mut Sheet, places: &mut Places, n: u32, bytes: *const u8, length: usize) -> u8;
-        pub fn tihvomen_load_rules(
-            sheet: &mut Sheet,
-            places: &mut Places,
+        pub fn tihvomen_stage(stage: &mut Sheet, n: u32, bytes: *const u8, length: usize) -> u8;
+        pub fn tihvomen_stage_rules(
+            stage: &mut Sheet,
             n: u32,
             kinds: *const u8,
             kind_count: usize,
             rules: *const Rule,
             count: usize,
         ) -> u8;
+        pub fn tihvomen_switch(sheet: &mut Sheet, stage: &mut Sheet, places: &mut Places) -> u8;
         pub fn tihvomen_put_row(sheet: &Sheet, places: &mut Places, place: u32, row: *const u8, length: usize) -> u8;
         pub fn tihvomen_put_record(
             sheet: &Sheet,
@@ -80,6 +80,7 @@ mod exports {
         pub fn tihvomen_operand(sheet: &Sheet, record: *const u8, length: usize, right: bool) -> Part;
         pub fn tihvomen_reply(
             sheet: &mut Sheet,
+            stage: &mut Sheet,
             places: &mut Places,
             line: *const u8,
             length: usize,
@@ -104,17 +105,21 @@ pub fn operators(sheet: &Sheet) -> u8 {
 }
 
 #[inline]
-pub fn load(sheet: &mut Sheet, places: &mut Places, n: u8, bytes: &[u8]) -> u8 {
-    // SAFETY: `bytes` is read within its length; `sheet` and `places` are ours alone meanwhile.
-    unsafe { exports::tihvomen_load(sheet, places, n.into(), bytes.as_ptr(), bytes.len()) }
+pub fn stage(stage: &mut Sheet, n: u8, bytes: &[u8]) -> u8 {
+    // SAFETY: `bytes` is read within its length; `stage` is ours alone meanwhile.
+    unsafe { exports::tihvomen_stage(stage, n.into(), bytes.as_ptr(), bytes.len()) }
 }
 
 #[inline]
-pub fn load_rules(sheet: &mut Sheet, places: &mut Places, n: u8, kinds: &[u8], rules: &[Rule]) -> u8 {
-    // SAFETY: `kinds` and `rules` are read within their lengths; `sheet` and `places` are ours alone meanwhile.
-    unsafe {
-        exports::tihvomen_load_rules(sheet, places, n.into(), kinds.as_ptr(), kinds.len(), rules.as_ptr(), rules.len())
-    }
+pub fn stage_rules(stage: &mut Sheet, n: u8, kinds: &[u8], rules: &[Rule]) -> u8 {
+    // SAFETY: `kinds` and `rules` are read within their lengths; `stage` is ours alone meanwhile.
+    unsafe { exports::tihvomen_stage_rules(stage, n.into(), kinds.as_ptr(), kinds.len(), rules.as_ptr(), rules.len()) }
+}
+
+#[inline]
+pub fn switch(sheet: &mut Sheet, stage: &mut Sheet, places: &mut Places) -> u8 {
+    // SAFETY: `sheet`, `stage` and `places` are ours alone meanwhile.
+    unsafe { exports::tihvomen_switch(sheet, stage, places) }
 }
 
 #[inline]
@@ -196,10 +201,16 @@ pub fn operand(sheet: &Sheet, record: &[u8], right: bool) -> Part {
 }
 
 #[inline]
-pub fn reply(sheet: &mut Sheet, places: &mut Places, line: &[u8], out: &mut [u8; MOST_REPLY]) -> usize {
-    // SAFETY: `line` is read within its length; `sheet`, `places` and `out` are ours alone meanwhile, and `out` has room for
-    // every reply.
-    unsafe { exports::tihvomen_reply(sheet, places, line.as_ptr(), line.len(), out) }
+pub fn reply(
+    sheet: &mut Sheet,
+    stage: &mut Sheet,
+    places: &mut Places,
+    line: &[u8],
+    out: &mut [u8; MOST_REPLY],
+) -> usize {
+    // SAFETY: `line` is read within its length; `sheet`, `stage`, `places` and `out` are ours alone meanwhile, and `out` has
+    // room for every reply.
+    unsafe { exports::tihvomen_reply(sheet, stage, places, line.as_ptr(), line.len(), out) }
 }
 
 #[inline]

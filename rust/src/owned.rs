@@ -60,7 +60,8 @@ impl Panel {
     /// ```
     /// let mut panel = tihvomen::Panel::new();
     /// // Two infix operators: 01 over 00, each left with itself.
-    /// panel.load(2, &[0, 0, 1, 1, 0, 2, 1, 1, 2, 0, 0])?;
+    /// panel.stage(2, &[0, 0, 1, 1, 0, 2, 1, 1, 2, 0, 0])?;
+    /// panel.switch()?;
     /// let spare = panel.build(&[0x20, 0x80, 0x21, 0x00, 0x20, 0x81, 0x01, 0x82, 0x21])?;
     /// assert_eq!(panel.shortest_row(&spare)?, [0x80, 0x00, 0x81, 0x01, 0x82]);
     /// let needed = [0x20, 0x80, 0x00, 0x81, 0x21, 0x01, 0x82];

@@ -1,22 +1,23 @@
-//! The panel, and the calls that load a sheet and that fill, empty and show the places.
+//! The panel, and the calls that stage a sheet, switch it in, and fill, empty and show the places.
 use crate::linked::{self, Answer, Places, Sheet};
 use crate::refusal::Refusal;
 use crate::rule::Rule;
 use crate::sizes::{IMAGE_BYTES, MOST_TOKENS, PLACES, SHEET_WORDS, STORE_BYTES};
 use core::fmt;
 
-/// The sheet in force and sixteen places.
+/// The sheet in force, the stage and sixteen places. Panels are equal if their bytes are; they answer alike then.
 #[derive(Clone, PartialEq, Eq)]
 pub struct Panel {
     pub(crate) sheet: Sheet,
+    pub(crate) stage: Sheet,
     pub(crate) places: Places,
 }
 
 impl Panel {
-    /// A fresh panel: no operators, no rules, sixteen empty places.
+    /// A fresh panel: no operators, no rules, nothing staged, sixteen empty places.
     #[must_use]
     pub const fn new() -> Panel {
-        Panel { sheet: [0; SHEET_WORDS], places: [0; STORE_BYTES] }
+        Panel { sheet: [0; SHEET_WORDS], stage: [0; SHEET_WORDS], places: [0; STORE_BYTES] }
     }
 
     /// How many operators the sheet in force has.
@@ -25,17 +26,27 @@ impl Panel {
         linked::operators(&self.sheet)
     }
 
-    /// The sheet of `n` operators takes the old one's place, and each held tree is rebuilt: it is then the one that its
-    /// row has under the new sheet. The bytes are those of a sheet frame after n: a kind byte for each operator,
-    /// [`INFIX`](crate::INFIX) or [`PREFIX`](crate::PREFIX), then the rules, three bytes each.
+    /// Stages the sheet of `n` operators, in place of one staged earlier: it is kept beside the sheet in force until a
+    /// switch. The bytes are those of a sheet frame after n: a kind byte for each operator, [`INFIX`](crate::INFIX) or
+    /// [`PREFIX`](crate::PREFIX), then the rules, three bytes each.
+    ///
+    /// ```
+    /// let mut panel = tihvomen::Panel::new();
+    /// panel.stage(1, &[0, 2, 0, 0])?;
+    /// // The sheet in force has no operators still.
+    /// assert_eq!(panel.put_row(3, &[0x80, 0x00, 0x81]), Err(tihvomen::Refusal::Stranger));
+    /// panel.switch()?;
+    /// assert_eq!(panel.put_row(3, &[0x80, 0x00, 0x81]), Ok(()));
+    /// # Ok::<(), tihvomen::Refusal>(())
+    /// ```
     ///
     /// # Errors
     ///
     /// The first that applies: [`Refusal::Oversize`] (1), [`Refusal::Torn`] (2), [`Refusal::Stranger`] (3),
-    /// [`Refusal::Dead`] (4), [`Refusal::Double`] (5), [`Refusal::InUse`] (11).
+    /// [`Refusal::Dead`] (4), [`Refusal::Double`] (5).
     #[inline]
-    pub fn load(&mut self, n: u8, kinds_and_rules: &[u8]) -> Result<(), Refusal> {
-        Refusal::check(linked::load(&mut self.sheet, &mut self.places, n, kinds_and_rules))
+    pub fn stage(&mut self, n: u8, kinds_and_rules: &[u8]) -> Result<(), Refusal> {
+        Refusal::check(linked::stage(&mut self.stage, n, kinds_and_rules))
     }
 
     /// The same with the rules as a list, and the kind bytes as a list beside it: the same result and the same panel as
@@ -44,10 +55,21 @@ impl Panel {
     /// # Errors
     ///
     /// The first that applies: [`Refusal::Oversize`] (1), [`Refusal::Torn`] (2), [`Refusal::Stranger`] (3),
-    /// [`Refusal::Dead`] (4), [`Refusal::Double`] (5), [`Refusal::InUse`] (11).
+    /// [`Refusal::Dead`] (4), [`Refusal::Double`] (5).
     #[inline]
-    pub fn load_rules(&mut self, n: u8, kinds: &[u8], rules: &[Rule]) -> Result<(), Refusal> {
-        Refusal::check(linked::load_rules(&mut self.sheet, &mut self.places, n, kinds, rules))
+    pub fn stage_rules(&mut self, n: u8, kinds: &[u8], rules: &[Rule]) -> Result<(), Refusal> {
+        Refusal::check(linked::stage_rules(&mut self.stage, n, kinds, rules))
+    }
+
+    /// The staged sheet takes the place of the one in force, and nothing is staged then. Each held tree is rebuilt: it is
+    /// then the one that its row has under the new sheet.
+    ///
+    /// # Errors
+    ///
+    /// The first that applies: [`Refusal::NothingStaged`] (15), [`Refusal::InUse`] (11).
+    #[inline]
+    pub fn switch(&mut self) -> Result<(), Refusal> {
+        Refusal::check(linked::switch(&mut self.sheet, &mut self.stage, &mut self.places))
     }
 
     /// The place holds the conflict-free tree of the row.

@@ -29,7 +29,7 @@ pub enum Refusal {
     Empty = 9,
     /// The answer does not fit into the lent output.
     Short = 10,
-    /// A tree that is held uses an operator which the new sheet lacks or has with another kind.
+    /// A tree that is held uses an operator which the staged sheet lacks or has with another kind.
     InUse = 11,
     /// The line is no frame: no digit pairs, a kind that does not exist, or a length that its kind does not have.
     Frame = 12,
@@ -38,11 +38,13 @@ pub enum Refusal {
     NoMeaning = 13,
     /// A reading of the tree that is to be evaluated lies beyond the lent list.
     NoReading = 14,
+    /// A switch where no sheet is staged.
+    NothingStaged = 15,
 }
 
 impl Refusal {
     /// All refusals, in the order of their numbers.
-    pub const ALL: [Refusal; 14] = [
+    pub const ALL: [Refusal; 15] = [
         Refusal::Oversize,
         Refusal::Torn,
         Refusal::Stranger,
@@ -57,15 +59,16 @@ impl Refusal {
         Refusal::Frame,
         Refusal::NoMeaning,
         Refusal::NoReading,
+        Refusal::NothingStaged,
     ];
 
-    /// The number of the refusal, from 1 to 14.
+    /// The number of the refusal, from 1 to 15.
     #[must_use]
     pub const fn number(self) -> u8 {
         self as u8
     }
 
-    /// The refusal of a number; none for 0, which is success, and for numbers over 14.
+    /// The refusal of a number; none for 0, which is success, and for numbers over 15.
     #[must_use]
     pub fn of_number(number: u8) -> Option<Refusal> {
         Refusal::ALL.into_iter().find(|refusal| refusal.number() == number)
@@ -76,7 +79,7 @@ impl Refusal {
     pub(crate) fn check(number: u8) -> Result<(), Refusal> {
         match number {
             0 => Ok(()),
-            _ => Err(Refusal::of_number(number).expect("the library gives numbers 0 to 14")),
+            _ => Err(Refusal::of_number(number).expect("the library gives numbers 0 to 15")),
         }
     }
 }
@@ -97,18 +100,19 @@ impl fmt::Display for Refusal {
             Refusal::Empty => "empty: the place holds nothing",
             Refusal::Short => "short: the lent output is shorter than the answer",
             Refusal::InUse => {
-                "in use: a held tree uses an operator that the new sheet does not have, or has with another kind"
+                "in use: a held tree uses an operator that the staged sheet does not have, or has with another kind"
             }
             Refusal::Frame => "frame: the line is not digit pairs, or not of a known kind and its length",
             Refusal::NoMeaning => "no meaning: an operator of the tree has no meaning of its kind",
             Refusal::NoReading => "no reading: a reading of the tree lies beyond the lent list",
+            Refusal::NothingStaged => "nothing staged: no sheet waits for a switch",
         })
     }
 }
 
 impl Error for Refusal {}
 
-/// The number of no refusal: 0, which is success, or one over 14.
+/// The number of no refusal: 0, which is success, or one over 15.
 #[derive(Clone, Copy, Debug, PartialEq, Eq, Hash)]
 pub struct UnknownNumber(pub u8);
 
@@ -127,7 +131,7 @@ impl TryFrom<u8> for Refusal {
     ///
     /// # Errors
     ///
-    /// [`UnknownNumber`] for 0, which is success, and for numbers over 14.
+    /// [`UnknownNumber`] for 0, which is success, and for numbers over 15.
     fn try_from(number: u8) -> Result<Refusal, UnknownNumber> {
         Refusal::of_number(number).ok_or(UnknownNumber(number))
     }
@@ -141,7 +145,7 @@ mod tests {
     fn numbers_go_there_and_back() {
         for number in 0..=255 {
             let refusal = Refusal::of_number(number);
-            assert_eq!(refusal.is_some(), (1..=14).contains(&number));
+            assert_eq!(refusal.is_some(), (1..=15).contains(&number));
             assert_eq!(refusal.map_or(number, Refusal::number), number);
             assert_eq!(Refusal::try_from(number), refusal.ok_or(UnknownNumber(number)));
         }

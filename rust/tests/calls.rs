@@ -1,5 +1,6 @@
 //! Runs of calls from a fresh panel, each with the answer that the papers give: `CALL => NUMBER ANSWER`, in `tests/calls`.
-//! w1 and w2 are from before there were kind bytes: in each load of n operators, n bytes 00 have been put in before the rules.
+//! w1 and w2 are from before there were kind bytes: in each sheet of n operators, n bytes 00 have been put in before the rules. All
+//! three are from before there was a stage: in place of each load there are a staging and a switch.
 #![cfg(feature = "alloc")]
 use tihvomen::{Panel, Refusal};
 
@@ -29,7 +30,8 @@ fn make(panel: &mut Panel, call: &[&str]) -> Result<String, Refusal> {
     let silent = |result: Result<(), Refusal>| result.map(|()| String::new());
     let digits = |bytes: Vec<u8>| bytes.iter().map(|byte| format!("{byte:02x}")).collect();
     match call {
-        ["load", n, rest] => silent(panel.load(number(n), &bytes(rest))),
+        ["stage", n, rest] => silent(panel.stage(number(n), &bytes(rest))),
+        ["switch"] => silent(panel.switch()),
         ["put", place, row] => silent(panel.put_row(number(place), &bytes(row))),
         ["record", place, record] => silent(panel.put_record(number(place), &bytes(record))),
         ["drop", place] => silent(panel.drop_place(number(place))),

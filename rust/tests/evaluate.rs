@@ -31,7 +31,8 @@ fn sheet(kind: u8) -> Vec<u8> {
 /// A panel that holds the row's tree at place 3.
 fn holding(kind: u8, row: &[u8]) -> Panel {
     let mut panel = Panel::new();
-    panel.load(11, &sheet(kind)).unwrap();
+    panel.stage(11, &sheet(kind)).unwrap();
+    panel.switch().unwrap();
     panel.put_row(3, row).unwrap();
     panel
 }
@@ -87,7 +88,9 @@ fn each_meaning_of_a_prefix_operator() {
     let (bare, readings) = ([MINUS, 0x80, DIFFERENCE, 0x81], [7, 5]);
     let mut panel = holding(LEFT, &bare);
     assert_eq!(panel.evaluate(3, &MEANINGS, &readings), Ok(-12));
-    panel.load(11, &sheet(RIGHT)).unwrap();
+    panel.stage(11, &sheet(RIGHT)).unwrap();
+    assert_eq!(panel.evaluate(3, &MEANINGS, &readings), Ok(-12));
+    panel.switch().unwrap();
     assert_eq!(panel.evaluate(3, &MEANINGS, &readings), Ok(-2));
     assert_eq!(value(&[MINUS, 0x20, 0x80, DIFFERENCE, 0x81, 0x21], &readings), Ok(-2));
 }
@@ -124,7 +127,8 @@ fn brackets_and_sheets_group() {
     let (bare, readings) = ([0x80, DIFFERENCE, 0x81, DIFFERENCE, 0x82], [7, 5, 3]);
     let mut panel = holding(LEFT, &bare);
     assert_eq!(panel.evaluate(3, &MEANINGS, &readings), Ok(-1));
-    panel.load(11, &sheet(RIGHT)).unwrap();
+    panel.stage(11, &sheet(RIGHT)).unwrap();
+    panel.switch().unwrap();
     assert_eq!(panel.evaluate(3, &MEANINGS, &readings), Ok(5));
     assert_eq!(value(&[0x80, DIFFERENCE, 0x20, 0x81, DIFFERENCE, 0x82, 0x21], &readings), Ok(5));
     assert_eq!(value(&[0x20, 0x20, 0x80, 0x21, DIFFERENCE, 0x81, 0x21, DIFFERENCE, 0x82], &readings), Ok(-1));

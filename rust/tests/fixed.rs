@@ -13,7 +13,8 @@ const RECORD: [u8; 6] = [1, 0x20, 0, 0x80, 0x81, 0x82];
 /// Sheet A, and case 5 at place 3.
 fn panel() -> Panel {
     let mut panel = Panel::new();
-    panel.load(2, &SHEET_A).unwrap();
+    panel.stage(2, &SHEET_A).unwrap();
+    panel.switch().unwrap();
     panel.put_row(3, &ROW).unwrap();
     panel
 }
@@ -40,22 +41,25 @@ fn sheets_and_places() {
 
     let rules = [Rule::priority(1, 0), Rule::left(1, 1), Rule::left(0, 0)];
     let mut by_list = Panel::default();
-    by_list.load_rules(2, &[INFIX, INFIX], &rules).unwrap();
+    by_list.stage_rules(2, &[INFIX, INFIX], &rules).unwrap();
+    by_list.switch().unwrap();
     by_list.put_record(3, &RECORD).unwrap();
     assert_eq!(by_list, panel);
 
     assert_eq!(panel.fetch_record_into(3, &mut [0; 5]), Err(Refusal::Short));
-    assert_eq!(panel.load(1, &[INFIX, 2, 0, 0]), Err(Refusal::InUse));
-    assert_eq!(panel.load_rules(2, &[PREFIX, INFIX], &[Rule::priority(0, 1), rules[1]]), Err(Refusal::InUse));
+    assert_eq!((panel.stage(1, &[INFIX, 2, 0, 0]), panel.switch()), (Ok(()), Err(Refusal::InUse)));
+    assert_eq!(panel.stage_rules(2, &[PREFIX, INFIX], &[Rule::priority(0, 1), rules[1]]), Ok(()));
+    assert_eq!(panel.switch(), Err(Refusal::InUse));
     assert_eq!((panel.drop_place(3), panel.drop_place(3)), (Ok(()), Err(Refusal::Empty)));
     assert_eq!(panel.image(3), Ok([0; IMAGE_BYTES]));
-    assert_eq!(panel.load_rules(1, &[INFIX], &[Rule::left(0, 0), Rule::right(0, 0)]), Err(Refusal::Dead));
-    assert_eq!(panel.load_rules(1, &[INFIX], &[Rule::right(0, 0)]), Ok(()));
+    assert_eq!((panel.switch(), panel.switch()), (Ok(()), Err(Refusal::NothingStaged)));
+    assert_eq!(panel.stage_rules(1, &[INFIX], &[Rule::left(0, 0), Rule::right(0, 0)]), Err(Refusal::Dead));
+    assert_eq!(panel.stage_rules(1, &[INFIX], &[Rule::right(0, 0)]), Ok(()));
     for kinds in [&[][..], &[INFIX, INFIX], &[9, 9]] {
-        assert_eq!(panel.load_rules(1, kinds, &[Rule::left(0, 9)]), Err(Refusal::Torn));
+        assert_eq!(panel.stage_rules(1, kinds, &[Rule::left(0, 9)]), Err(Refusal::Torn));
     }
-    assert_eq!(panel.load_rules(1, &[9], &[Rule::left(0, 0)]), Err(Refusal::Stranger));
-    assert_eq!(panel.load_rules(1, &[PREFIX], &[]), Ok(()));
+    assert_eq!(panel.stage_rules(1, &[9], &[Rule::left(0, 0)]), Err(Refusal::Stranger));
+    assert_eq!(panel.stage_rules(1, &[PREFIX], &[]), Ok(()));
 }
 
 #[test]
@@ -103,7 +107,9 @@ fn values() {
 fn lines() {
     let mut panel = Panel::new();
     let mut out = [b'?'; MOST_REPLY];
+    assert_eq!(panel.reply_into(b"0a", &mut out), "0f");
     assert_eq!(panel.reply_into(b"01020000010100020101020000", &mut out), "00");
+    assert_eq!(panel.reply_into(b"0A", &mut out), "00");
     assert_eq!(panel.reply_into(b"020320800081210182", &mut out), "00");
     assert_eq!(panel.reply_into(b"0403", &mut out), "00012000808182");
     assert_eq!(panel.reply_into(b"0400", &mut out), "09");
@@ -118,13 +124,13 @@ fn lines() {
 #[test]
 fn numbers() {
     for number in 0..=u8::MAX {
-        let known = (1..=14).contains(&number);
+        let known = (1..=15).contains(&number);
         assert_eq!(Refusal::try_from(number).is_ok(), known);
         assert_eq!(Refusal::try_from(number).map_or_else(|unknown| unknown.0, Refusal::number), number);
     }
     assert_eq!(Refusal::try_from(0), Err(UnknownNumber(0)));
-    let error: &dyn std::error::Error = &UnknownNumber(15);
-    assert_eq!(error.to_string(), "15 is the number of no refusal");
+    let error: &dyn std::error::Error = &UnknownNumber(16);
+    assert_eq!(error.to_string(), "16 is the number of no refusal");
     let error: &dyn std::error::Error = &Refusal::Place;
     assert_eq!(error.to_string(), "place: there are places 0 to 15 only");
 }

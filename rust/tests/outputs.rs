@@ -8,7 +8,8 @@ const BEFORE: u8 = 0x5a;
 
 fn panel_with_sheet_a() -> Panel {
     let mut panel = Panel::new();
-    panel.load(2, &[0, 0, 1, 1, 0, 2, 1, 1, 2, 0, 0]).unwrap();
+    panel.stage(2, &[0, 0, 1, 1, 0, 2, 1, 1, 2, 0, 0]).unwrap();
+    panel.switch().unwrap();
     panel
 }
 

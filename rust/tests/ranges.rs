@@ -1,10 +1,11 @@
 //! Places over 15 and more than 32 operators: refused for every value that the argument can have, before all else.
-use tihvomen::{Panel, Refusal, Rule, INFIX, MOST_OPERATORS, MOST_RULES, PLACES, PREFIX};
+use tihvomen::{Panel, Refusal, Rule, IMAGE_BYTES, INFIX, MOST_OPERATORS, MOST_RULES, PLACES, PREFIX};
 
 /// Two infix operators: 01 over 00, each left with itself; a tree at every place.
 fn filled() -> Panel {
     let mut panel = Panel::new();
-    panel.load(2, &[0, 0, 1, 1, 0, 2, 1, 1, 2, 0, 0]).unwrap();
+    panel.stage(2, &[0, 0, 1, 1, 0, 2, 1, 1, 2, 0, 0]).unwrap();
+    panel.switch().unwrap();
     for place in 0..PLACES {
         panel.put_row(place, &[0x80 + place, 0, 0x81, 1, 0x82]).unwrap();
     }
@@ -57,8 +58,7 @@ fn places_up_to_15() {
         assert_eq!(panel.put_record(place, &[0x80]), Ok(()));
         assert_eq!(panel.drop_place(place), Ok(()));
     }
-    panel.load(0, &[]).unwrap();
-    assert_eq!(panel, Panel::new());
+    assert!((0..PLACES).all(|place| panel.image(place) == Ok([0; IMAGE_BYTES])));
 }
 
 #[test]
@@ -69,13 +69,13 @@ fn more_than_32_operators() {
             let kinds = vec![INFIX; n.into()];
             // No rule, one that is right, torn bytes, a kind that does not exist; with kind bytes and without.
             for rules in [&[][..], &[2, 0, 0], &[2, 0], &[9, 0, 0]] {
-                assert_eq!(panel.load(n, &[&kinds, rules].concat()), Err(Refusal::Oversize));
-                assert_eq!(panel.load(n, rules), Err(Refusal::Oversize));
+                assert_eq!(panel.stage(n, &[&kinds, rules].concat()), Err(Refusal::Oversize));
+                assert_eq!(panel.stage(n, rules), Err(Refusal::Oversize));
             }
             for rule in [Rule::left(0, 0), Rule { kind: 9, first: 0, second: 0 }] {
-                assert_eq!(panel.load_rules(n, &kinds, &[]), Err(Refusal::Oversize));
-                assert_eq!(panel.load_rules(n, &kinds, &[rule]), Err(Refusal::Oversize));
-                assert_eq!(panel.load_rules(n, &[], &[rule]), Err(Refusal::Oversize));
+                assert_eq!(panel.stage_rules(n, &kinds, &[]), Err(Refusal::Oversize));
+                assert_eq!(panel.stage_rules(n, &kinds, &[rule]), Err(Refusal::Oversize));
+                assert_eq!(panel.stage_rules(n, &[], &[rule]), Err(Refusal::Oversize));
             }
         }
         assert_eq!(panel, before);
@@ -88,14 +88,14 @@ fn up_to_32_operators_and_2048_rules() {
         let rules: Vec<Rule> = (0..n).flat_map(|a| (0..n).map(move |b| Rule::left(a, b))).collect();
         for kind in [INFIX, PREFIX] {
             let mut panel = Panel::new();
-            assert_eq!(panel.load_rules(n, &vec![kind; n.into()], &rules), Ok(()));
-            assert_eq!(panel.operators(), n);
+            assert_eq!(panel.stage_rules(n, &vec![kind; n.into()], &rules), Ok(()));
+            assert_eq!((panel.operators(), panel.switch(), panel.operators()), (0, Ok(()), n));
         }
     }
     let mut panel = Panel::new();
     let rules = [Rule::left(0, 0); MOST_RULES + 1];
-    assert_eq!(panel.load_rules(1, &[INFIX], &rules), Err(Refusal::Oversize));
-    assert_eq!(panel.load_rules(1, &[], &rules), Err(Refusal::Oversize));
-    assert_eq!(panel.load_rules(1, &[], &rules[1..]), Err(Refusal::Torn));
-    assert_eq!(panel.load_rules(1, &[INFIX], &rules[1..]), Ok(()));
+    assert_eq!(panel.stage_rules(1, &[INFIX], &rules), Err(Refusal::Oversize));
+    assert_eq!(panel.stage_rules(1, &[], &rules), Err(Refusal::Oversize));
+    assert_eq!(panel.stage_rules(1, &[], &rules[1..]), Err(Refusal::Torn));
+    assert_eq!(panel.stage_rules(1, &[INFIX], &rules[1..]), Ok(()));
 }

@@ -8,7 +8,8 @@ use tihvomen::{Panel, Refusal, Side};
 /// Sheet A, which excludes L(1,0), R(1,0), R(0,0) and R(1,1).
 fn panel_with_sheet_a() -> Panel {
     let mut panel = Panel::new();
-    panel.load(2, &[0, 0, 1, 1, 0, 2, 1, 1, 2, 0, 0]).unwrap();
+    panel.stage(2, &[0, 0, 1, 1, 0, 2, 1, 1, 2, 0, 0]).unwrap();
+    panel.switch().unwrap();
     panel
 }
 
@@ -56,7 +57,8 @@ fn short_records() {
 fn prefix_operators() {
     let mut panel = Panel::new();
     let rules = [1, 2, 1, 1, 1, 0, 1, 0, 3, 2, 2, 2, 2, 1, 1, 2, 0, 0];
-    panel.load(4, &[&[0, 0, 0, 1], &rules[..]].concat()).unwrap();
+    panel.stage(4, &[&[0, 0, 0, 1], &rules[..]].concat()).unwrap();
+    panel.switch().unwrap();
     // The operand of a prefix operator counts as its left one.
     let only = [3, 3, 0x80];
     assert_eq!(panel.operand(&only, Side::Left), Ok(&only[1..]));

@@ -11,7 +11,7 @@ fn main() {
     let mut panel = Panel::new();
     let mut out = [0; 300];
     let (meanings, readings) = (meanings(&kinds(prefixed)), readings());
-    assert!(panel.load(32, &sheet(prefixed, 8)).is_ok());
+    assert!(panel.stage(32, &sheet(prefixed, 8)).is_ok() && panel.switch().is_ok());
     let mut made = 0;
     for shape in shapes {
         for (row, record) in rows(TOKENS, shape).iter().zip(&records(TOKENS, shape)) {

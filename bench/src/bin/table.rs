@@ -44,9 +44,29 @@ fn written(
     line(name, inputs, |input| proved(input, &mut one), |input| fast(input, &mut other));
 }
 
-fn load(both: &mut Both, name: &str, prefixed: bool, groups: u8) {
+fn stage(both: &mut Both, name: &str, prefixed: bool, groups: u8) {
     let Both { proved, fast } = both;
-    line(name, &[sheet(prefixed, groups)], |sheet| proved.load(32, sheet), |sheet| fast.load(32, sheet));
+    line(name, &[sheet(prefixed, groups)], |sheet| proved.stage(32, sheet), |sheet| fast.stage(32, sheet));
+}
+
+/// The switch to the sheet that is staged. A switch empties the stage, so each is made on a copy; the copying is timed too.
+fn switch(both: &Both, name: &str) {
+    let Both { proved, fast } = both;
+    let (mut one, mut other) = (proved.clone(), fast.clone());
+    let switch_proved = |_: &[u8]| {
+        one.clone_from(proved);
+        one.switch()
+    };
+    let switch_fast = |_: &[u8]| {
+        other.clone_from(fast);
+        other.switch()
+    };
+    line(name, &[Vec::new()], switch_proved, switch_fast);
+    let (mut record, mut same) = ([0; 300], [0; 300]);
+    for place in 0..16 {
+        assert_eq!(one.fetch_record_into(place, &mut record).ok(), other.fetch_record(place, &mut same).ok());
+        assert_eq!(record, same);
+    }
 }
 
 /// Build, repair, judge, yield, the shortest row and the right operand.
@@ -89,24 +109,34 @@ fn fresh() -> Both {
     Both { proved: tihvomen::Panel::new(), fast: fast::Panel::default() }
 }
 
+/// The staged sheet, that of eight groups, is put in force, and staged again for the switches.
+fn put_in_force(both: &mut Both, prefixed: bool) {
+    let (Both { proved, fast }, sheet) = (both, sheet(prefixed, 8));
+    assert!(proved.switch().is_ok() && fast.switch().is_ok());
+    assert!(proved.stage(32, &sheet).is_ok() && fast.stage(32, &sheet).is_ok());
+}
+
 fn main() {
     println!("| call | proved, ns | fast, ns | ratio |\n|---|---|---|---|");
     let mut both = fresh();
-    load(&mut both, "load, 32 operators, 1,024 rules", false, 1);
-    load(&mut both, "load, 32 operators, 576 rules", false, 8);
+    stage(&mut both, "stage, 32 operators, 1,024 rules", false, 1);
+    stage(&mut both, "stage, 32 operators, 576 rules", false, 8);
+    put_in_force(&mut both, false);
     for tokens in TOKENS {
         for (shape_name, shape) in SHAPES {
             let size = format!("{tokens} tokens, {shape_name}");
             trees(&both, &size, tokens, shape);
             places(&mut both, &size, tokens, shape);
         }
-        load(&mut both, &format!("load, 576 rules, under sixteen trees of {tokens} tokens"), false, 8);
+        switch(&both, &format!("switch, under sixteen trees of {tokens} tokens"));
     }
     both = fresh();
-    load(&mut both, "load, 32 operators, 8 of them prefix, 576 rules", true, 8);
+    stage(&mut both, "stage, 32 operators, 8 of them prefix, 576 rules", true, 8);
+    put_in_force(&mut both, true);
     for tokens in [63, 255] {
         let size = format!("{tokens} tokens, random, with prefix operators");
         trees(&both, &size, tokens, Shape::Prefixed);
         places(&mut both, &size, tokens, Shape::Prefixed);
+        switch(&both, &format!("switch, under sixteen trees of {tokens} tokens, with prefix operators"));
     }
 }

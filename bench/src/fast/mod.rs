@@ -10,30 +10,43 @@ use sheet::Sheet;
 
 pub type Answer = Result<usize, u8>;
 
-/// The sheet in force, the images of the places, and how many tokens each held row has.
+/// The sheet in force, the stage, the images of the places, and how many tokens each held row has.
 #[derive(Clone)]
 pub struct Panel {
     sheet: Sheet,
+    stage: Sheet,
+    is_staged: bool,
     places: [[u8; 256]; 16],
     tokens: [u8; 16],
 }
 
 impl Default for Panel {
     fn default() -> Panel {
-        Panel { sheet: Sheet::fresh(), places: [[0; 256]; 16], tokens: [0; 16] }
+        let sheet = Sheet::fresh();
+        Panel { stage: sheet.clone(), sheet, is_staged: false, places: [[0; 256]; 16], tokens: [0; 16] }
     }
 }
 
 impl Panel {
     #[inline(never)]
-    pub fn load(&mut self, n: u8, bytes: &[u8]) -> Result<(), u8> {
-        let sheet = sheet::load(n, bytes)?;
-        // The operators that the new sheet lacks, or has with another kind.
-        let gone = self.sheet.all & (!sheet.all | self.sheet.prefixes ^ sheet.prefixes);
+    pub fn stage(&mut self, n: u8, bytes: &[u8]) -> Result<(), u8> {
+        self.stage = sheet::judge(n, bytes)?;
+        self.is_staged = true;
+        Ok(())
+    }
+
+    #[inline(never)]
+    pub fn switch(&mut self) -> Result<(), u8> {
+        if !self.is_staged {
+            return Err(15);
+        }
+        // The operators that the staged sheet lacks, or has with another kind.
+        let gone = self.sheet.all & (!self.stage.all | self.sheet.prefixes ^ self.stage.prefixes);
         if gone != 0 && self.in_use(gone) {
             return Err(11);
         }
-        self.sheet = sheet;
+        self.sheet.clone_from(&self.stage);
+        self.is_staged = false;
         for place in 0..16 {
             self.rebuild(place);
         }

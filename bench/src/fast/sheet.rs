@@ -1,4 +1,4 @@
-//! Loading a sheet: tables of bit rows, priority chained, and the tests of them a word at a time.
+//! Judging a sheet: tables of bit rows, priority chained, and the tests of them a word at a time.
 
 pub const OPENING: u8 = 0x20;
 pub const CLOSING: u8 = 0x21;
@@ -57,7 +57,7 @@ const CLASSES: [u8; 256] = {
 };
 
 /// The sheet of n operators, n kind bytes and rules; or 1, 2, 3, 4 or 5.
-pub fn load(n: u8, bytes: &[u8]) -> Result<Sheet, u8> {
+pub fn judge(n: u8, bytes: &[u8]) -> Result<Sheet, u8> {
     let rules = bytes.get(usize::from(n)..).unwrap_or(&[]);
     if n > 32 || rules.len() > 6144 {
         return Err(1);

@@ -38,8 +38,9 @@ pub fn switch(
     if in_use::in_use(sheet, staged, places) {
         return refusal::IN_USE;
     }
-    storing::rebuild_all(staged, places);
-    *sheet = *staged;
+    let new = *staged;
+    storing::rebuild_all(&new, places);
+    *sheet = new;
     *staged = [0u32; SHEET_WORDS];
     refusal::ACCEPTED
 }

@@ -7,7 +7,8 @@ use crate::tree::{is_of_kind, is_operator, is_reading, Side, Tree, CLOSING, INFI
 /// A call with its arguments. `bytes` are the kinds and rules of a sheet, `room` is the length of the lent output.
 #[derive(Clone, Debug)]
 pub enum Call {
-    Load { n: u8, bytes: Vec<u8> },
+    Stage { n: u8, bytes: Vec<u8> },
+    Switch,
     PutRow { place: u8, row: Vec<u8> },
     PutRecord { place: u8, record: Vec<u8> },
     Drop { place: u8 },
@@ -38,19 +39,22 @@ type Found = Result<Vec<u8>, u8>;
 #[derive(Clone)]
 pub struct Book {
     pub sheet: Sheet,
+    /// The sheet that is noted beside, where one is.
+    pub staged: Option<Sheet>,
     pub slots: [Option<Vec<u8>>; 16],
 }
 
 impl Book {
     pub fn new() -> Book {
-        Book { sheet: Sheet::of_rules(&[], &[]), slots: Default::default() }
+        Book { sheet: Sheet::of_rules(&[], &[]), staged: None, slots: Default::default() }
     }
 
     /// What the call is answered, read off the book as it stands before the call.
     pub fn reply(&self, call: &Call) -> Reply {
         let mut offset = 0;
         let found = match call {
-            Call::Load { n, bytes } => self.load(*n, bytes).map(|_| Vec::new()),
+            Call::Stage { n, bytes } => sheet_number(*n, bytes).map(|_| Vec::new()),
+            Call::Switch => self.switch().map(|_| Vec::new()),
             Call::PutRow { place, row } => self.place(*place).and_then(|_| self.row(row)).map(|_| Vec::new()),
             Call::PutRecord { place, record } => {
                 self.place(*place).and_then(|_| self.record(record)).map(|_| Vec::new())
@@ -88,10 +92,11 @@ impl Book {
             return;
         }
         match call {
-            Call::Load { n, bytes } => {
+            Call::Stage { n, bytes } => {
                 let (kinds, rules) = bytes.split_at(usize::from(*n));
-                self.sheet = Sheet::of_rules(kinds, rules);
+                self.staged = Some(Sheet::of_rules(kinds, rules));
             }
+            Call::Switch => self.sheet = self.staged.take().expect("a switch without a staged sheet is 15"),
             Call::PutRow { place, row } => self.slots[usize::from(*place)] = Some(row.clone()),
             Call::PutRecord { place, record } => {
                 self.slots[usize::from(*place)] = self.sheet.tree_of_record(record).map(|tree| tree.row());
@@ -115,25 +120,9 @@ impl Book {
         image
     }
 
-    /// Sheet: 1, 2, 3, 4, 5, 11.
-    fn load(&self, n: u8, bytes: &[u8]) -> Result<(), u8> {
-        let count = usize::from(n);
-        let rules = bytes.get(count..).unwrap_or(&[]);
-        if n > 32 || rules.len() > 6144 {
-            return Err(1);
-        }
-        if bytes.len() < count || rules.len() % 3 != 0 {
-            return Err(2);
-        }
-        let kinds = &bytes[..count];
-        let strange_kind = kinds.iter().any(|kind| ![INFIX, PREFIX].contains(kind));
-        if strange_kind || rules.chunks(3).any(|rule| !(1..=3).contains(&rule[0]) || rule[1] >= n || rule[2] >= n) {
-            return Err(3);
-        }
-        match Sheet::of_rules(kinds, rules).verdict() {
-            0 => (),
-            verdict => return Err(verdict),
-        }
+    /// Switch: 15, 11.
+    fn switch(&self) -> Result<(), u8> {
+        let kinds = &self.staged.as_ref().ok_or(15)?.kinds;
         let used = self.kinds_in_use();
         if (0..).zip(used).any(|(operator, kind)| kind.is_some_and(|kind| !is_of_kind(kinds, operator, kind))) {
             return Err(11);
@@ -188,6 +177,27 @@ impl Book {
     /// The row in the place's slot: 8, 9.
     fn held(&self, place: u8) -> Result<&Vec<u8>, u8> {
         self.place(place)?.as_ref().ok_or(9)
+    }
+}
+
+/// Sheet: 1, 2, 3, 4, 5.
+fn sheet_number(n: u8, bytes: &[u8]) -> Result<(), u8> {
+    let count = usize::from(n);
+    let rules = bytes.get(count..).unwrap_or(&[]);
+    if n > 32 || rules.len() > 6144 {
+        return Err(1);
+    }
+    if bytes.len() < count || rules.len() % 3 != 0 {
+        return Err(2);
+    }
+    let kinds = &bytes[..count];
+    let strange_kind = kinds.iter().any(|kind| ![INFIX, PREFIX].contains(kind));
+    if strange_kind || rules.chunks(3).any(|rule| !(1..=3).contains(&rule[0]) || rule[1] >= n || rule[2] >= n) {
+        return Err(3);
+    }
+    match Sheet::of_rules(kinds, rules).verdict() {
+        0 => Ok(()),
+        verdict => Err(verdict),
     }
 }
 

@@ -1,30 +1,31 @@
 //! A random call, and the same call made to the library.
 use crate::book::{Book, Call, Reply};
 use crate::inputs;
-use crate::loads;
 use crate::random::Random;
+use crate::stagings;
 use crate::tree::{Side, INFIX, PREFIX};
 use tihvomen::{Panel, Refusal};
 
 /// A call that makes sense to try on the panel that the book stands for. `last` is an earlier call's answer.
 pub fn any_call(random: &mut Random, book: &Book, last: &[u8]) -> Call {
-    let mut call = match random.below(30) {
-        0 | 1 => {
-            let load = loads::any(random, &book.kinds_in_use());
-            Call::Load { n: load.n, bytes: load.bytes() }
+    let mut call = match random.below(36) {
+        0..=2 => {
+            let staging = stagings::any(random, &book.kinds_in_use());
+            Call::Stage { n: staging.n, bytes: staging.bytes() }
         }
-        2..=4 => Call::PutRow { place: place(random, book), row: row(random, book, last) },
-        5..=7 => Call::PutRecord { place: place(random, book), record: record(random, book, last) },
-        8 => Call::Drop { place: place(random, book) },
-        9 | 10 => Call::FetchRecord { place: place(random, book), room: usize::MAX },
-        11 | 12 => Call::FetchRow { place: place(random, book), room: usize::MAX },
-        13 => Call::Image { place: place(random, book), room: usize::MAX },
-        14..=16 => Call::Build { row: row(random, book, last), room: usize::MAX },
-        17 | 18 => Call::Repair { record: record(random, book, last), room: usize::MAX },
-        19 | 20 => Call::Yield { record: record(random, book, last), room: usize::MAX },
-        21 | 22 => Call::Judge { record: record(random, book, last) },
-        23 | 24 => Call::ShortestRow { record: record(random, book, last), room: usize::MAX },
-        25..=28 => {
+        3..=8 if book.staged.is_some() || random.once_in(4) => Call::Switch,
+        3..=10 => Call::PutRow { place: place(random, book), row: row(random, book, last) },
+        11..=13 => Call::PutRecord { place: place(random, book), record: record(random, book, last) },
+        14 => Call::Drop { place: place(random, book) },
+        15 | 16 => Call::FetchRecord { place: place(random, book), room: usize::MAX },
+        17 | 18 => Call::FetchRow { place: place(random, book), room: usize::MAX },
+        19 => Call::Image { place: place(random, book), room: usize::MAX },
+        20..=22 => Call::Build { row: row(random, book, last), room: usize::MAX },
+        23 | 24 => Call::Repair { record: record(random, book, last), room: usize::MAX },
+        25 | 26 => Call::Yield { record: record(random, book, last), room: usize::MAX },
+        27 | 28 => Call::Judge { record: record(random, book, last) },
+        29 | 30 => Call::ShortestRow { record: record(random, book, last), room: usize::MAX },
+        31..=34 => {
             let meanings = inputs::meanings(random, &book.sheet.kinds);
             let readings = inputs::readings(random);
             Call::Evaluate { place: place(random, book), meanings, readings }
@@ -110,7 +111,8 @@ fn record(random: &mut Random, book: &Book, last: &[u8]) -> Vec<u8> {
 /// Makes the call to the library. The whole lent output is checked: the answer, then what stood there before.
 pub fn make(random: &mut Random, panel: &mut Panel, call: &Call) -> Reply {
     match call {
-        Call::Load { n, bytes } => silent(panel.load(*n, bytes)),
+        Call::Stage { n, bytes } => silent(panel.stage(*n, bytes)),
+        Call::Switch => silent(panel.switch()),
         Call::PutRow { place, row } => silent(panel.put_row(*place, row)),
         Call::PutRecord { place, record } => silent(panel.put_record(*place, record)),
         Call::Drop { place } => silent(panel.drop_place(*place)),

@@ -19,8 +19,8 @@ fn pair(kinds: &[u8], top: u8, side: Side, below: u8) -> Tree {
     }
 }
 
-/// What the load of every set of priorities answers, where each operator is left with itself too, and under an accepted sheet what
-/// each pair of operators counts.
+/// What the staging of every set of priorities answers, where each operator is left with itself too, and under an accepted sheet
+/// what each pair of operators counts.
 fn numbers(kinds: &[u8]) -> [usize; 6] {
     let pairs: Vec<[u8; 2]> =
         (0..OPERATORS).flat_map(|a| (0..OPERATORS).filter(move |&b| b != a).map(move |b| [a, b])).collect();
@@ -32,7 +32,7 @@ fn numbers(kinds: &[u8]) -> [usize; 6] {
                 rules.extend([1, *a, *b]);
             }
         }
-        let (number, sheet, panel) = both::load(kinds, &rules);
+        let (number, sheet, panel) = both::switched_in(kinds, &rules);
         seen[usize::from(number)] += 1;
         if number == 0 {
             for top in 0..OPERATORS {

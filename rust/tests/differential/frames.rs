@@ -1,4 +1,4 @@
-//! Lines as document 01 has them: the frame of a call, the call of a line, and the reply that the book gives.
+//! Lines as documents 01 and 02 have them: the frame of a call, the call of a line, and the reply that the book gives.
 use crate::book::{Book, Call};
 
 /// The most characters of a line: kind, n, 32 kind bytes and 6,144 rule bytes, in digit pairs.
@@ -11,7 +11,7 @@ const ROOM: usize = 256;
 pub fn frame(call: &Call) -> Option<Vec<u8>> {
     let named = |kind: u8, name: u8, rest: &[u8]| Some([&[kind, name], rest].concat());
     match call {
-        Call::Load { n, bytes } => named(1, *n, bytes),
+        Call::Stage { n, bytes } => named(1, *n, bytes),
         Call::PutRow { place, row } => named(2, *place, row),
         Call::Drop { place } => named(3, *place, &[]),
         Call::FetchRecord { place, .. } => named(4, *place, &[]),
@@ -20,6 +20,7 @@ pub fn frame(call: &Call) -> Option<Vec<u8>> {
         Call::Judge { record } => Some([&[7], &record[..]].concat()),
         Call::Repair { record, .. } => Some([&[8], &record[..]].concat()),
         Call::Image { place, .. } => named(9, *place, &[]),
+        Call::Switch => Some(vec![10]),
         Call::Build { .. }
         | Call::Yield { .. }
         | Call::Operand { .. }
@@ -34,7 +35,7 @@ fn call_of(bytes: &[u8]) -> Option<Call> {
     let only = || if rest.len() == 1 { Some(rest[0]) } else { None };
     let named = || rest.split_first().map(|(&name, more)| (name, more.to_vec()));
     match kind {
-        1 => named().map(|(n, bytes)| Call::Load { n, bytes }),
+        1 => named().map(|(n, bytes)| Call::Stage { n, bytes }),
         2 => named().map(|(place, row)| Call::PutRow { place, row }),
         3 => only().map(|place| Call::Drop { place }),
         4 => only().map(|place| Call::FetchRecord { place, room: ROOM }),
@@ -43,6 +44,7 @@ fn call_of(bytes: &[u8]) -> Option<Call> {
         7 => Some(Call::Judge { record: rest.to_vec() }),
         8 => Some(Call::Repair { record: rest.to_vec(), room: ROOM }),
         9 => only().map(|place| Call::Image { place, room: ROOM }),
+        10 => rest.is_empty().then_some(Call::Switch),
         _ => None,
     }
 }

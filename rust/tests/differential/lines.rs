@@ -1,9 +1,9 @@
-//! Runs of lines: frames of random calls, good and damaged, held against what document 01 replies from the book.
+//! Runs of lines: frames of random calls, good and damaged, held against the replies from the book.
 use crate::book::{Book, Call};
 use crate::calls;
 use crate::frames::{expected, frame, MOST_CHARACTERS};
-use crate::loads;
 use crate::random::Random;
+use crate::stagings;
 use std::io::Write;
 use tihvomen::Panel;
 
@@ -38,7 +38,7 @@ fn text(random: &mut Random, mut frame: Vec<u8>) -> Vec<u8> {
 
 #[test]
 fn lines_are_replied_as_the_book_replies() {
-    let mut seen = [0; 13];
+    let mut seen = [0; 16];
     for seed in 0..RUNS {
         let mut random = Random::new(1_000_000 + seed);
         let (mut panel, mut book) = (Panel::new(), Book::new());
@@ -47,8 +47,9 @@ fn lines_are_replied_as_the_book_replies() {
             let call = match step {
                 0 => {
                     let n = 1 + random.below(32) as u8;
-                    Call::Load { n, bytes: loads::good(&mut random, n).bytes() }
+                    Call::Stage { n, bytes: stagings::good(&mut random, n).bytes() }
                 }
+                1 => Call::Switch,
                 _ => calls::any_call(&mut random, &book, &last),
             };
             let Some(frame) = frame(&call) else { continue };
@@ -68,6 +69,7 @@ fn lines_are_replied_as_the_book_replies() {
     let counts: Vec<String> = seen.iter().enumerate().map(|(number, count)| format!("{number}: {count}")).collect();
     writeln!(std::io::stdout(), "\nlines, by number: {}", counts.join(", ")).unwrap();
     for (number, &count) in seen.iter().enumerate() {
-        assert_eq!(count > 0, number != 10, "a line never meets 10, and meets every other number: {number}");
+        let never = [10, 13, 14].contains(&number);
+        assert_eq!(count > 0, !never, "a line never meets 10, 13 and 14, and meets every other number: {number}");
     }
 }

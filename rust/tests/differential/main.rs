@@ -11,18 +11,20 @@ mod evaluate;
 mod expression;
 mod forms;
 mod frames;
+mod histories;
 mod inputs;
 mod lines;
-mod loads;
 mod random;
 mod runs;
 mod sheet;
 mod shortest;
 mod small;
+mod stagings;
 mod stored;
 mod theory;
 mod tree;
 
+use histories::Histories;
 use runs::{Tally, KINDS, NUMBERS};
 use std::io::Write;
 
@@ -32,8 +34,9 @@ const CALLS: usize = 70;
 #[test]
 fn runs_agree_with_the_book() {
     let mut tally: Tally = Default::default();
+    let mut histories = Histories::default();
     for seed in 0..RUNS {
-        runs::run(seed, CALLS, &mut tally);
+        runs::run(seed, CALLS, &mut tally, &mut histories);
     }
     let mut lines = format!("\n{} calls in {RUNS} runs\n{:14}", RUNS as usize * CALLS, "number");
     lines += &(0..NUMBERS).map(|number| format!("{number:>7}")).collect::<String>();
@@ -52,4 +55,5 @@ fn runs_agree_with_the_book() {
             assert_eq!(count > 0, possible, "{name}: number {number} must occur exactly if it can");
         }
     }
+    assert!(histories.are_complete(), "{histories:?}");
 }

@@ -1,13 +1,14 @@
 //! Whole runs from a fresh panel, held against the book at every call.
 use crate::book::{Book, Call, Reply};
 use crate::calls;
-use crate::loads;
+use crate::histories::Histories;
 use crate::random::Random;
+use crate::stagings;
 use tihvomen::Panel;
 
 /// The calls' names, in the order of `kind`, and the numbers that each can give.
-pub const KINDS: [(&str, &[u8]); 14] = [
-    ("load", &[0, 1, 2, 3, 4, 5, 11]),
+pub const KINDS: [(&str, &[u8]); 15] = [
+    ("stage", &[0, 1, 2, 3, 4, 5]),
     ("put row", &[0, 1, 3, 6, 8]),
     ("put record", &[0, 1, 3, 7, 8]),
     ("drop", &[0, 8, 9]),
@@ -21,17 +22,18 @@ pub const KINDS: [(&str, &[u8]); 14] = [
     ("operand", &[0, 1, 3, 7]),
     ("shortest row", &[0, 1, 3, 7, 10]),
     ("evaluate", &[0, 8, 9, 13, 14]),
+    ("switch", &[0, 11, 15]),
 ];
 
 /// There are numbers from 0 up to this.
-pub const NUMBERS: usize = 15;
+pub const NUMBERS: usize = 16;
 
 /// How often each kind of call gave each number.
 pub type Tally = [[usize; NUMBERS]; KINDS.len()];
 
 fn kind(call: &Call) -> usize {
     match call {
-        Call::Load { .. } => 0,
+        Call::Stage { .. } => 0,
         Call::PutRow { .. } => 1,
         Call::PutRecord { .. } => 2,
         Call::Drop { .. } => 3,
@@ -45,22 +47,25 @@ fn kind(call: &Call) -> usize {
         Call::Operand { .. } => 11,
         Call::ShortestRow { .. } => 12,
         Call::Evaluate { .. } => 13,
+        Call::Switch => 14,
     }
 }
 
 /// One run of so many calls.
-pub fn run(seed: u64, calls: usize, tally: &mut Tally) {
+pub fn run(seed: u64, calls: usize, tally: &mut Tally, histories: &mut Histories) {
+    histories.begin();
     let mut random = Random::new(seed);
     let mut panel = Panel::new();
     let mut book = Book::new();
     let mut last = Vec::new();
     for step in 0..calls {
         let call = match step {
-            // Without operators there is little to see: the first call is a sheet that is accepted.
+            // Without operators there is little to see: the first calls stage a sheet that is accepted, and switch it in.
             0 => {
                 let n = random.below(33).min(1 + random.below(33)) as u8;
-                Call::Load { n, bytes: loads::good(&mut random, n).bytes() }
+                Call::Stage { n, bytes: stagings::good(&mut random, n).bytes() }
             }
+            1 => Call::Switch,
             _ => calls::any_call(&mut random, &book, &last),
         };
         let expected = book.reply(&call);
@@ -71,6 +76,7 @@ pub fn run(seed: u64, calls: usize, tally: &mut Tally) {
             "run {seed}, call {step}: {call:02x?}\nexpected {expected:02x?}\ngot {reply:02x?}"
         );
         tally[kind(&call)][usize::from(reply.number)] += 1;
+        histories.note(&call, reply.number);
         if reply.number != 0 {
             assert!(panel == before, "run {seed}, call {step}: a refused call changed the panel: {call:02x?}");
         }
@@ -88,20 +94,22 @@ fn same(expected: &Reply, reply: &Reply) -> bool {
     reply.number == expected.number && reply.answer == expected.answer && offset
 }
 
-/// The places are what the book says: all of them after a load, the one that was written after a put or a drop.
+/// The places are what the book says: all of them after a switch, the one that was written after a put or a drop; after a staging
+/// they are as before.
 fn check_panel(book: &Book, before: &Panel, panel: &Panel, call: &Call, number: u8) {
     if number != 0 {
         return;
     }
     assert_eq!(panel.operators(), book.sheet.n());
     let written = match call {
-        Call::Load { .. } => None,
-        Call::PutRow { place, .. } | Call::PutRecord { place, .. } | Call::Drop { place } => Some(*place),
+        Call::Stage { .. } => 0..0,
+        Call::Switch => 0..16,
+        Call::PutRow { place, .. } | Call::PutRecord { place, .. } | Call::Drop { place } => *place..*place + 1,
         _ => return assert!(panel == before, "a call that only reads changed the panel: {call:02x?}"),
     };
     for place in 0..16 {
         let slot = &book.slots[usize::from(place)];
-        if written.is_none() || written == Some(place) {
+        if written.contains(&place) {
             assert_eq!(
                 panel.image(place).unwrap()[..],
                 book.image(slot),

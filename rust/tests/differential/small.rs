@@ -1,5 +1,5 @@
-//! Every sheet of three operators with prefix ones among them, by rules of sides: the number of its load, and under an accepted one
-//! the trees of all short rows.
+//! Every sheet of three operators with prefix ones among them, by rules of sides: the number of its staging, and under an accepted
+//! one the trees of all short rows.
 use crate::both;
 use crate::theory::kinds_of_bits;
 use crate::tree::{INFIX, PREFIX};
@@ -40,7 +40,7 @@ fn numbers(kinds: &[u8]) -> [usize; 6] {
                 rules.extend([3, *b, *a]);
             }
         }
-        let (number, sheet, panel) = both::load(kinds, &rules);
+        let (number, sheet, panel) = both::switched_in(kinds, &rules);
         seen[usize::from(number)] += 1;
         if number == 0 {
             for operators in (0..=FEW_OPERATORS).flat_map(lists) {

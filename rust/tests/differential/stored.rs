@@ -14,7 +14,7 @@ fn stored(folder: &str, end: &str) -> Vec<PathBuf> {
 #[test]
 fn stored_replies_are_the_books() {
     let inputs = stored("runs", "in");
-    assert!(inputs.len() > 13, "{inputs:?}");
+    assert!(inputs.len() > 18, "{inputs:?}");
     for input in &inputs {
         let mut book = Book::new();
         let (lines, replies) = (fs::read(input).unwrap(), fs::read(input.with_extension("out")).unwrap());
@@ -42,7 +42,8 @@ fn call(words: &[&str]) -> Call {
     let number = |text: &str| text.parse().unwrap();
     let room = usize::MAX;
     match words {
-        ["load", n, rest] => Call::Load { n: number(n), bytes: bytes(rest) },
+        ["stage", n, rest] => Call::Stage { n: number(n), bytes: bytes(rest) },
+        ["switch"] => Call::Switch,
         ["put", place, row] => Call::PutRow { place: number(place), row: bytes(row) },
         ["record", place, record] => Call::PutRecord { place: number(place), record: bytes(record) },
         ["drop", place] => Call::Drop { place: number(place) },

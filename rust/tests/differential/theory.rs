@@ -1,9 +1,9 @@
 //! What the independent side takes from theory, held against longer rows and against all trees of a row.
 use crate::expression::{Expression, Piece};
 use crate::inputs::{self, Make};
-use crate::loads;
 use crate::random::Random;
 use crate::sheet::{Sheet, ENOUGH_OPERATORS};
+use crate::stagings;
 use crate::tree::Side;
 
 /// The kinds of n operators: a prefix one where the bit is set.
@@ -132,12 +132,12 @@ fn accepted_sheets_give_long_rows_one_tree() {
     let mut random = Random::new(2);
     for _ in 0..150 {
         let n = 1 + random.below(32) as u8;
-        let load = loads::good(&mut random, n);
-        let sheet = Sheet::of_rules(&load.kinds, &load.rules);
+        let staging = stagings::good(&mut random, n);
+        let sheet = Sheet::of_rules(&staging.kinds, &staging.rules);
         assert_eq!(sheet.verdict(), 0);
         let tokens = [255, 101, 63, 31][random.below(4)];
-        let row = inputs::tree(&mut random, &Make::of(&load.kinds, 2, 5, 25), tokens).row();
-        let expression = Expression::of_row(&row, &load.kinds).unwrap();
+        let row = inputs::tree(&mut random, &Make::of(&staging.kinds, 2, 5, 25), tokens).row();
+        let expression = Expression::of_row(&row, &staging.kinds).unwrap();
         assert_eq!(conflict_free_trees(&sheet, &expression), 1, "{row:02x?}");
     }
 }

@@ -3,14 +3,14 @@ use crate::inputs::damaged;
 use crate::random::Random;
 use crate::tree::{INFIX, PREFIX};
 
-/// What a load is given. The byte form has the kinds and rules one after the other, the list form side by side.
-pub struct Load {
+/// What a staging is given. The byte form has the kinds and rules one after the other, the list form side by side.
+pub struct Staging {
     pub n: u8,
     pub kinds: Vec<u8>,
     pub rules: Vec<u8>,
 }
 
-impl Load {
+impl Staging {
     /// The bytes after n.
     pub fn bytes(&self) -> Vec<u8> {
         [&self.kinds[..], &self.rules].concat()
@@ -29,13 +29,13 @@ pub fn kinds(random: &mut Random, n: u8) -> Vec<u8> {
 }
 
 /// A sheet of n operators that is accepted.
-pub fn good(random: &mut Random, n: u8) -> Load {
+pub fn good(random: &mut Random, n: u8) -> Staging {
     let kinds = kinds(random, n);
-    Load { n, kinds, rules: good_rules(random, n) }
+    Staging { n, kinds, rules: good_rules(random, n) }
 }
 
 /// A sheet that is in order or not; mostly it has the operators in use, and of the same kinds.
-pub fn any(random: &mut Random, in_use: &[Option<u8>]) -> Load {
+pub fn any(random: &mut Random, in_use: &[Option<u8>]) -> Staging {
     let least = in_use.iter().rposition(Option::is_some).map_or(0, |last| last as u8 + 1);
     let (n, mut rules) = any_rules(random, least);
     let mut kinds = kinds(random, n);
@@ -55,7 +55,7 @@ pub fn any(random: &mut Random, in_use: &[Option<u8>]) -> Load {
         4 if !kinds.is_empty() => kinds[at] ^= INFIX ^ PREFIX,
         _ => (),
     }
-    Load { n, kinds, rules }
+    Staging { n, kinds, rules }
 }
 
 /// Rules that are accepted, whatever the kinds: operators in groups, one group over the next, each group left or right within
