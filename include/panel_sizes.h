@@ -3,9 +3,9 @@
 #define TIHVOMEN_PANEL_SIZES_H
 
 #define PANEL_VERSION_MAJOR 0
-#define PANEL_VERSION_MINOR 1
+#define PANEL_VERSION_MINOR 2
 #define PANEL_VERSION_PATCH 0
-#define PANEL_VERSION "0.1.0"
+#define PANEL_VERSION "0.2.0"
 
 /* Tokens. The operators are 00 to 1F, the readings PANEL_FIRST_READING to FF. */
 enum {
