@@ -29,15 +29,15 @@ pub record Changes (p : Panel) (c : Call) (r : ℕ) (later : Panel) : Type 0 whe
   pub numbered : r ≡ reply p c .number
   pub stands : later ≡ after p c
 
--- A staging changes what is staged alone, whatever sheet is in force and whatever the places hold,
+-- A staging changes only what is staged, whatever sheet is in force and whatever the places hold;
 pub record Stages (staged : List ℕ) (c : Call) (r : ℕ) (later : List ℕ) : Type 0 where
   pub changes : (sheet places : List ℕ) → Changes (panel sheet staged places) c r (panel sheet later places)
 
--- a put the places alone, whatever is staged,
+-- a put only the places, whatever is staged;
 pub record Puts (sheet places : List ℕ) (c : Call) (r : ℕ) (later : List ℕ) : Type 0 where
   pub changes : (staged : List ℕ) → Changes (panel sheet staged places) c r (panel sheet staged later)
 
--- and a drop too, whatever sheets there are.
+-- and so does a drop, whatever the two sheets are.
 pub record Drops (places : List ℕ) (k r : ℕ) (later : List ℕ) : Type 0 where
   pub changes : (sheet staged : List ℕ) → Changes (panel sheet staged places) (call.drop k) r (panel sheet staged later)
 
@@ -48,7 +48,7 @@ pub record AnswersInto (p : Panel) (q : Question) (r : Answer) (later : List ℕ
   pub measured : r .length ≡ reply p (ask q) .length
   pub output : later ≡ reply p (ask q) .output
 
--- None looks at the stage.
+-- None looks at the stage: it answers so whatever is staged.
 pub record AnswersOn (sheet places : List ℕ) (q : Question) (r : Answer) (later : List ℕ) : Type 0 where
   pub answers : (staged : List ℕ) → AnswersInto (panel sheet staged places) q r later
 
@@ -56,7 +56,7 @@ pub record AnswersOn (sheet places : List ℕ) (q : Question) (r : Answer) (late
 pub record AnswersUnder (sheet : List ℕ) (q : Question) (r : Answer) (later : List ℕ) : Type 0 where
   pub answers : (staged places : List ℕ) → AnswersInto (panel sheet staged places) q r later
 
--- and one that looks at no sheet whatever sheet is in force.
+-- and one that looks at no sheet whatever the two sheets are.
 pub record AnswersFrom (places : List ℕ) (q : Question) (r : Answer) (later : List ℕ) : Type 0 where
   pub answers : (sheet staged : List ℕ) → AnswersInto (panel sheet staged places) q r later
 

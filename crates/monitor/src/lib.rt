@@ -38,6 +38,7 @@ pub fn switch(
     if in_use::in_use(sheet, staged, places) {
         return refusal::IN_USE;
     }
+    // By way of a local: words that are copied from lent to lent go by memmove, which the library does not ask for.
     let new = *staged;
     storing::rebuild_all(&new, places);
     *sheet = new;
