@@ -9,9 +9,11 @@ use Rattle.expression.specs.Refusal.{accepted, inUse, nothingStaged}
 use Rattle.expression.specs.Token.{operators}
 use Rattle.expression.proofs.Numbers.{never}
 use Rattle.disambiguation.specs.Rules.{L, R}
+use Rattle.disambiguation.specs.ExactlyOne.{EveryRowHasExactlyOne}
 use Rattle.disambiguation.specs.Verdict.{ruleChecks}
 use Rattle.disambiguation.specs.SheetChecks.{rulesIn, operatorsIn, orderChecks, listOrderChecks, sheetNumber, listNumber}
 use Rattle.sheet.specs.InForce.{InForce}
+use Rattle.sheet.proofs.Laws.{every-row-has-one}
 use Rattle.monitor.specs.Call.{Question, Call, stage, stageList, switch, putRow, putRecord, drop, ask, fetchRecord, fetchRow, image, build, repair, judge, yield, operand, shortestRow}
 use Rattle.monitor.specs.Panel.{Panel, inUseCheck}
 use Rattle.monitor.specs.Steps.{putRowNumber, putRecordNumber, dropNumber, fetchRecordNumber, fetchRowNumber, imageNumber, withStaged, told, reply}
@@ -48,6 +50,9 @@ module _ (p : Panel) (staged : List ℕ) where
 module _ (cs : List Call) where
   loaded : (s : Rules) → lastStaged cs ≡ some s → InForce (panelAfter cs .staged) (s .operators) (s .rules)
   loaded s e = (rw (book-note cs ∙ e) at (stands cs .on-stage)) .1
+
+  good : (s : Rules) → lastStaged cs ≡ some s → EveryRowHasExactlyOne (s .operators) (s .rules)
+  good s e = every-row-has-one (panelAfter cs .staged) (s .operators) (s .rules) (loaded s e)
 
   unseen : (c d : Call) → IsStaging c → (d ≡ switch → ⊥) → answer (c ∷ cs) d ≡ answer cs d
   unfolding panelAfter
@@ -95,4 +100,4 @@ module _ (cs : List Call) where
       go s f = (s, f, rw (z, f) refl, rw z refl)
 
 pub stage-then-switch : (cs : List Call) → StageThenSwitch cs
-stage-then-switch cs = record { book-note = book-note cs; staged = loaded cs; unseen = unseen cs; never-in-use = never-in-use cs; nothing = nothing cs; switched = switched cs }
+stage-then-switch cs = record { book-note = book-note cs; staged = loaded cs; good = good cs; unseen = unseen cs; never-in-use = never-in-use cs; nothing = nothing cs; switched = switched cs }
