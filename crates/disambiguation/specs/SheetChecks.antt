@@ -1,4 +1,4 @@
--- The checks of a sheet whose kinds and rules come in bytes, or as lists, in the order of docs/REFERENCE.md, section 4; 11 comes after them. Assumes nothing.
+-- The checks of a sheet whose kinds and rules come in bytes, or as lists: 1 to 5, in the order of docs/REFERENCE.md, section 4. Assumes nothing.
 use Prim.Native.Nat.{ℕ, _%_}
 use mathlib.Core.Bool.{Bool, not, _||_}
 use mathlib.Core.List.{List, [], _∷_, _++_}
