@@ -6,7 +6,7 @@ use mathlib.Core.Option.{Option, none, some}
 use Prim.Native.Nat.{ℕ, _-_}
 use native.Mathlib.Omega.{arith}
 use lib.Dec.{eqb}
-use lib.ListN.{length, getD, take, drop, set, length-replicate}
+use lib.ListN.{length, getD, take, drop, set, length-replicate, drop-of-length-le}
 use lib.Seq.{take-all, set-split}
 use borrow.Author.Tests.{ne-eqb}
 use borrow.Author.Needs.{needs}
@@ -35,10 +35,6 @@ length-room = length-replicate {A = ℕ} mostAnswer 0
 pub parts : (rest : List ℕ) → (length rest ≡ 0 → ⊥) → rest ≡ getD rest 0 0 ∷ take (length rest - 1) (drop 1 rest)
 parts [] h = absurd (h refl)
 parts (x ∷ xs) h = ap (λ l. x ∷ l) (sym (take-all (length (x ∷ xs) - 1) xs (omega arith)))
-
-none-part : (rest : List ℕ) → length rest ≡ 0 → rest ≡ []
-none-part [] h = refl
-none-part (x ∷ xs) h = absurd (omega arith)
 
 one-part : (rest : List ℕ) → length rest ≡ 1 → rest ≡ getD rest 0 0 ∷ []
 one-part [] h = absurd (omega arith)
@@ -136,7 +132,7 @@ module _ (sheet staged places : List ℕ) (kind : ℕ) (rest : List ℕ) {before
   pub way-switch : {later : Panel} {n : ℕ} → kind ≡ 10 → length rest ≡ 0 → (r .number ≡ n) × (r .length ≡ 0) → Changes (panel sheet staged places) switch n later
       → Tells (panel sheet staged places) (callOf kind rest) before before later r
   unfolding callOf
-  way-switch e l q w = alone (panel sheet staged places) (callOf kind rest) {c = some switch} (ap₂ callOf e (none-part rest l)) q (w .numbered) refl (w .stands)
+  way-switch e l q w = alone (panel sheet staged places) (callOf kind rest) {c = some switch} (ap₂ callOf e (drop-of-length-le rest {i = 0} (omega arith))) q (w .numbered) refl (w .stands)
 
   pub way-no-byte : (kind ≡ 7 → ⊥) → (kind ≡ 8 → ⊥) → (kind ≡ 10 → ⊥) → length rest ≡ 0 → (r .number ≡ 12) × (r .length ≡ 0)
       → Tells (panel sheet staged places) (callOf kind rest) before before (panel sheet staged places) r

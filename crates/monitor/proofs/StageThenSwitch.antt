@@ -51,8 +51,8 @@ module _ (cs : List Call) where
   loaded : (s : Rules) → lastStaged cs ≡ some s → InForce (panelAfter cs .staged) (s .operators) (s .rules)
   loaded s e = (rw (book-note cs ∙ e) at (stands cs .on-stage)) .1
 
-  good : (s : Rules) → lastStaged cs ≡ some s → EveryRowHasExactlyOne (s .operators) (s .rules)
-  good s e = every-row-has-one (panelAfter cs .staged) (s .operators) (s .rules) (loaded s e)
+  one-tree : (s : Rules) → lastStaged cs ≡ some s → EveryRowHasExactlyOne (s .operators) (s .rules)
+  one-tree s e = every-row-has-one (panelAfter cs .staged) (s .operators) (s .rules) (loaded s e)
 
   unseen : (c d : Call) → IsStaging c → (d ≡ switch → ⊥) → answer (c ∷ cs) d ≡ answer cs d
   unfolding panelAfter
@@ -100,4 +100,4 @@ module _ (cs : List Call) where
       go s f = (s, f, rw (z, f) refl, rw z refl)
 
 pub stage-then-switch : (cs : List Call) → StageThenSwitch cs
-stage-then-switch cs = record { book-note = book-note cs; staged = loaded cs; good = good cs; unseen = unseen cs; never-in-use = never-in-use cs; nothing = nothing cs; switched = switched cs }
+stage-then-switch cs = record { book-note = book-note cs; staged = loaded cs; one-tree = one-tree cs; unseen = unseen cs; never-in-use = never-in-use cs; nothing = nothing cs; switched = switched cs }

@@ -127,7 +127,7 @@ module _ (cs : List Call) where
     pub book-note : bookAfter cs .note ≡ lastStaged cs
     pub staged : (s : Rules) → lastStaged cs ≡ some s → InForce (panelAfter cs .staged) (s .operators) (s .rules)
     -- It is known to be good before it is switched in: every row of any length over its operators has exactly one conflict-free tree under it.
-    pub good : (s : Rules) → lastStaged cs ≡ some s → EveryRowHasExactlyOne (s .operators) (s .rules)
+    pub one-tree : (s : Rules) → lastStaged cs ≡ some s → EveryRowHasExactlyOne (s .operators) (s .rules)
     -- A staging, accepted or refused, changes no answer of any other call but a switch, and never gives 11.
     pub unseen : (c d : Call) → IsStaging c → (d ≡ switch → ⊥) → answer (c ∷ cs) d ≡ answer cs d
     pub never-in-use : (c : Call) → IsStaging c → answer cs c .number ≡ inUse → ⊥
