@@ -12,16 +12,10 @@ use Rattle.expression.proofs.Cond.{by-cond}
 use Rattle.expression.proofs.Tests.{both-false, any-append}
 use Rattle.disambiguation.specs.Edges.{prefixes, onTop, seenFromRight, seenFromLeft}
 use Rattle.disambiguation.specs.Conflicts.{conflicts}
+use Rattle.disambiguation.proofs.Plain.{Plain}
 use Rattle.brackets.specs.SameMeaning.{bare}
 use Rattle.brackets.specs.Enclosed.{around, leftOf, rightOf, enclosed}
 use Rattle.brackets.proofs.Enclosing.{counted-none, enclosed-bare}
-
--- a tree without prefix operators
-abbrev pub Plain : Tree → Type 0
-Plain (reading a) = Unit {0}
-Plain (bracket t) = Plain t
-Plain (binary o l r) = Plain l × Plain r
-Plain (prefix p t) = ⊥
 
 -- u's row is at most as long as v's, and without prefix operators as long only if v is u
 record Shorter (u v : Tree) : Type 0 where

@@ -5,8 +5,7 @@ use mathlib.Core.Path.{_≡_, refl, ap, sym, _∙_}
 use mathlib.Core.Option.{some}
 use mathlib.Core.List.{List, [], _∷_, _++_}
 use lib.ListN.{length, length-append}
-use Rattle.expression.specs.Lists.{All}
-use Rattle.expression.specs.Token.{Class, Prefix, opening, closing, Operators, class}
+use Rattle.expression.specs.Token.{opening, closing, Operators, class}
 use Rattle.expression.specs.Refusal.{accepted}
 use Rattle.expression.specs.Tree.{Tree, reading, bracket, binary, prefix, yield, Over}
 use Rattle.expression.proofs.RowsAndTrees.{row-exactly-if-yielded}
@@ -15,25 +14,19 @@ use Rattle.disambiguation.specs.Conflicts.{ConflictFreeTree}
 use Rattle.disambiguation.specs.Verdict.{verdict}
 use Rattle.disambiguation.specs.Repair.{repair}
 use Rattle.disambiguation.proofs.Accepted.{Passes, accepted-passes, repair-is, only-one}
+use Rattle.disambiguation.proofs.Plain.{Plain, plain-of-row}
 use Rattle.brackets.specs.SameMeaning.{bare, MeanTheSame, OfInfix, ShortestRow}
 use Rattle.brackets.specs.Enclosed.{enclosed}
 use Rattle.brackets.specs.Shortest.{shortestBy}
 use Rattle.brackets.proofs.Enclosing.{bare-enclosed, over-enclosed, enclosed-free}
-use Rattle.brackets.proofs.Fewest.{Plain, fewest-tokens, only-tree}
+use Rattle.brackets.proofs.Fewest.{fewest-tokens, only-tree}
 
--- what holds of all elements holds of those of each part
-all-parts : (P : ℕ → Type 0) (xs ys : List ℕ) → All P (xs ++ ys) → All P xs × All P ys
-all-parts P [] ys h = (tt, h)
-all-parts P (x ∷ xs) ys h = let (a, b) = all-parts P xs ys (h .1) in ((h .0, a), b)
-
--- the tree of a row without prefix operators has none
-plain-of-row : (k : ℕ → Class) (t : Tree) → Over k t → All (λ c. k c ≡ Prefix → ⊥) (yield t) → Plain (bare t)
-plain-of-row k (reading a) h f = tt
-plain-of-row k (bracket t) h f = plain-of-row k t h (all-parts (λ c. k c ≡ Prefix → ⊥) (yield t) (closing ∷ []) (f .1) .0)
-plain-of-row k (binary o l r) h f =
-    let (a, b) = all-parts (λ c. k c ≡ Prefix → ⊥) (yield l) (o ∷ yield r) f in
-    (plain-of-row k l (h .1) a, plain-of-row k r (h .2) (b .1))
-plain-of-row k (prefix p t) h f = f .0 (h .0)
+-- a tree without prefix operators has none once its brackets are taken out
+plain-bare : (t : Tree) → Plain t → Plain (bare t)
+plain-bare (reading a) h = tt
+plain-bare (bracket t) h = plain-bare t h
+plain-bare (binary o l r) h = (plain-bare l (h .0), plain-bare r (h .1))
+plain-bare (prefix p t) h = h
 
 -- a row without a pair of its brackets is two tokens shorter
 dropped-length : (before inner after : List ℕ) → length (before ++ opening ∷ inner ++ closing ∷ after) ≡ length (before ++ inner ++ after) + 2
@@ -66,7 +59,7 @@ module _ (ops : Operators) (rules : List Rule) (one-tree : (row : List ℕ) (t u
     only-of-row : OfInfix ops rules row → (other : List ℕ) → MeanTheSame ops rules row other → length other ≡ length (yield answer) → other ≡ yield answer
     only-of-row f other m e =
         let (u, d, same) = other-tree other m in
-        let plain = plain-of-row (class ops) t (c .over) (rw (← c .yields) at f) in
+        let plain = plain-bare t (plain-of-row (class ops) t (c .over) (rw (← c .yields) at f)) in
         sym (d .yields) ∙ ap yield (only-tree (L rules) (R rules) t u (d .free) same plain (ap length (d .yields) ∙ e))
 
     -- With a pair of brackets dropped it would be shorter still, so it means something else.

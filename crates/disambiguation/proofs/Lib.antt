@@ -18,7 +18,13 @@ pub mod SheetNumbers
 pub mod RuleBytes
 pub mod Agreement
 pub mod Accepted
+pub mod Counts
+pub mod Standing
+pub mod Powers
+pub mod Plain
+pub mod ByPowers
 pub mod Cases
 pub mod ChainCases
 pub mod PrefixCases
+pub mod PowerCases
 pub mod MachineExamples

@@ -1,6 +1,7 @@
 -- Tests over the numbers below n, counted from 0 up. Assumes nothing.
-use Prim.Native.Nat.{ℕ, zero, suc}
+use Prim.Native.Nat.{ℕ, zero, suc, _+_}
 use mathlib.Core.Bool.{Bool, true, _&&_}
+use Rattle.expression.specs.Lists.{oneIf}
 
 -- the test holds of every number below n
 unfoldable pub allBelow : ℕ → (ℕ → Bool) → Bool
@@ -10,3 +11,8 @@ allBelow (suc n) p = allBelow n p && p n
 -- of every pair of them
 abbrev pub allPairs : ℕ → (ℕ → ℕ → Bool) → Bool
 allPairs n p = allBelow n (λ a. allBelow n (p a))
+
+-- of how many numbers below n it holds
+unfoldable pub countBelow : ℕ → (ℕ → Bool) → ℕ
+countBelow zero p = 0
+countBelow (suc n) p = countBelow n p + oneIf (p n)

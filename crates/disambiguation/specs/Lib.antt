@@ -6,10 +6,13 @@ pub mod Conflicts
 pub mod ExactlyOne
 pub mod Below
 pub mod Verdict
+pub mod Powers
+pub mod ByPowers
 pub mod SheetChecks
 pub mod LeftToRight
 pub mod Repair
 pub mod Cases
 pub mod ChainCases
 pub mod PrefixCases
+pub mod PowerCases
 pub mod Misreadings
