@@ -39,11 +39,11 @@ pub ruleset with-ways = (put-in, left-out, needs)
 
 -- ---- prefixes and changes: the word of the numbers before the place of which a test holds
 module _ (test : ℕ → Bool) where
-  none-yet : 0 ≡ wordWhere test 0
+  pub none-yet : 0 ≡ wordWhere test 0
   unfolding wordWhere
   none-yet = refl
 
-  one-more : {x y : ℕ} {told : Bool} (at : ℕ) → x ≡ wordWhere test at → told ≡ test at → y ≡ withBit x at told → y ≡ wordWhere test (at + 1)
+  pub one-more : {x y : ℕ} {told : Bool} (at : ℕ) → x ≡ wordWhere test at → told ≡ test at → y ≡ withBit x at told → y ≡ wordWhere test (at + 1)
   unfolding wordWhere
   one-more at e t f = rw (add-one, f, e, t)
 

@@ -13,4 +13,7 @@ pub mod Testing
 pub mod Verdicts
 pub mod RelateWays
 pub mod Loading
+pub mod PowerWords
+pub mod PowerWays
+pub mod PowerLaws
 pub mod Laws

@@ -6,3 +6,4 @@ pub mod Chaining
 pub mod Tests
 pub mod Loading
 pub mod InForce
+pub mod BindingPowers

@@ -16,6 +16,7 @@ use layout::SHEET_WORDS;
 mod chains;
 mod kinds;
 pub mod layout;
+pub mod powers;
 mod rules;
 mod verdict;
 mod words;

@@ -7,6 +7,7 @@ ghost use Rattle.sheet.specs.Relation.{bitOf};
 ghost use Rattle.sheet.specs.Tests.{noneInBoth, eachInOne};
 ghost use Rattle.sheet.specs.Kinds.{withBit, without};
 ghost use Rattle.sheet.specs.Chaining.{joined};
+ghost use Rattle.sheet.specs.BindingPowers.{SetOf, outsideOf};
 
 // The set of all below n.
 fn mask(n: usize) -> u32
@@ -75,4 +76,12 @@ pub fn joined(x: u32, c: usize, y: u32) -> u32
         return x | y;
     }
     x
+}
+
+// All below n that are not in the set.
+pub fn outside(n: usize, x: u32) -> u32
+    requires { ⌜ n ≤ mostOperators ⌝ }
+    ensures { λ r. ⌜ SetOf (outsideOf n x) r ⌝ }
+{
+    mask(n) & !x
 }
