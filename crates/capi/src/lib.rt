@@ -1,6 +1,7 @@
 // The calls for C and Rust, under names of their own. They take numbers and addresses alone: a list is an address and a length.
 ghost use mathlib.Core.Path.{_≡_};
 ghost use Rattle.sheet.specs.Layout.{operatorsOf};
+ghost use Rattle.sheet.specs.BindingPowers.{powersIn};
 ghost use Rattle.monitor.specs.Call.{stage, switch, putRow, putRecord, fetchRecord, fetchRow, image, build, repair, yield, shortestRow};
 ghost use Rattle.monitor.specs.Panel.{panel};
 ghost use Rattle.monitor.specs.Contracts.{Changes, Stages, Puts, Drops, AnswersOn, AnswersUnder, AnswersFrom, Judges, NumbersOperand, PlacesOperand};
@@ -11,6 +12,8 @@ use record::Answer;
 use record::Judgement;
 use record::operands::Part;
 use sheet::layout::SHEET_WORDS;
+use sheet::powers;
+use sheet::powers::Powers;
 
 // The count of operators of the sheet in force, n.
 #[no_mangle]
@@ -157,6 +160,14 @@ pub extern "C" fn tihvomen_operand(sheet: &[u32; SHEET_WORDS], bytes: &[u8], rig
     ensures { λ r. ⌜ PlacesOperand (now (sheet .entry)) right (now (bytes .entry)) r ⌝ }
 {
     monitor::operand_part(sheet, bytes, right)
+}
+
+// The binding powers of an operator.
+#[no_mangle]
+pub extern "C" fn tihvomen_powers(sheet: &[u32; SHEET_WORDS], operator: u32) -> Powers
+    ensures { λ r. ⌜ r ≡ powersIn (now (sheet .entry)) operator ⌝ }
+{
+    powers::powers_of(sheet, operator)
 }
 
 // The reply to a line: its length.

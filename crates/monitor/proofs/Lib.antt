@@ -20,6 +20,7 @@ pub mod ShortestRows
 pub mod ReadFromTheLeft
 pub mod ChainedPatterns
 pub mod StageThenSwitch
+pub mod BindingPowers
 pub mod AnswerWays
 pub mod StoreWays
 pub mod UseWays

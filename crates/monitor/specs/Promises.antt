@@ -9,19 +9,22 @@ use mathlib.Core.List.{List, _∷_}
 use lib.ListN.{length}
 use Rattle.expression.specs.Limits.{mostTokens, mostRecordBytes}
 use Rattle.expression.specs.Refusal.{accepted, dead, double, inUse, nothingStaged}
-use Rattle.expression.specs.Token.{Operators, operators, class}
+use Rattle.expression.specs.Token.{Infix, Operators, operators, class}
 use Rattle.expression.specs.Grammar.{Row}
 use Rattle.expression.specs.Tree.{Tree, recordOf, Over}
 use Rattle.expression.specs.Tree as tree
-use Rattle.disambiguation.specs.Rules.{Rule}
+use Rattle.disambiguation.specs.Rules.{Rule, R}
 use Rattle.disambiguation.specs.Patterns.{Patterns}
 use Rattle.disambiguation.specs.Conflicts.{conflictCount, ConflictFreeTree}
 use Rattle.disambiguation.specs.ExactlyOne.{SomeRowHasNone, SomeRowHasTwo, EveryRowHasExactlyOne}
 use Rattle.disambiguation.specs.LeftToRight.{finish}
+use Rattle.disambiguation.specs.Powers.{leftPower, rightPower, Ladder}
+use Rattle.disambiguation.specs.ByPowers.{readByPowers}
 use Rattle.disambiguation.specs.SheetChecks.{rulesIn, operatorsIn, InOrder, ListInOrder}
 use Rattle.sheet.specs.InForce.{InForce}
+use Rattle.sheet.specs.BindingPowers.{given, notInfix, powersIn}
 use Rattle.parser.specs.FromTheLeft.{state, FromTheLeft}
-use Rattle.brackets.specs.SameMeaning.{ShortestRow}
+use Rattle.brackets.specs.SameMeaning.{OfInfix, ShortestRow}
 use Rattle.monitor.specs.Call.{Call, Reply, lentTo, stage, stageList, switch, putRecord, ask, build, repair, judge, yield, shortestRow}
 use Rattle.monitor.specs.Panel.{Panel}
 use Rattle.monitor.specs.Steps.{after, reply}
@@ -134,6 +137,19 @@ module _ (cs : List Call) where
     -- A switch gives 15 exactly when nothing is staged. An accepted one found a sheet staged, puts that one in force, and leaves nothing staged.
     pub nothing : (answer cs switch .number ≡ nothingStaged) ↔ (lastStaged cs ≡ none)
     pub switched : answer cs switch .number ≡ accepted → (s : Rules) × (lastStaged cs ≡ some s) × (inForce (switch ∷ cs) ≡ s) × (lastStaged (switch ∷ cs) ≡ none)
+
+  -- W7, binding powers. Of the sheet in force and by its rules,
+  pub record BindingPowers : Type 0 where
+    -- the call answers for an infix operator its left and its right power, and for every other number 3 and no powers.
+    pub given-to-infix : (a : ℕ) → class ops a ≡ Infix → powersIn (panelAfter cs .sheet) a ≡ given (leftPower ops (R rules) a) (rightPower ops (R rules) a)
+    pub refused-else : (a : ℕ) → (class ops a ≡ Infix → ⊥) → powersIn (panelAfter cs .sheet) a ≡ notInfix
+    -- An infix operator a closes before an infix operator b exactly if b's left power is at most a's right power; the operators of one left power are a level, of two levels
+    -- one lies wholly above the other, and each is wholly left or wholly right.
+    pub ladder : Ladder ops (R rules)
+    -- A parser by the powers that are answered reads each row of infix operators, of any length, as its conflict-free tree, which is what the panel builds.
+    pub parsed : (row : List ℕ) → Row ops row → OfInfix ops rules row
+        → (t : Tree) × ConflictFreeTree ops rules row t
+        × (readByPowers (class ops) (λ a. powersIn (panelAfter cs .sheet) a .left) (λ a. powersIn (panelAfter cs .sheet) a .right) row ≡ some t)
 
 -- W4, chains of priority. Of any rules, which patterns they exclude: both where one or more priority rules lead from the one operator to the other, whatever their kinds, and else
 -- by left and right as written. With W5, what an operator sees of an operand is said in `Edges`. Demands 2 and 3 and the requests above speak of conflicts by these patterns.
