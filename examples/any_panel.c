@@ -102,6 +102,25 @@ static void check_values_of(const struct panel *p, int *seen) {
     }
 }
 
+/*
+ * An operator has powers exactly if it is infix, which a row with it shows. They are from 1 to 64, and the right one is the
+ * left one or one less.
+ */
+static void check_powers_of(const struct panel *p) {
+    const struct panel copy = *p;
+    for (unsigned op = 0; op <= UINT8_MAX; op++) {
+        const uint8_t tokens[] = {0x80, (uint8_t)op, 0x81};
+        uint8_t out[3];
+        struct panel_powers one = panel_powers(p, op), other = panel_powers(&copy, op);
+        CHECK(one.number == other.number && one.left == other.left && one.right == other.right);
+        if (panel_build(p, tokens, sizeof tokens, out, sizeof out).number == PANEL_ACCEPTED)
+            CHECK(one.number == PANEL_ACCEPTED && one.left % 2 == 0 && one.left >= 2 && one.left <= 64 &&
+                  (one.right == one.left || one.right + 1 == one.left));
+        else
+            CHECK(one.number == PANEL_STRANGER && one.left == 0 && one.right == 0);
+    }
+}
+
 /* The same with at most three bytes at a place, so that some hold trees; at place 0, 128 brackets around a reading. */
 static struct panel shortened(struct panel p) {
     for (size_t place = 1; place < PANEL_PLACES; place++)
@@ -139,6 +158,7 @@ int main(void) {
             CHECK(memcmp(one, other, sizeof one) == 0);
         }
         short_places = shortened(p);
+        check_powers_of(&p);
         check_values_of(&p, seen);
         check_values_of(&short_places, seen);
         check_switch(&p, &copy, switches);

@@ -187,6 +187,10 @@ static void check_values(struct panel *p) {
     CHECK(panel_drop(p, 3) == PANEL_ACCEPTED);
 }
 
+static bool powered(struct panel_powers powers, enum panel_number number, uint8_t left, uint8_t right) {
+    return powers.number == number && powers.left == left && powers.right == right;
+}
+
 /* Two infix operators and 02, which is prefix and binds between them: 01 over 02 over 00. */
 static void check_prefix(struct panel *p, uint8_t *out) {
     static const uint8_t sheet[] = {PANEL_INFIX, PANEL_INFIX, PANEL_PREFIX, PANEL_PRIORITY, 1, 2, PANEL_PRIORITY, 2, 0,
@@ -211,8 +215,10 @@ static void check_prefix(struct panel *p, uint8_t *out) {
     CHECK(gave(panel_evaluate(p, 3, meanings, 3, readings, 3), PANEL_ACCEPTED, -INT32_MAX + 1));
     CHECK(gave(panel_evaluate(p, 3, no_minus, 3, readings, 3), PANEL_NO_MEANING, 0));
     CHECK(change_sheet(p, 3, changed, sizeof changed) == PANEL_IN_USE);
+    CHECK(powered(panel_powers(p, 1), PANEL_ACCEPTED, 4, 4) && powered(panel_powers(p, 2), PANEL_STRANGER, 0, 0));
     CHECK(panel_drop(p, 3) == PANEL_ACCEPTED);
     CHECK(panel_switch(p) == PANEL_ACCEPTED);
+    CHECK(powered(panel_powers(p, 1), PANEL_ACCEPTED, 6, 6) && powered(panel_powers(p, 2), PANEL_ACCEPTED, 4, 4));
 }
 
 int main(void) {

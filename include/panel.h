@@ -9,7 +9,8 @@
  * What holds of every call:
  *  - It takes any bytes and ends. It allocates nothing, and has no state of its own: what it keeps is in the panel.
  *  - It answers a number: 0, or the first refusal that applies, in the order named with the call.
- *  - A place that is no place is refused with 8 and a count of operators over 32 with 1, however large it is.
+ *  - A place that is no place is refused with 8, a count of operators over 32 with 1 and an operator that is none with 3,
+ *    however large it is.
  *  - After a refusal the panel and the lent output are as they were.
  *  - After success the output past the answer's length is as it was.
  *  - A list of length 0 may be lent as NULL. No other pointer may be NULL: no panel, no other list, no output of a reply.
@@ -69,6 +70,13 @@ struct panel_part {
     enum panel_number number;
     size_t offset;
     size_t length;
+};
+
+/* The number of an operator, and its binding powers; both are 0 after a refusal. */
+struct panel_powers {
+    enum panel_number number;
+    uint8_t left;
+    uint8_t right;
 };
 
 /* An address for a list that is read: not NULL where its length is 0. */
@@ -233,6 +241,22 @@ PANEL_NODISCARD static inline struct panel_part panel_operand(
     operand.offset = part.from;
     operand.length = part.to - part.from;
     return operand;
+}
+
+/*
+ * The binding powers of an infix operator of the sheet in force, from 1 to 64. Of two infix operators with an operand
+ * between them the left one closes first, and so takes the operand, exactly if the left power of the right one is at most
+ * its own right power. A parser that compares powers in this way reads each row without prefix operators as the panel
+ * does. Operators of one left power are a level; a level of a higher power binds tighter. A level groups to the left if
+ * the right powers in it are as high, and to the right if they are one less. Numbers: 3, also for a prefix operator.
+ */
+PANEL_NODISCARD static inline struct panel_powers panel_powers(const struct panel *p, unsigned op) {
+    struct panel_raw_powers raw = tihvomen_powers(p->sheet.words, op);
+    struct panel_powers powers;
+    powers.number = (enum panel_number)raw.number;
+    powers.left = raw.left;
+    powers.right = raw.right;
+    return powers;
 }
 
 /*

@@ -37,6 +37,12 @@ struct panel_raw_part {
     size_t to;
 };
 
+struct panel_raw_powers {
+    uint8_t number;
+    uint8_t left;
+    uint8_t right;
+};
+
 uint8_t tihvomen_operators(const uint32_t *sheet);
 uint8_t tihvomen_stage(uint32_t *stage, uint32_t n, const uint8_t *kinds_and_rules, size_t);
 uint8_t tihvomen_stage_rules(
@@ -56,6 +62,7 @@ struct panel_raw_answer tihvomen_yield(const uint32_t *sheet, const uint8_t *rec
 struct panel_raw_answer tihvomen_shortest_row(const uint32_t *sheet, const uint8_t *record, size_t, uint8_t *out, size_t);
 uint8_t tihvomen_operand_number(const uint32_t *sheet, const uint8_t *record, size_t);
 struct panel_raw_part tihvomen_operand(const uint32_t *sheet, const uint8_t *record, size_t, bool right);
+struct panel_raw_powers tihvomen_powers(const uint32_t *sheet, uint32_t op);
 size_t tihvomen_reply(
     uint32_t *sheet, uint32_t *stage, uint8_t *places, const uint8_t *line, size_t, uint8_t *out);
 

@@ -18,7 +18,10 @@ enum panel_number {
     PANEL_OVERSIZE = 1,
     /* fewer kinds than operators, or rule bytes not in threes; beside a list of rules, any number of kinds but that of operators */
     PANEL_TORN = 2,
-    /* a byte that means nothing here: a kind that does not exist, an operator that the sheet lacks, 21 inside a record */
+    /*
+     * a byte that means nothing here: a kind that does not exist, an operator that the sheet lacks, 21 inside a record; and a
+     * prefix operator whose powers are asked for
+     */
     PANEL_STRANGER = 3,
     /* under the rules at least one row, however long, has no conflict-free tree */
     PANEL_DEAD = 4,

@@ -41,6 +41,7 @@ static void do_yield(void) { answer = panel_yield(&p, lent.bytes, lent.length, o
 static void do_shortest_row(void) { answer = panel_shortest_row(&p, lent.bytes, lent.length, out, sizeof out).length; }
 static void do_judge(void) { answer = panel_judge(&p, lent.bytes, lent.length).count; }
 static void do_operand(void) { answer = panel_operand(&p, lent.bytes, lent.length, side).length; }
+static void do_powers(void) { answer = panel_powers(&p, place).left; }
 static void do_reply(void) { answer = panel_reply(&p, line, line_length, (char *)out); }
 
 static void do_stage_rules(void) {
@@ -81,6 +82,7 @@ static struct call {
     {"shortest_row", do_shortest_row, LIST, PANEL_STACK_SHORTEST_ROW, 0},
     {"judge", do_judge, LIST, PANEL_STACK_JUDGE, 0},
     {"operand", do_operand, LIST, PANEL_STACK_OPERAND, 0},
+    {"powers", do_powers, NOTHING, PANEL_STACK_POWERS, 0},
     {"reply", do_reply, LINE, PANEL_STACK_REPLY, 0},
     {"evaluate", do_evaluate, NOTHING, PANEL_STACK_EVALUATE, 0},
 };

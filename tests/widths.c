@@ -1,6 +1,6 @@
 /*
- * Numbers that no byte holds, for every call that takes a place or a count of operators: cut to a byte they would be good
- * ones. Sides that are none, and the ends of the sizes. Silent if all is well.
+ * Numbers that no byte holds, for every call that takes a place, an operator or a count of operators: cut to a byte they
+ * would be good ones. Sides that are none, and the ends of the sizes. Silent if all is well.
  */
 #include "check.h"
 #include "panel_evaluate.h"
@@ -68,6 +68,16 @@ static void check_counts(void) {
     CHECK(memcmp(&p, &before, sizeof p) == 0);
 }
 
+static void check_operators(void) {
+    static const unsigned operators[] = {2, 31, 32, 255, 256, 257, 65536, 65536 + 1, INT_MAX, INT_MAX + 1u, 0u - 256, UINT_MAX};
+    const struct panel p = filled();
+    for (size_t i = 0; i < sizeof operators / sizeof operators[0]; i++) {
+        struct panel_powers powers = panel_powers(&p, operators[i]);
+        CHECK(powers.number == PANEL_STRANGER && powers.left == 0 && powers.right == 0);
+    }
+    CHECK(panel_powers(&p, 0).left == 2 && panel_powers(&p, 1).left == 4);
+}
+
 /* C++ has no values for a side beyond the two. */
 #ifndef __cplusplus
 static void check_sides(void) {
@@ -105,6 +115,7 @@ int main(void) {
     memset(out, 0xEE, sizeof out);
     check_places();
     check_counts();
+    check_operators();
     check_sides();
     check_lines();
     check_version();

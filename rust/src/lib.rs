@@ -35,12 +35,14 @@ mod linked;
 #[cfg(feature = "alloc")]
 mod owned;
 mod panel;
+mod powers;
 mod record;
 mod refusal;
 mod rule;
 mod sizes;
 
 pub use panel::Panel;
+pub use powers::Powers;
 pub use record::Side;
 pub use refusal::{Refusal, UnknownNumber};
 pub use rule::Rule;

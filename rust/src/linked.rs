@@ -31,13 +31,20 @@ pub struct Part {
 }
 
 #[repr(C)]
+pub struct Powers {
+    pub number: u8,
+    pub left: u8,
+    pub right: u8,
+}
+
+#[repr(C)]
 pub struct Value {
     pub number: u8,
     pub value: i32,
 }
 
 mod exports {
-    use super::{Answer, Judgement, Part, Places, Sheet, Value};
+    use super::{Answer, Judgement, Part, Places, Powers, Sheet, Value};
     use crate::rule::Rule;
     use crate::sizes::MOST_REPLY;
 
@@ -78,6 +85,7 @@ mod exports {
         ) -> Answer;
         pub fn tihvomen_operand_number(sheet: &Sheet, record: *const u8, length: usize) -> u8;
         pub fn tihvomen_operand(sheet: &Sheet, record: *const u8, length: usize, right: bool) -> Part;
+        pub fn tihvomen_powers(sheet: &Sheet, operator: u32) -> Powers;
         pub fn tihvomen_reply(
             sheet: &mut Sheet,
             stage: &mut Sheet,
@@ -198,6 +206,12 @@ pub fn operand_number(sheet: &Sheet, record: &[u8]) -> u8 {
 pub fn operand(sheet: &Sheet, record: &[u8], right: bool) -> Part {
     // SAFETY: `record` is read within its length.
     unsafe { exports::tihvomen_operand(sheet, record.as_ptr(), record.len(), right) }
+}
+
+#[inline]
+pub fn powers(sheet: &Sheet, operator: u8) -> Powers {
+    // SAFETY: `sheet` is read within its length.
+    unsafe { exports::tihvomen_powers(sheet, operator.into()) }
 }
 
 #[inline]

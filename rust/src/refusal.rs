@@ -13,7 +13,7 @@ pub enum Refusal {
     /// number of kind bytes but that of the operators.
     Torn = 2,
     /// A byte that means nothing here: a kind of operator or rule that does not exist, an operator that the sheet
-    /// lacks, 21 inside a record.
+    /// lacks, 21 inside a record; and a prefix operator whose powers are asked for.
     Stranger = 3,
     /// Under the rules at least one row, however long, has no conflict-free tree.
     Dead = 4,

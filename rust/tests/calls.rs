@@ -1,6 +1,6 @@
 //! Runs of calls from a fresh panel, each with the answer that the papers give: `CALL => NUMBER ANSWER`, in `tests/calls`.
-//! w1 and w2 are from before there were kind bytes: in each sheet of n operators, n bytes 00 have been put in before the rules. All
-//! three are from before there was a stage: in place of each load there are a staging and a switch.
+//! w1 and w2 are from before there were kind bytes: in each sheet of n operators, n bytes 00 have been put in before the rules. w1,
+//! w2 and w5 are from before there was a stage: in place of each load there are a staging and a switch.
 #![cfg(feature = "alloc")]
 use tihvomen::{Panel, Refusal};
 
@@ -39,6 +39,9 @@ fn make(panel: &mut Panel, call: &[&str]) -> Result<String, Refusal> {
         ["evaluate", place, meanings, readings] => {
             panel.evaluate(number(place), &bytes(meanings), &values(readings)).map(|value| value.to_string())
         }
+        ["powers", operator] => {
+            panel.powers(number(operator)).map(|powers| format!("{} {}", powers.left, powers.right))
+        }
         _ => panic!("no such call: {call:?}"),
     }
 }
@@ -48,11 +51,10 @@ fn run(text: &str) {
     for (at, line) in text.lines().enumerate() {
         let (call, expected) = line.split_once(" => ").unwrap();
         let call: Vec<&str> = call.split(' ').collect();
-        let mut expected = expected.split(' ');
-        let refusal = u8::from_str_radix(expected.next().unwrap(), 16).unwrap();
-        let answer = expected.next().unwrap_or("").to_string();
+        let (refusal, answer) = expected.split_once(' ').unwrap_or((expected, ""));
+        let refusal = u8::from_str_radix(refusal, 16).unwrap();
         let got = make(&mut panel, &call).map_err(Refusal::number);
-        let wanted = if refusal == 0 { Ok(answer) } else { Err(refusal) };
+        let wanted = if refusal == 0 { Ok(answer.to_string()) } else { Err(refusal) };
         assert_eq!(got, wanted, "line {}: {line}", at + 1);
     }
 }
@@ -70,4 +72,9 @@ fn values_of_conditions() {
 #[test]
 fn shortest_rows_and_values_with_prefix_operators() {
     run(include_str!("../../tests/calls/w5.calls"));
+}
+
+#[test]
+fn binding_powers() {
+    run(include_str!("../../tests/calls/w7.calls"));
 }

@@ -22,9 +22,10 @@ pub enum Call {
     Operand { record: Vec<u8>, side: Side },
     ShortestRow { record: Vec<u8>, room: usize },
     Evaluate { place: u8, meanings: Vec<u8>, readings: Vec<i32> },
+    Powers { operator: u8 },
 }
 
-/// A call's number, and what it answers: output bytes, the count as one byte, the value as four, or the operand's part.
+/// A call's number, and what it answers: output bytes, the count as one byte, the value as four, both powers, or the operand's part.
 #[derive(Clone, Debug, PartialEq)]
 pub struct Reply {
     pub number: u8,
@@ -74,6 +75,7 @@ impl Book {
                 let value = evaluate(&self.sheet.tree_of(row), meanings, readings)?;
                 Ok(value.to_be_bytes().to_vec())
             }),
+            Call::Powers { operator } => self.sheet.powers(*operator).map(Vec::from),
             Call::Operand { record, side } => self.record(record).map(|tree| {
                 let part = tree.operand(*side).map_or(Vec::new(), Tree::record);
                 offset = if *side == Side::Left { 1 } else { record.len() - part.len() };

@@ -8,7 +8,7 @@ use tihvomen::{Panel, Refusal};
 
 /// A call that makes sense to try on the panel that the book stands for. `last` is an earlier call's answer.
 pub fn any_call(random: &mut Random, book: &Book, last: &[u8]) -> Call {
-    let mut call = match random.below(36) {
+    let mut call = match random.below(38) {
         0..=2 => {
             let staging = stagings::any(random, &book.kinds_in_use());
             Call::Stage { n: staging.n, bytes: staging.bytes() }
@@ -30,6 +30,7 @@ pub fn any_call(random: &mut Random, book: &Book, last: &[u8]) -> Call {
             let readings = inputs::readings(random);
             Call::Evaluate { place: place(random, book), meanings, readings }
         }
+        35 | 36 => Call::Powers { operator: operator(random, book) },
         _ => {
             let side = [Side::Left, Side::Right][random.below(2)];
             Call::Operand { record: record(random, book, last), side }
@@ -75,6 +76,17 @@ fn place(random: &mut Random, book: &Book) -> u8 {
         1 => 15 + random.below(2) as u8,
         2..=8 if !filled.is_empty() => filled[random.below(filled.len())],
         _ => random.below(16) as u8,
+    }
+}
+
+/// An operator of the sheet, if it has any; or the one after the last, or any byte.
+fn operator(random: &mut Random, book: &Book) -> u8 {
+    let n = book.sheet.n();
+    match random.below(12) {
+        0 => random.byte(),
+        1 => n,
+        2 => 31 + random.below(2) as u8,
+        _ => random.below(n.into()) as u8,
     }
 }
 
@@ -128,6 +140,7 @@ pub fn make(random: &mut Random, panel: &mut Panel, call: &Call) -> Reply {
             let value = panel.evaluate(*place, meanings, readings);
             reply(value.map(|value| (value.to_be_bytes().to_vec(), 0)))
         }
+        Call::Powers { operator } => reply(panel.powers(*operator).map(|powers| (vec![powers.left, powers.right], 0))),
         Call::Operand { record, side } => {
             let side = if *side == Side::Left { tihvomen::Side::Left } else { tihvomen::Side::Right };
             let offset = |part: &[u8]| (part.as_ptr() as usize) - (record.as_ptr() as usize);

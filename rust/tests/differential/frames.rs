@@ -25,7 +25,8 @@ pub fn frame(call: &Call) -> Option<Vec<u8>> {
         | Call::Yield { .. }
         | Call::Operand { .. }
         | Call::ShortestRow { .. }
-        | Call::Evaluate { .. } => None,
+        | Call::Evaluate { .. }
+        | Call::Powers { .. } => None,
     }
 }
 

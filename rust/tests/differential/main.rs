@@ -14,6 +14,7 @@ mod frames;
 mod histories;
 mod inputs;
 mod lines;
+mod powers;
 mod random;
 mod runs;
 mod sheet;

@@ -7,7 +7,7 @@ use crate::stagings;
 use tihvomen::Panel;
 
 /// The calls' names, in the order of `kind`, and the numbers that each can give.
-pub const KINDS: [(&str, &[u8]); 15] = [
+pub const KINDS: [(&str, &[u8]); 16] = [
     ("stage", &[0, 1, 2, 3, 4, 5]),
     ("put row", &[0, 1, 3, 6, 8]),
     ("put record", &[0, 1, 3, 7, 8]),
@@ -23,6 +23,7 @@ pub const KINDS: [(&str, &[u8]); 15] = [
     ("shortest row", &[0, 1, 3, 7, 10]),
     ("evaluate", &[0, 8, 9, 13, 14]),
     ("switch", &[0, 11, 15]),
+    ("powers", &[0, 3]),
 ];
 
 /// There are numbers from 0 up to this.
@@ -48,6 +49,7 @@ fn kind(call: &Call) -> usize {
         Call::ShortestRow { .. } => 12,
         Call::Evaluate { .. } => 13,
         Call::Switch => 14,
+        Call::Powers { .. } => 15,
     }
 }
 

@@ -53,15 +53,16 @@ fn call(words: &[&str]) -> Call {
             let readings = values.map(|value| value.parse().unwrap()).collect();
             Call::Evaluate { place: number(place), meanings: bytes(meanings), readings }
         }
+        ["powers", operator] => Call::Powers { operator: number(operator) },
         _ => panic!("no such call: {words:?}"),
     }
 }
 
-/// `CALL => NUMBER ANSWER`: a value in decimal, bytes in hexadecimal.
+/// `CALL => NUMBER ANSWER`: a value and powers in decimal, bytes in hexadecimal.
 #[test]
 fn stored_answers_are_the_books() {
     let files = stored("calls", "calls");
-    assert!(files.len() > 2, "{files:?}");
+    assert!(files.len() > 3, "{files:?}");
     for file in files {
         let mut book = Book::new();
         for (at, line) in fs::read_to_string(&file).unwrap().lines().enumerate() {
@@ -71,6 +72,7 @@ fn stored_answers_are_the_books() {
             let answer = match (&call, <[u8; 4]>::try_from(&reply.answer[..])) {
                 (Call::Evaluate { .. }, Ok(value)) => format!(" {}", i32::from_be_bytes(value)),
                 (_, _) if reply.answer.is_empty() => String::new(),
+                (Call::Powers { .. }, _) => format!(" {} {}", reply.answer[0], reply.answer[1]),
                 _ => format!(" {}", reply.answer.iter().map(|byte| format!("{byte:02x}")).collect::<String>()),
             };
             assert_eq!(format!("{:02x}{answer}", reply.number), right, "{file:?}, line {}", at + 1);
