@@ -67,7 +67,7 @@ fn call(random: &mut Random, proved: &mut tihvomen::Panel, fast: &mut fast::Pane
     let place = random.below(18) as u8;
     let number = |refusal: tihvomen::Refusal| refusal.number();
     let kinds = &all_kinds.in_force;
-    match random.below(19) {
+    match random.below(20) {
         0 | 1 => stage(random, proved, fast, all_kinds),
         2 | 3 => switch(random, proved, fast, all_kinds),
         4 | 5 => {
@@ -105,6 +105,11 @@ fn call(random: &mut Random, proved: &mut tihvomen::Panel, fast: &mut fast::Pane
             let (meanings, readings) = (meanings(random, kinds), readings(random));
             let value = proved.evaluate(place, &meanings, &readings).map_err(number);
             assert_eq!(value, fast.evaluate(place, &meanings, &readings));
+        }
+        18 => {
+            let operator = random.below(34) as u8;
+            let powers = proved.powers(operator).map(|powers| (powers.left, powers.right));
+            assert_eq!(powers.map_err(number), fast.powers(operator));
         }
         _ => {
             let record = record(random, kinds);

@@ -105,6 +105,14 @@ fn places(both: &mut Both, size: &str, tokens: usize, shape: Shape) {
     line(&format!("evaluate, {size}"), &places, evaluate, |place| fast.evaluate(place[0], &meanings, &readings));
 }
 
+/// The powers of all 32 operators; a prefix one is refused.
+fn powers(both: &Both, name: &str) {
+    let Both { proved, fast } = both;
+    let operators: Vec<Vec<u8>> = (0..32).map(|operator| vec![operator]).collect();
+    let told = |operator: &[u8]| proved.powers(operator[0]).map(|powers| (powers.left, powers.right));
+    line(name, &operators, told, |operator| fast.powers(operator[0]));
+}
+
 fn fresh() -> Both {
     Both { proved: tihvomen::Panel::new(), fast: fast::Panel::default() }
 }
@@ -122,6 +130,7 @@ fn main() {
     stage(&mut both, "stage, 32 operators, 1,024 rules", false, 1);
     stage(&mut both, "stage, 32 operators, 576 rules", false, 8);
     put_in_force(&mut both, false);
+    powers(&both, "powers, 32 operators");
     for tokens in TOKENS {
         for (shape_name, shape) in SHAPES {
             let size = format!("{tokens} tokens, {shape_name}");
@@ -133,6 +142,7 @@ fn main() {
     both = fresh();
     stage(&mut both, "stage, 32 operators, 8 of them prefix, 576 rules", true, 8);
     put_in_force(&mut both, true);
+    powers(&both, "powers, 32 operators, 8 of them prefix");
     for tokens in [63, 255] {
         let size = format!("{tokens} tokens, random, with prefix operators");
         trees(&both, &size, tokens, Shape::Prefixed);

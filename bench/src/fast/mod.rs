@@ -195,6 +195,12 @@ impl Panel {
         Ok(record::operand(&self.sheet, bytes, right))
     }
 
+    /// The left and the right power.
+    #[inline(never)]
+    pub fn powers(&self, operator: u8) -> Result<(u8, u8), u8> {
+        self.sheet.powers(operator)
+    }
+
     #[inline(never)]
     pub fn evaluate(&self, place: u8, meanings: &[u8], readings: &[i32]) -> Result<i32, u8> {
         evaluate::evaluate(&self.sheet, self.held(place)?, meanings, readings)

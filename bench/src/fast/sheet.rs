@@ -38,6 +38,18 @@ impl Sheet {
         i32::from(class >> 1 & 1) - i32::from(class & 1)
     }
 
+    /// The left and the right power of an infix operator; or 3.
+    #[inline]
+    pub fn powers(&self, operator: u8) -> Result<(u8, u8), u8> {
+        if operator > 31 || (self.all & !self.prefixes) >> operator & 1 == 0 {
+            return Err(3);
+        }
+        let row = self.closes[usize::from(operator)];
+        let below = |c: usize| row >> c & !(self.closes[c] >> operator) & 1;
+        let left = 2 + 2 * (0..32).map(below).sum::<u32>() as u8;
+        Ok((left, left - (row >> operator & 1 ^ 1) as u8))
+    }
+
     #[inline]
     pub fn is_prefix(&self, operator: u8) -> bool {
         self.prefixes >> (operator & 31) & 1 == 1

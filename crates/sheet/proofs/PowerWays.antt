@@ -19,26 +19,26 @@ use Rattle.disambiguation.proofs.Standing.{infix-class}
 use Rattle.sheet.specs.Layout.{operatorsOf}
 use Rattle.sheet.specs.Relation.{bitOf, closesIn}
 use Rattle.sheet.specs.Kinds.{withBit, wordWhere}
-use Rattle.sheet.specs.BindingPowers.{infixIn, given, notInfix, givenIn, powersIn, SetOf, ofMost, closersOf, leftBy, givenBy}
+use Rattle.sheet.specs.BindingPowers.{infixIn, given, notInfix, givenIn, powersIn, SetOf, capped, closersOf, leftBy, givenBy}
 use Rattle.sheet.specs.declared.powers.Powers.{Powers}
 use Rattle.sheet.proofs.KindWays.{none-yet, one-more}
-use Rattle.sheet.proofs.PowerWords.{outside-set, infix-set, lower-set, left-by-set}
+use Rattle.sheet.proofs.PowerWords.{outside-set, infix-set, below-set, left-by-set}
 
 -- ---- words::outside
 pub ruleset outside-ways = (outside-set, needs)
 
--- ---- count_of_most
+-- ---- capped_count
 module _ (n : ℕ) {m : ℕ} (is : m ≡ n) where
-  pub count-beyond : mostOperators < m → mostOperators ≡ ofMost n
-  count-beyond h = rw (lt-ltb mostOperators n (omega arith))
+  pub capped-beyond : mostOperators < m → mostOperators ≡ capped n
+  capped-beyond h = rw (lt-ltb mostOperators n (omega arith))
 
-  pub count-itself : m ≤ mostOperators → m ≡ ofMost n
-  count-itself h = rw (le-ltb mostOperators n (omega arith)) is
+  pub capped-itself : m ≤ mostOperators → m ≡ capped n
+  capped-itself h = rw (le-ltb mostOperators n (omega arith)) is
 
-pub ruleset count-ways = (count-beyond, count-itself, needs)
+pub ruleset capped-ways = (capped-beyond, capped-itself, needs)
 
 -- ---- infixes
-pub most-few : (n : ℕ) {m : ℕ} → m ≡ ofMost n → m ≤ mostOperators
+pub most-few : (n : ℕ) {m : ℕ} → m ≡ capped n → m ≤ mostOperators
 most-few n {m} e = go (ltb mostOperators n) refl e
   where
     go : (b : Bool) → ltb mostOperators n ≡ b → m ≡ cond b mostOperators n → m ≤ mostOperators
@@ -63,8 +63,8 @@ module _ (sheet : List ℕ) (a : ℕ) where
 
 pub ruleset closers-ways = (none-closing, closing-more, all-closing, needs)
 
--- ---- lower
-pub ruleset lower-ways = (lower-set, needs)
+-- ---- set_below
+pub ruleset below-ways = (below-set, needs)
 
 -- ---- left_power
 module _ (x : ℕ) (small : Fits w32 x) where

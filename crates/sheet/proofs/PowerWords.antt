@@ -24,7 +24,7 @@ use Rattle.disambiguation.proofs.Counts.{count-same}
 use Rattle.sheet.specs.Layout.{prefixWordAt, operatorsOf, prefixIn}
 use Rattle.sheet.specs.Relation.{bitOf, closesIn}
 use Rattle.sheet.specs.Kinds.{without}
-use Rattle.sheet.specs.BindingPowers.{infixIn, SetOf, outsideOf, ofMost, closersOf, leftBy}
+use Rattle.sheet.specs.BindingPowers.{infixIn, SetOf, outsideOf, capped, closersOf, leftBy}
 use Rattle.sheet.proofs.Bits.{bit-and, bit-not, bit-zero}
 use Rattle.sheet.proofs.PrefixWord.{where-bit, bit-without, class-in}
 use Rattle.sheet.proofs.WordTests.{closes-bit}
@@ -68,10 +68,10 @@ pub set-ones : (test : ℕ → Bool) (x : ℕ) → x < 2 ^ mostOperators → Set
 set-ones test x h s = ones-count mostOperators x h ∙ count-same mostOperators (bitOf x) test (s .bit)
 
 -- ---- the set of the infix operators
-of-most : (n c : ℕ) → c < mostOperators → ltb c (ofMost n) ≡ ltb c n
-of-most n c h = go (decLt mostOperators n)
+capped-below : (n c : ℕ) → c < mostOperators → ltb c (capped n) ≡ ltb c n
+capped-below n c h = go (decLt mostOperators n)
   where
-    go : Dec (mostOperators < n) → ltb c (ofMost n) ≡ ltb c n
+    go : Dec (mostOperators < n) → ltb c (capped n) ≡ ltb c n
     go (yes l) = ap (λ b. ltb c (cond b mostOperators n)) (lt-ltb mostOperators n l) ∙ lt-ltb c mostOperators h ∙ sym (lt-ltb c n (omega arith))
     go (no l) = ap (λ b. ltb c (cond b mostOperators n)) (le-ltb mostOperators n (omega (arith, l)))
 
@@ -98,20 +98,20 @@ infix-told sheet c h = go (decLt c (operatorsOf sheet .count))
         ap (λ b. b && not (bitOf (getD sheet prefixWordAt 0) c)) (le-ltb c (operatorsOf sheet .count) (omega (arith, l)))
         ∙ sym (none-beyond (operatorsOf sheet) c h (omega (arith, l)))
 
-pub infix-set : (sheet : List ℕ) {m x : ℕ} → m ≡ ofMost (operatorsOf sheet .count) → SetOf (outsideOf m (getD sheet prefixWordAt 0)) x
+pub infix-set : (sheet : List ℕ) {m x : ℕ} → m ≡ capped (operatorsOf sheet .count) → SetOf (outsideOf m (getD sheet prefixWordAt 0)) x
     → SetOf (infixIn sheet) x
 unfolding infixIn outsideOf
 infix-set sheet e s =
     record {
       bit = λ c h.
-          s .bit c h ∙ ap (λ b. b && not (bitOf (getD sheet prefixWordAt 0) c)) (ap (ltb c) e ∙ of-most (operatorsOf sheet .count) c h) ∙ infix-told sheet c h;
+          s .bit c h ∙ ap (λ b. b && not (bitOf (getD sheet prefixWordAt 0) c)) (ap (ltb c) e ∙ capped-below (operatorsOf sheet .count) c h) ∙ infix-told sheet c h;
     }
 
 -- ---- the set of those that an operator lies above
-pub lower-set : (sheet : List ℕ) (a : ℕ) {x y z : ℕ} → a < mostOperators → Fits w32 y → SetOf (infixIn sheet) x → y ≡ closersOf sheet a
+pub below-set : (sheet : List ℕ) (a : ℕ) {x y z : ℕ} → a < mostOperators → Fits w32 y → SetOf (infixIn sheet) x → y ≡ closersOf sheet a
     → z ≡ without (getD sheet a 0) y → SetOf (below (operatorsOf sheet) (closesIn sheet) a) (bitAnd x z)
 unfolding below infixIn
-lower-set sheet a {x} {y} {z} ha small among e f =
+below-set sheet a {x} {y} {z} ha small among e f =
     record {
       bit = λ c h.
           bit-and x z c

@@ -33,6 +33,7 @@ givenIn sheet a = given (leftPower (operatorsOf sheet) (closesIn sheet) a) (righ
 unfoldable pub powersIn : List ℕ → ℕ → Powers
 powersIn sheet a = cond (infixIn sheet a) (givenIn sheet a) notInfix
 
+-- ---- inside the call
 -- The word is the set of the operators of which the test holds.
 pub record SetOf (test : ℕ → Bool) (word : ℕ) : Type 0 where
   pub bit : (c : ℕ) → c < mostOperators → bitOf word c ≡ test c
@@ -41,9 +42,9 @@ pub record SetOf (test : ℕ → Bool) (word : ℕ) : Type 0 where
 unfoldable pub outsideOf : ℕ → ℕ → ℕ → Bool
 outsideOf n set c = ltb c n && not (bitOf set c)
 
--- of so many operators, how many are of the 32 that there can be
-abbrev pub ofMost : ℕ → ℕ
-ofMost n = cond (ltb mostOperators n) mostOperators n
+-- a count of operators, capped at 32: words that no load makes may have a higher one
+abbrev pub capped : ℕ → ℕ
+capped n = cond (ltb mostOperators n) mostOperators n
 
 -- the set of the operators that close before a
 abbrev pub closersOf : List ℕ → ℕ → ℕ

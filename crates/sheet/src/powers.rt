@@ -5,7 +5,7 @@ ghost use Rattle.expression.specs.Limits.{mostOperators};
 ghost use Rattle.disambiguation.specs.Powers.{below};
 ghost use Rattle.sheet.specs.Layout.{operatorsOf};
 ghost use Rattle.sheet.specs.Relation.{closesIn};
-ghost use Rattle.sheet.specs.BindingPowers.{SetOf, infixIn, ofMost, closersOf, leftBy, givenBy, givenIn, notInfix, powersIn};
+ghost use Rattle.sheet.specs.BindingPowers.{SetOf, infixIn, capped, closersOf, leftBy, givenBy, givenIn, notInfix, powersIn};
 use crate::closes_before;
 use crate::layout::PREFIX_WORD;
 use crate::layout::SHEET_WORDS;
@@ -22,9 +22,9 @@ pub struct Powers {
     pub right: u8,
 }
 
-// How many operators the sheet has, of the 32 that there can be.
-fn count_of_most(sheet: &[u32; SHEET_WORDS]) -> u8
-    ensures { λ r. ⌜ r ≡ ofMost (operatorsOf (now (sheet .entry)) .count) ⌝ }
+// The count of operators, capped at 32.
+fn capped_count(sheet: &[u32; SHEET_WORDS]) -> u8
+    ensures { λ r. ⌜ r ≡ capped (operatorsOf (now (sheet .entry)) .count) ⌝ }
 {
     let n = operator_count(sheet);
     if MOST_OPERATORS < n {
@@ -37,7 +37,7 @@ fn count_of_most(sheet: &[u32; SHEET_WORDS]) -> u8
 fn infixes(sheet: &[u32; SHEET_WORDS]) -> u32
     ensures { λ r. ⌜ SetOf (infixIn (now (sheet .entry))) r ⌝ }
 {
-    words::outside(count_of_most(sheet) as usize, sheet[PREFIX_WORD])
+    words::outside(capped_count(sheet) as usize, sheet[PREFIX_WORD])
 }
 
 // The set of the operators that close before a.
@@ -54,7 +54,7 @@ fn closers(sheet: &[u32; SHEET_WORDS], a: u8) -> u32
 }
 
 // The set of the infix operators that a lies above: it closes before them, and they do not close before it.
-fn lower(sheet: &[u32; SHEET_WORDS], a: u8) -> u32
+fn set_below(sheet: &[u32; SHEET_WORDS], a: u8) -> u32
     requires { ⌜ a < mostOperators ⌝ }
     ensures { λ r. ⌜ SetOf (below (operatorsOf (now (sheet .entry))) (closesIn (now (sheet .entry))) a) r ⌝ }
 {
@@ -103,7 +103,7 @@ fn powers_of_infix(sheet: &[u32; SHEET_WORDS], a: u8) -> Powers
     requires { ⌜ a < mostOperators ⌝ }
     ensures { λ r. ⌜ r ≡ givenIn (now (sheet .entry)) a ⌝ }
 {
-    given(left_power(lower(sheet, a)), closes_before(sheet, a, a))
+    given(left_power(set_below(sheet, a)), closes_before(sheet, a, a))
 }
 
 // The powers of an operator.
