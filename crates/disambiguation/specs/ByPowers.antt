@@ -40,17 +40,20 @@ wholeRow (some (t, [])) = some t
 wholeRow (some (t, c ∷ rest)) = none
 
 module _ (k : ℕ → Class) (left right : ℕ → ℕ) where
-  -- with so many calls within each other at most
+  -- The first argument bounds how many calls lie within each other.
   unfoldable mutual
+    -- an operand, and on from there
     pub expression : ℕ → ℕ → List ℕ → Found
     expression zero floor tokens = none
     expression (suc n) floor tokens = andThen (operand n tokens) (λ t rest. onward n floor t rest)
 
+    -- a reading, or an expression in brackets
     pub operand : ℕ → List ℕ → Found
     operand zero tokens = none
     operand (suc n) [] = none
     operand (suc n) (c ∷ tokens) = operandFrom (k c) c tokens (expression n 0 tokens)
 
+    -- from what has been read on, as long as an operator is over the floor
     pub onward : ℕ → ℕ → Tree → List ℕ → Found
     onward zero floor t tokens = none
     onward (suc n) floor t [] = some (t, [])
