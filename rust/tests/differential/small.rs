@@ -1,8 +1,9 @@
 //! Every sheet of three operators with prefix ones among them, by rules of sides: the number of its staging, and under an accepted
-//! one the trees of all short rows.
+//! one the powers of the operators and the trees of all short rows.
 use crate::both;
 use crate::theory::kinds_of_bits;
 use crate::tree::{INFIX, PREFIX};
+use tihvomen::Refusal;
 
 const OPERATORS: u8 = 3;
 
@@ -43,6 +44,14 @@ fn numbers(kinds: &[u8]) -> [usize; 6] {
         let (number, sheet, panel) = both::switched_in(kinds, &rules);
         seen[usize::from(number)] += 1;
         if number == 0 {
+            for operator in 0..=OPERATORS {
+                let powers = panel.powers(operator).map(|powers| [powers.left, powers.right]);
+                assert_eq!(
+                    powers.map_err(Refusal::number),
+                    sheet.powers(operator),
+                    "{operator} {kinds:02x?} {rules:02x?}"
+                );
+            }
             for operators in (0..=FEW_OPERATORS).flat_map(lists) {
                 let row = row(kinds, &operators);
                 let record = sheet.tree_of(&row).record();
