@@ -56,7 +56,7 @@ static inline const char *panel_word(enum panel_number number) {
     case PANEL_OVERSIZE: return "oversize: more operators, rules, tokens or bytes than the panel takes";
     case PANEL_TORN:
         return "torn: the kind bytes are not as many as the operators, or the rule bytes not a multiple of three";
-    case PANEL_STRANGER: return "stranger: a byte without meaning here, or an operator or kind that is not known";
+    case PANEL_STRANGER: return "stranger: a byte, an operator or a kind that has no meaning here";
     case PANEL_DEAD: return "dead: under these rules some row has no conflict-free tree";
     case PANEL_DOUBLE: return "double: under these rules some row has two or more conflict-free trees";
     case PANEL_NO_ROW: return "no row: the tokens are not one expression";

@@ -91,7 +91,7 @@ impl fmt::Display for Refusal {
             Refusal::Torn => {
                 "torn: the kind bytes are not as many as the operators, or the rule bytes not a multiple of three"
             }
-            Refusal::Stranger => "stranger: a byte without meaning here, or an operator or kind that is not known",
+            Refusal::Stranger => "stranger: a byte, an operator or a kind that has no meaning here",
             Refusal::Dead => "dead: under these rules some row has no conflict-free tree",
             Refusal::Double => "double: under these rules some row has two or more conflict-free trees",
             Refusal::NoRow => "no row: the tokens are not one expression",

@@ -2,7 +2,7 @@
 use Prim.Native.Nat.{ℕ, _<_, _≤_}
 use native.Mathlib.Omega.{arith}
 use mathlib.Core.Path.{_≡_, ap, ap₂, _∙_}
-use mathlib.Core.Bool.{true, false, cond}
+use mathlib.Core.Bool.{true, cond}
 use mathlib.Core.Logic.{_↔_}
 use mathlib.Core.Option.{some}
 use mathlib.Core.List.{List}
@@ -17,7 +17,6 @@ use Rattle.disambiguation.proofs.Free.{is-false}
 use Rattle.disambiguation.proofs.Standing.{infix-class}
 use Rattle.disambiguation.proofs.Powers.{left-same, right-same, ladder}
 use Rattle.disambiguation.proofs.ByPowers.{reads-conflict-free}
-use Rattle.sheet.specs.Layout.{operatorsOf}
 use Rattle.sheet.specs.Relation.{closesIn}
 use Rattle.sheet.specs.InForce.{InForce}
 use Rattle.sheet.specs.BindingPowers.{infixIn, given, notInfix, givenIn, powersIn}
