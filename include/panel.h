@@ -72,7 +72,7 @@ struct panel_part {
     size_t length;
 };
 
-/* The number of an operator, and its binding powers; both are 0 after a refusal. */
+/* The number of the call, and the binding powers of the operator; both are 0 after a refusal. */
 struct panel_powers {
     enum panel_number number;
     uint8_t left;
