@@ -4,12 +4,11 @@ use native.Mathlib.Nat.{lt-of-not-le}
 use native.Mathlib.Omega.{arith}
 use native.Mathlib.Numerals.{one-add}
 use mathlib.Core.Path.{_≡_, refl, ap, sym, _∙_}
-use mathlib.Core.Bool.{Bool, true, false, _&&_, true≢false}
+use mathlib.Core.Bool.{Bool, true, false, true≢false}
 use mathlib.Core.Logic.{_↔_}
 use mathlib.Core.Option.{some}
 use mathlib.Core.List.{List, [], _∷_, _++_, append-assoc, append-nil}
 use borrow.Author.Tests.{lt-ltb, le-ltb}
-use lib.Dec.{ltb}
 use lib.ListN.{length, length-append}
 use Rattle.expression.specs.Lists.{All}
 use Rattle.expression.specs.Refusal.{accepted}
@@ -20,8 +19,7 @@ use Rattle.disambiguation.specs.Edges.{rightEdge, leftEdge}
 use Rattle.disambiguation.specs.Rules.{Rule, L, R}
 use Rattle.disambiguation.specs.Conflicts.{ConflictFreeTree}
 use Rattle.disambiguation.specs.Verdict.{verdict}
-use Rattle.disambiguation.specs.Powers.{isInfix}
-use Rattle.disambiguation.specs.ByPowers.{andThen, shut, operandFrom, wholeRow, expression, operand, onward, readByPowers}
+use Rattle.disambiguation.specs.ByPowers.{andThen, shut, operandFrom, wholeRow, isOver, expression, operand, onward, readByPowers}
 use Rattle.disambiguation.proofs.Free.{all, all-map}
 use Rattle.disambiguation.proofs.Plain.{Plain, plain-of-row}
 use Rattle.disambiguation.proofs.Follows.{Follows}
@@ -59,7 +57,7 @@ module _ (k : ℕ → Class) (brackets : Brackets k) (closes : ℕ → ℕ → B
   -- an expression over the floor ends before these tokens
   abbrev Ends : ℕ → List ℕ → Type 0
   Ends floor [] = Unit {0}
-  Ends floor (b ∷ rest) = (isInfix (k b) && ltb floor (left b)) ≡ false
+  Ends floor (b ∷ rest) = isOver k left right floor b ≡ false
 
   ends : (n floor : ℕ) (t : Tree) (rest : List ℕ) → 1 ≤ n → Ends floor rest → onward k left right n floor t rest ≡ some (t, rest)
   unfolding onward

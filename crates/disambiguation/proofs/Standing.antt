@@ -14,13 +14,17 @@ use Rattle.disambiguation.proofs.Free.{is-false, is-true}
 use Rattle.disambiguation.proofs.Conditions.{waits, takes, Transitive, Cotransitive}
 use Rattle.disambiguation.proofs.Counts.{count-within, count-less}
 
-pub infix-class : (x : Class) → isInfix x ≡ true → x ≡ Infix
+-- the test for infix operators
+infix-class : (x : Class) → isInfix x ≡ true → x ≡ Infix
 infix-class Infix e = refl
 infix-class Prefix e = absurd (false≢true e)
 infix-class Opening e = absurd (false≢true e)
 infix-class Closing e = absurd (false≢true e)
 infix-class Reading e = absurd (false≢true e)
 infix-class Meaningless e = absurd (false≢true e)
+
+pub not-infix : (x : Class) → (x ≡ Infix → ⊥) → isInfix x ≡ false
+not-infix x h = is-false (isInfix x) (λ e. h (infix-class x e))
 
 module _ (ops : Operators) (R : ℕ → ℕ → Bool) where
   abbrev Infixed : ℕ → Type 0

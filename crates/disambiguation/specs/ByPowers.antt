@@ -2,7 +2,7 @@
 --     An expression is read on behalf of the operator before it, whose right power is the floor; in front of the row, and of what is in brackets, the floor is 0. After an
 --     operand, an infix operator whose left power is over the floor takes what has been read as its left operand, and reads its right one; at any other token the expression ends.
 use Prim.Native.Nat.{ℕ, zero, suc, _*_}
-use mathlib.Core.Bool.{_&&_, cond}
+use mathlib.Core.Bool.{Bool, _&&_, cond}
 use mathlib.Core.Option.{Option, none, some}
 use mathlib.Core.List.{List, [], _∷_}
 use lib.Dec.{eqb, ltb}
@@ -40,6 +40,10 @@ wholeRow (some (t, [])) = some t
 wholeRow (some (t, c ∷ rest)) = none
 
 module _ (k : ℕ → Class) (left right : ℕ → ℕ) where
+  -- the token is an infix operator whose left power is over the floor
+  abbrev pub isOver : ℕ → ℕ → Bool
+  isOver floor b = isInfix (k b) && ltb floor (left b)
+
   -- The first argument bounds how many calls lie within each other.
   unfoldable mutual
     -- an operand, and on from there
@@ -58,7 +62,7 @@ module _ (k : ℕ → Class) (left right : ℕ → ℕ) where
     onward zero floor t tokens = none
     onward (suc n) floor t [] = some (t, [])
     onward (suc n) floor t (b ∷ tokens) =
-        cond (isInfix (k b) && ltb floor (left b)) (andThen (expression n (right b) tokens) (λ u rest. onward n floor (binary b t u) rest)) (some (t, b ∷ tokens))
+        cond (isOver floor b) (andThen (expression n (right b) tokens) (λ u rest. onward n floor (binary b t u) rest)) (some (t, b ∷ tokens))
 
   -- The tree that is read of a row: two calls a token are enough.
   unfoldable pub readByPowers : List ℕ → Option Tree

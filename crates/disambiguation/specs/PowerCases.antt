@@ -19,7 +19,7 @@ pub record Powered : Type 0 where
 abbrev has : ℕ → ℕ → ℕ → Powered
 has operator left right = record { operator = operator; left = left; right = right }
 
--- a sheet with all of its infix operators
+-- a sheet and its infix operators
 pub record Case : Type 0 where
   pub sheet : Sheet
   pub powered : List Powered
@@ -55,7 +55,7 @@ level =
     }
 
 -- or, and, not: 02 over 01 over 00
-abbrev pub orAndNot : Sheet
+abbrev orAndNot : Sheet
 orAndNot = record { kinds = infixKind ∷ infixKind ∷ prefixKind ∷ []; bytes = priority ∷ 2 ∷ 1 ∷ priority ∷ 1 ∷ 0 ∷ left ∷ 1 ∷ 1 ∷ left ∷ 0 ∷ 0 ∷ [] }
 
 -- the prefix operator between the two infix ones: 02 over 01 over 00

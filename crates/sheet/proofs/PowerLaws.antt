@@ -13,8 +13,7 @@ use Rattle.disambiguation.specs.Rules.{Rule, R}
 use Rattle.disambiguation.specs.Conflicts.{ConflictFreeTree}
 use Rattle.disambiguation.specs.Powers.{isInfix, leftPower, rightPower, Ladder}
 use Rattle.disambiguation.specs.ByPowers.{readByPowers}
-use Rattle.disambiguation.proofs.Free.{is-false}
-use Rattle.disambiguation.proofs.Standing.{infix-class}
+use Rattle.disambiguation.proofs.Standing.{not-infix}
 use Rattle.disambiguation.proofs.Powers.{left-same, right-same, ladder}
 use Rattle.disambiguation.proofs.ByPowers.{reads-conflict-free}
 use Rattle.sheet.specs.Relation.{closesIn}
@@ -36,7 +35,7 @@ module _ (sheet : List ℕ) (ops : Operators) (rules : List Rule) (k : InForce s
   unfolding powersIn infixIn
   powers-refused a h =
       ap (λ b. cond b (givenIn sheet a) notInfix)
-      (ap (λ m. isInfix (class m a)) (k .operators) ∙ is-false (isInfix (class ops a)) (λ e. h (infix-class (class ops a) e)))
+      (ap (λ m. isInfix (class m a)) (k .operators) ∙ not-infix (class ops a) h)
 
   pub ladder-in-force : Ladder ops (R rules)
   ladder-in-force = ladder ops rules (k .accepts)

@@ -11,18 +11,14 @@ use mir.Syntax.{w8, w32}
 use lib.Count.{ones, ones-le}
 use lib.Dec.{ltb}
 use Rattle.expression.specs.Limits.{mostOperators}
-use Rattle.expression.specs.Token.{class}
-use Rattle.expression.proofs.Classes.{infix-byte}
 use Rattle.disambiguation.specs.Powers.{below, rightPower}
-use Rattle.disambiguation.proofs.Free.{is-false}
-use Rattle.disambiguation.proofs.Standing.{infix-class}
 use Rattle.sheet.specs.Layout.{operatorsOf}
 use Rattle.sheet.specs.Relation.{bitOf, closesIn}
 use Rattle.sheet.specs.Kinds.{withBit, wordWhere}
 use Rattle.sheet.specs.BindingPowers.{infixIn, given, notInfix, givenIn, powersIn, SetOf, capped, closersOf, leftBy, givenBy}
 use Rattle.sheet.specs.declared.powers.Powers.{Powers}
 use Rattle.sheet.proofs.KindWays.{none-yet, one-more}
-use Rattle.sheet.proofs.PowerWords.{outside-set, infix-set, below-set, left-by-set}
+use Rattle.sheet.proofs.PowerWords.{outside-set, none-beyond, infix-set, below-set, left-by-set}
 
 -- ---- words::outside
 pub ruleset outside-ways = (outside-set, needs)
@@ -115,8 +111,7 @@ module _ (sheet : List ℕ) (a : ℕ) {r : Powers} where
 
 pub beyond-operators : (sheet : List ℕ) (a : ℕ) → mostOperators ≤ a → infixIn sheet a ≡ false
 unfolding infixIn
-beyond-operators sheet a h =
-    is-false (infixIn sheet a) (λ i. let l = infix-byte (operatorsOf sheet) a (infix-class (class (operatorsOf sheet) a) i) .0 in absurd (omega arith))
+beyond-operators sheet a h = none-beyond (operatorsOf sheet) a (λ p. omega (arith, p .0))
 
 pub told-infix : (sheet : List ℕ) (a x : ℕ) {t : Bool} (z : Bool) → a < mostOperators → SetOf (infixIn sheet) x → t ≡ bitOf x a → t ≡ z → infixIn sheet a ≡ z
 told-infix sheet a x z few among told e = sym (among .bit a few) ∙ sym told ∙ e

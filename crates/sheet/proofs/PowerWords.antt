@@ -18,9 +18,11 @@ use lib.Pow.{pow-pos, pow-mono, ones-lt, split, shr-lt}
 use Rattle.expression.specs.Limits.{mostOperators}
 use Rattle.expression.specs.Lists.{oneIf}
 use Rattle.expression.specs.Token.{Infix, Prefix, Operators, class}
+use Rattle.expression.proofs.Classes.{infix-byte}
 use Rattle.disambiguation.specs.Below.{countBelow}
 use Rattle.disambiguation.specs.Powers.{isInfix, below, leftPower}
 use Rattle.disambiguation.proofs.Counts.{count-same}
+use Rattle.disambiguation.proofs.Standing.{not-infix}
 use Rattle.sheet.specs.Layout.{prefixWordAt, operatorsOf, prefixIn}
 use Rattle.sheet.specs.Relation.{bitOf, closesIn}
 use Rattle.sheet.specs.Kinds.{without}
@@ -28,6 +30,7 @@ use Rattle.sheet.specs.BindingPowers.{infixIn, SetOf, outsideOf, capped,
 use Rattle.sheet.proofs.Bits.{bit-and, bit-not, bit-zero}
 use Rattle.sheet.proofs.PrefixWord.{where-bit, bit-without, class-in}
 use Rattle.sheet.proofs.WordTests.{closes-bit}
+use Rattle.sheet.proofs.Testing.{prefix-bit}
 
 -- ---- the mask of all below n, and a word under it
 mask-bit : (n c : ℕ) → bitOf (2 ^ n - 1) c ≡ ltb c n
@@ -75,28 +78,24 @@ capped-below n c h = go (decLt mostOperators n)
     go (yes l) = ap (λ b. ltb c (cond b mostOperators n)) (lt-ltb mostOperators n l) ∙ lt-ltb c mostOperators h ∙ sym (lt-ltb c n (omega arith))
     go (no l) = ap (λ b. ltb c (cond b mostOperators n)) (le-ltb mostOperators n (omega (arith, l)))
 
-none-beyond : (ops : Operators) (c : ℕ) → c < mostOperators → ops .count ≤ c → isInfix (class ops c) ≡ false
-unfolding class
-none-beyond ops c h l = rw (lt-ltb c mostOperators h, le-ltb c (ops .count) l)
+-- none is infix that is not below the count
+pub none-beyond : (ops : Operators) (c : ℕ) → ((c < mostOperators) × (c < ops .count) → ⊥) → isInfix (class ops c) ≡ false
+none-beyond ops c h = not-infix (class ops c) (λ e. h (infix-byte ops c e))
 
 infix-told : (sheet : List ℕ) (c : ℕ) → c < mostOperators → (ltb c (operatorsOf sheet .count) && not (bitOf (getD sheet prefixWordAt 0) c)) ≡ isInfix (class (operatorsOf sheet) c)
-unfolding prefixIn
 infix-told sheet c h = go (decLt c (operatorsOf sheet .count))
   where
-    in-word : prefixIn sheet c ≡ bitOf (getD sheet prefixWordAt 0) c
-    in-word = ap (λ b. b && bitOf (getD sheet prefixWordAt 0) c) (lt-ltb c mostOperators h)
-
     of-kind : (b : Bool) → not b ≡ isInfix (cond b Prefix Infix)
     of-kind true = refl
     of-kind false = refl
 
     go : Dec (c < operatorsOf sheet .count) → (ltb c (operatorsOf sheet .count) && not (bitOf (getD sheet prefixWordAt 0) c)) ≡ isInfix (class (operatorsOf sheet) c)
     go (yes l) =
-        ap (λ b. b && not (bitOf (getD sheet prefixWordAt 0) c)) (lt-ltb c (operatorsOf sheet .count) l) ∙ ap not (sym in-word) ∙ of-kind (prefixIn sheet c)
+        ap (λ b. b && not (bitOf (getD sheet prefixWordAt 0) c)) (lt-ltb c (operatorsOf sheet .count) l) ∙ ap not (prefix-bit sheet c h refl) ∙ of-kind (prefixIn sheet c)
         ∙ ap isInfix (sym (class-in sheet c h l))
     go (no l) =
         ap (λ b. b && not (bitOf (getD sheet prefixWordAt 0) c)) (le-ltb c (operatorsOf sheet .count) (omega (arith, l)))
-        ∙ sym (none-beyond (operatorsOf sheet) c h (omega (arith, l)))
+        ∙ sym (none-beyond (operatorsOf sheet) c (λ p. l (p .1)))
 
 pub infix-set : (sheet : List ℕ) {m x : ℕ} → m ≡ capped (operatorsOf sheet .count) → SetOf (outsideOf m (getD sheet prefixWordAt 0)) x
     → SetOf (infixIn sheet) x
