@@ -1,4 +1,4 @@
-//! Binding powers: worked out by hand, held against the trees that the panel builds, and used by a parser.
+//! Binding powers, worked out by hand.
 //!
 //! "Show that a closes before b exactly when b's left power is at most a's right power, and so that each accepted infix sheet is a
 //! ladder of levels, each level wholly left or wholly right."
@@ -51,24 +51,12 @@ fn grouped(group: &[usize]) -> Vec<Rule> {
     (0..group.len()).flat_map(|a| (0..group.len()).filter_map(move |b| rule(a, b))).collect()
 }
 
-/// Numbers below a bound, all from one seed.
-struct Numbers(u64);
-
-impl Numbers {
-    fn below(&mut self, bound: usize) -> usize {
-        self.0 = self.0.wrapping_mul(6_364_136_223_846_793_005).wrapping_add(1_442_695_040_888_963_407);
-        (self.0 >> 33) as usize % bound
-    }
-}
-
-/// Sheets of many sizes in groups of operators, with prefix ones among them or without: the groups, the kinds, the panel.
+/// Sheets of 32 operators in groups of equal size, without prefix ones and with some: the groups, the kinds, the panel.
 fn sheets() -> impl Iterator<Item = (Vec<usize>, Vec<u8>, Panel)> {
-    (0..120u64).map(|seed| {
-        let mut numbers = Numbers(seed);
-        let n = 1 + numbers.below(32);
-        let groups = 1 + numbers.below(n);
-        let group: Vec<usize> = (0..n).map(|_| numbers.below(groups)).collect();
-        let kinds: Vec<u8> = (0..n).map(|_| u8::from(seed % 3 == 0 && numbers.below(4) == 0)).collect();
+    (0..2 * MOST_OPERATORS).map(|case| {
+        let (size, prefixed) = (1 + usize::from(case / 2), case % 2 == 1);
+        let group: Vec<usize> = (0..usize::from(MOST_OPERATORS)).map(|operator| operator / size).collect();
+        let kinds: Vec<u8> = (0..MOST_OPERATORS).map(|operator| u8::from(prefixed && operator % 5 == 3)).collect();
         let panel = panel(&kinds, &grouped(&group));
         (group, kinds, panel)
     })
@@ -87,92 +75,15 @@ fn powers_of_groups() {
             .collect();
         assert_eq!(powers(&panel), told);
     }
-    let alone: Vec<usize> = (0..usize::from(MOST_OPERATORS)).map(|operator| 2 * operator).collect();
-    let highest = panel(&[INFIX; MOST_OPERATORS as usize], &grouped(&alone));
-    assert_eq!(highest.powers(0), Ok(Powers { left: 64, right: 64 }));
-    assert_eq!(highest.powers(31), Ok(Powers { left: 2, right: 2 }));
 }
 
-/// In the tree of `80 a 81 b 82` b is on top exactly if a closes before b.
+/// "64 is the highest": of operators that each lie above all that follow.
 #[test]
-fn powers_tell_what_is_built() {
-    let mut out = [0; 5];
-    for (group, kinds, panel) in sheets() {
-        let infix: Vec<u8> = (0..group.len() as u8).filter(|&a| kinds[usize::from(a)] == INFIX).collect();
-        for &a in &infix {
-            for &b in &infix {
-                assert_eq!(panel.build_into(&[0x80, a, 0x81, b, 0x82], &mut out), Ok(5));
-                let closes = panel.powers(b).unwrap().left <= panel.powers(a).unwrap().right;
-                assert_eq!(out == [b, a, 0x80, 0x81, 0x82], closes);
-                assert_eq!(out == [a, 0x80, b, 0x81, 0x82], !closes);
-            }
-        }
-    }
-}
-
-/// A parser that knows the powers and nothing else of the sheet: the record of the expression at the front of the tokens, as far as
-/// its operators have a left power over the floor. The tokens are a row, and what is left of them stays.
-fn parsed(panel: &Panel, tokens: &mut &[u8], floor: u8) -> Vec<u8> {
-    let mut record = operand(panel, tokens);
-    while let Some(powers) = tokens.first().and_then(|&token| panel.powers(token).ok()).filter(|it| it.left > floor) {
-        let operator = tokens[0];
-        *tokens = &tokens[1..];
-        record = [vec![operator], record, parsed(panel, tokens, powers.right)].concat();
-    }
-    record
-}
-
-fn operand(panel: &Panel, tokens: &mut &[u8]) -> Vec<u8> {
-    let first = tokens[0];
-    *tokens = &tokens[1..];
-    if first != tihvomen::OPENING {
-        return vec![first];
-    }
-    let inside = parsed(panel, tokens, 0);
-    *tokens = &tokens[1..];
-    [vec![first], inside].concat()
-}
-
-/// A row of so many operands with operators between them; one operand in six is in brackets.
-fn row(numbers: &mut Numbers, infix: &[u8], operands: usize) -> Vec<u8> {
-    let mut row = Vec::new();
-    for left in (0..operands).rev() {
-        if numbers.below(6) == 0 {
-            let inside = 1 + numbers.below(3);
-            row.push(tihvomen::OPENING);
-            row.extend(self::row(numbers, infix, inside));
-            row.push(tihvomen::CLOSING);
-        } else {
-            row.push(0x80 + numbers.below(0x80) as u8);
-        }
-        if left > 0 {
-            row.push(infix[numbers.below(infix.len())]);
-        }
-    }
-    row
-}
-
-/// A parser by powers reads a row of infix operators as the panel does.
-#[test]
-fn a_parser_by_powers() {
-    let mut numbers = Numbers(7);
-    let mut rows = 0;
-    for (group, kinds, panel) in sheets() {
-        let infix: Vec<u8> = (0..group.len() as u8).filter(|&a| kinds[usize::from(a)] == INFIX).collect();
-        for operands in (1..=if infix.is_empty() { 1 } else { 40 }).rev() {
-            let row = row(&mut numbers, &infix, operands);
-            let mut out = [0; 255];
-            let Ok(length) = panel.build_into(&row, &mut out) else {
-                assert!(row.len() > 255);
-                continue;
-            };
-            let mut tokens = &row[..];
-            assert_eq!(parsed(&panel, &mut tokens, 0), out[..length], "{row:02x?}");
-            assert!(tokens.is_empty());
-            rows += 1;
-        }
-    }
-    assert!(rows > 3000, "{rows}");
+fn the_highest_power() {
+    let (_, _, panel) = sheets().next().unwrap();
+    assert_eq!(panel.powers(0), Ok(Powers { left: 64, right: 64 }));
+    assert_eq!(panel.powers(1), Ok(Powers { left: 62, right: 61 }));
+    assert_eq!(panel.powers(31), Ok(Powers { left: 2, right: 1 }));
 }
 
 /// "3, also for an operator that isn't infix": for every byte that is no infix operator of the sheet in force, whatever is staged.
