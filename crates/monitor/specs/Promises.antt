@@ -146,7 +146,7 @@ module _ (cs : List Call) where
     -- An infix operator a closes before an infix operator b exactly if b's left power is at most a's right power; the operators of one left power are a level, of two levels
     -- one lies wholly above the other, and each is wholly left or wholly right.
     pub ladder : Ladder ops (R rules)
-    -- A parser by the powers that are answered reads each row of infix operators, of any length, as its conflict-free tree, which is what the panel builds.
+    -- A parser by the powers that are answered reads each row of infix operators, of any length, as its conflict-free tree: within the lengths, what the panel builds.
     pub parsed : (row : List ℕ) → Row ops row → OfInfix ops rules row
         → (t : Tree) × ConflictFreeTree ops rules row t
         × (readByPowers (class ops) (λ a. powersIn (panelAfter cs .sheet) a .left) (λ a. powersIn (panelAfter cs .sheet) a .right) row ≡ some t)
