@@ -1,5 +1,5 @@
 -- The lengths of rows and records. Assumes nothing.
-use Prim.Native.Nat.{ℕ, _+_}
+use Prim.Native.Nat.{ℕ, _+_, _≤_}
 use native.Mathlib.Omega.{arith}
 use mathlib.Core.Path.{_≡_, ap, sym, _∙_}
 use mathlib.Core.Bool.{Bool, true, false, not, true≢false}
@@ -15,6 +15,7 @@ use Rattle.expression.specs.Decode.{treeOf}
 use Rattle.expression.specs.Checks.{recordBytes, rowTokens}
 use Rattle.expression.proofs.Classes.{Brackets}
 use Rattle.expression.proofs.RecordsAndTrees.{record-treeOf}
+use Rattle.expression.proofs.Tests.{at-most-one}
 
 pub count-append : {A : Type 0} (p : A → Bool) (xs ys : List A) → howMany p (xs ++ ys) ≡ howMany p xs + howMany p ys
 count-append p [] ys = omega arith
@@ -25,6 +26,11 @@ isOpening c = eqb c opening
 
 abbrev notClosing : ℕ → Bool
 notClosing c = not (eqb c closing)
+
+-- A row's record has no more bytes than the row has tokens.
+pub few-bytes : (row : List ℕ) → recordBytes row ≤ length row
+few-bytes [] = omega arith
+few-bytes (c ∷ cs) = omega (arith, at-most-one (notClosing c), few-bytes cs)
 
 abbrev isBracket : Class → Bool
 isBracket Infix = false

@@ -59,6 +59,13 @@ noReading = 14
 abbrev pub nothingStaged : ℕ
 nothingStaged = 15
 
+-- those of a row with a claimed record: the record's row is another, the record has a conflict
+abbrev pub otherRow : ℕ
+otherRow = 16
+
+abbrev pub conflict : ℕ
+conflict = 17
+
 -- One line of a call's list: whether it applies, and its number.
 abbrev pub Check : Type 0
 Check = Bool × ℕ

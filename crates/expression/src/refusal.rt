@@ -30,3 +30,7 @@ pub const NO_MEANING: u8 = 13;
 pub const NO_READING: u8 = 14;
 
 pub const NOTHING_STAGED: u8 = 15;
+
+pub const OTHER_ROW: u8 = 16;
+
+pub const CONFLICT: u8 = 17;

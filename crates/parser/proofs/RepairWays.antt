@@ -58,7 +58,7 @@ module _ (ops : Operators) (bytes : List ℕ) where
       (λ e. let a = accepted-record e in omega (arith, a .fits, a .tokens))
 
 module _ (sheet bytes out row : List ℕ) {row′ : List ℕ} {y : Answer} (room : mostTokens ≤ length row) (yields : Yields (operatorsOf sheet) bytes row row′ y) where
-  number-is : y .number ≡ recordNumber (operatorsOf sheet) bytes
+  pub number-is : y .number ≡ recordNumber (operatorsOf sheet) bytes
   number-is = yields .numbered ∙ yield-number (operatorsOf sheet) bytes (length row) room
 
   pub repair-refused : (y .number ≡ 0 → ⊥) → AnswersRepair sheet bytes out out (record { number = y .number; length = 0 })
@@ -90,7 +90,7 @@ module _ (sheet bytes out row : List ℕ) {row′ : List ℕ} {y : Answer} (room
     filled : row′ ≡ rowHere (operatorsOf sheet) bytes ++ drop (length (rowHere (operatorsOf sheet) bytes)) row
     filled = yields .output ∙ rw zero
 
-    laid : take (y .length - 0) row′ ≡ rowHere (operatorsOf sheet) bytes
+    pub laid : take (y .length - 0) row′ ≡ rowHere (operatorsOf sheet) bytes
     laid =
         ap (take (y .length - 0)) filled
         ∙ take-at (rowHere (operatorsOf sheet) bytes) (drop (length (rowHere (operatorsOf sheet) bytes)) row) (y .length - 0) (omega (arith, tokens-are))
