@@ -2,7 +2,7 @@
 ghost use mathlib.Core.Path.{_≡_};
 ghost use Rattle.sheet.specs.Layout.{operatorsOf};
 ghost use Rattle.sheet.specs.BindingPowers.{powersIn};
-ghost use Rattle.monitor.specs.Call.{stage, switch, putRow, putRecord, fetchRecord, fetchRow, image, build, repair, yield, shortestRow};
+ghost use Rattle.monitor.specs.Call.{stage, switch, putRow, putRecord, putClaim, fetchRecord, fetchRow, image, build, repair, yield, shortestRow};
 ghost use Rattle.monitor.specs.Panel.{panel};
 ghost use Rattle.monitor.specs.Contracts.{Changes, Stages, Puts, Drops, AnswersOn, AnswersUnder, AnswersFrom, Judges, NumbersOperand, PlacesOperand};
 ghost use Rattle.frame.specs.Contracts.{Replies};
@@ -64,6 +64,19 @@ pub extern "C" fn tihvomen_put_record(
     ensures { λ r. ⌜ Puts (now (sheet .entry)) (now (places .entry)) (putRecord place (now (bytes .entry))) r (now (places .exit)) ⌝ }
 {
     monitor::put_record(sheet, places, place, bytes)
+}
+
+#[no_mangle]
+pub extern "C" fn tihvomen_put_claim(
+    sheet: &[u32; SHEET_WORDS],
+    places: &mut [u8; STORE_BYTES],
+    place: u32,
+    row: &[u8],
+    bytes: &[u8],
+) -> u8
+    ensures { λ r. ⌜ Puts (now (sheet .entry)) (now (places .entry)) (putClaim place (now (row .entry)) (now (bytes .entry))) r (now (places .exit)) ⌝ }
+{
+    monitor::put_claim(sheet, places, place, row, bytes)
 }
 
 #[no_mangle]

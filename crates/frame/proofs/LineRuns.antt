@@ -6,7 +6,7 @@ use mathlib.Core.List.{List, [], _∷_}
 use mathlib.Core.Option.{Option, none, some}
 use borrow.Author.Tests.{ne-eqb}
 use Rattle.expression.specs.Refusal.{accepted, oversize}
-use Rattle.monitor.specs.Call.{Question, Call, stage, stageList, switch, putRow, putRecord, drop, ask, fetchRecord, fetchRow, image, build, repair, judge, yield, operand, shortestRow}
+use Rattle.monitor.specs.Call.{Question, Call, stage, stageList, switch, putRow, putRecord, putClaim, drop, ask, fetchRecord, fetchRow, image, build, repair, judge, yield, operand, shortestRow}
 use Rattle.monitor.specs.Panel.{Panel, ifAccepted}
 use Rattle.monitor.specs.Steps.{outcome, after}
 use Rattle.monitor.specs.Book.{Book, askedNumber, bookNumber}
@@ -83,6 +83,7 @@ module _ (p : Panel) (b : Book) (s : Stands p b) where
   said switch z = refl
   said (putRow k row) z = refl
   said (putRecord k bytes) z = refl
+  said (putClaim k row bytes) z = refl
   said (drop k) z = refl
   said (ask q) z = said-to q z
 

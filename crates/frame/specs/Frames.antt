@@ -7,7 +7,7 @@ use lib.Dec.{eqb}
 use lib.ListN.{replicate}
 use Rattle.expression.specs.Refusal.{frame}
 use Rattle.places.specs.Store.{slotBytes}
-use Rattle.monitor.specs.Call.{Question, Call, stage, stageList, switch, putRow, putRecord, drop, ask, fetchRecord, fetchRow, image, build, repair, judge, yield, operand, shortestRow}
+use Rattle.monitor.specs.Call.{Question, Call, stage, stageList, switch, putRow, putRecord, putClaim, drop, ask, fetchRecord, fetchRow, image, build, repair, judge, yield, operand, shortestRow}
 use Rattle.monitor.specs.Panel.{Panel, ifAccepted}
 use Rattle.monitor.specs.Steps.{told, outcome, after}
 
@@ -73,6 +73,7 @@ module _ (p : Panel) where
   answerOf switch = []
   answerOf (putRow k row) = []
   answerOf (putRecord k bytes) = []
+  answerOf (putClaim k row bytes) = []
   answerOf (drop k) = []
   answerOf (ask q) = toldBytes q
 

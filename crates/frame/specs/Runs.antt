@@ -7,7 +7,7 @@ use mathlib.Core.Option.{Option, none, some}
 use Rattle.expression.specs.Refusal.{accepted, oversize, frame}
 use Rattle.expression.specs.Tree.{Tree}
 use Rattle.disambiguation.specs.Conflicts.{conflictCount}
-use Rattle.monitor.specs.Call.{Question, Call, stage, stageList, switch, putRow, putRecord, drop, ask, fetchRecord, fetchRow, image, build, repair, judge, yield, operand, shortestRow}
+use Rattle.monitor.specs.Call.{Question, Call, stage, stageList, switch, putRow, putRecord, putClaim, drop, ask, fetchRecord, fetchRow, image, build, repair, judge, yield, operand, shortestRow}
 use Rattle.monitor.specs.Panel.{Panel, fresh}
 use Rattle.monitor.specs.Book.{Book, bookNumber}
 use Rattle.monitor.specs.Run.{bookAfter, Each}
@@ -51,6 +51,7 @@ module _ (b : Book) where
   Said switch answer = answer ≡ []
   Said (putRow k row) answer = answer ≡ []
   Said (putRecord k bytes) answer = answer ≡ []
+  Said (putClaim k row bytes) answer = answer ≡ []
   Said (drop k) answer = answer ≡ []
   Said (ask q) answer = SaidTo q answer
 

@@ -17,10 +17,12 @@ use Rattle.expression.specs.Decode.{treeOf}
 use Rattle.expression.specs.Operand.{rowOf}
 use Rattle.expression.specs.Checks.{shortCheck, recordBytes, rowChecks, recordChecks}
 use Rattle.disambiguation.specs.Conflicts.{ConflictFreeTree}
+use Rattle.record.specs.Answers.{countIn}
+use Rattle.claims.specs.Claims.{pairChecks}
 use Rattle.places.specs.Store.{placeCount}
-use Rattle.monitor.specs.Call.{Call, stage, stageList, switch, putRow, putRecord, drop, ask, fetchRecord}
+use Rattle.monitor.specs.Call.{Call, stage, stageList, switch, putRow, putRecord, putClaim, drop, ask, fetchRecord}
 use Rattle.monitor.specs.Panel.{placeCheck}
-use Rattle.monitor.specs.Steps.{ops, putRowNumber, putRecordNumber}
+use Rattle.monitor.specs.Steps.{ops, putRowNumber, putRecordNumber, putClaimNumber}
 use Rattle.monitor.specs.Book.{blankCheck, slotRow}
 use Rattle.monitor.specs.Run.{panelAfter, bookAfter, isAccepted, inForce, lastPut, HoldsTree, Filled}
 use Rattle.monitor.proofs.Slots.{not-blank}
@@ -40,6 +42,10 @@ row-refused k row cs h = over k (rowChecks (ops (panelAfter cs)) row) h
 record-refused : (k : ℕ) (bytes : List ℕ) (cs : List Call) → placeCount ≤ k → isAccepted cs (putRecord k bytes) ≡ false
 unfolding putRecordNumber
 record-refused k bytes cs h = over k (recordChecks (ops (panelAfter cs)) bytes) h
+
+claim-refused : (k : ℕ) (row bytes : List ℕ) (cs : List Call) → placeCount ≤ k → isAccepted cs (putClaim k row bytes) ≡ false
+unfolding putClaimNumber
+claim-refused k row bytes cs h = over k (pairChecks (ops (panelAfter cs)) row bytes (countIn (panelAfter cs .sheet) (treeOf (class (ops (panelAfter cs))) bytes))) h
 
 -- an entry at another place, or one that is refused, leaves the slot blank
 blank-still : (k j : ℕ) (x : Bool) (slot old : Option (List ℕ)) → (k ≡ j → x ≡ false) → old ≡ none → cond (x && eqb k j) slot old ≡ none
@@ -69,6 +75,7 @@ beyond k h (stageList n kinds rules ∷ cs) = beyond k h cs
 beyond k h (switch ∷ cs) = beyond k h cs
 beyond k h (putRow j row ∷ cs) = blank-still k j (isAccepted cs (putRow j row)) (some row) (lastPut k cs) (λ e. row-refused j row cs (omega arith)) (beyond k h cs)
 beyond k h (putRecord j bytes ∷ cs) = blank-still k j (isAccepted cs (putRecord j bytes)) (some (rowOf (treeOf (class (inForce cs .operators)) bytes))) (lastPut k cs) (λ e. record-refused j bytes cs (omega arith)) (beyond k h cs)
+beyond k h (putClaim j row bytes ∷ cs) = blank-still k j (isAccepted cs (putClaim j row bytes)) (some row) (lastPut k cs) (λ e. claim-refused j row bytes cs (omega arith)) (beyond k h cs)
 beyond k h (drop j ∷ cs) = either-none (isAccepted cs (drop j) && eqb k j) (lastPut k cs) (beyond k h cs)
 beyond k h (ask q ∷ cs) = beyond k h cs
 

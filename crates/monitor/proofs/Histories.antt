@@ -10,7 +10,7 @@ use Rattle.expression.specs.Token.{operators, class}
 use Rattle.expression.specs.Decode.{treeOf}
 use Rattle.expression.specs.Operand.{rowOf}
 use Rattle.disambiguation.specs.SheetChecks.{rulesIn, operatorsIn}
-use Rattle.monitor.specs.Call.{Call, stage, stageList, switch, putRow, putRecord, drop, ask}
+use Rattle.monitor.specs.Call.{Call, stage, stageList, switch, putRow, putRecord, putClaim, drop, ask}
 use Rattle.monitor.specs.Book.{Rules, ruledBy, Book, ruledByNote, entered, next}
 use Rattle.monitor.specs.Run.{panelAfter, bookAfter, isAccepted, lastStaged, orElse, inForce, lastPut}
 use Rattle.monitor.proofs.Stands.{Stands, fresh-stands, same-number}
@@ -65,6 +65,7 @@ book-note (switch ∷ cs) =
     noted-after switch cs none (cleared (bookAfter cs) (bookAfter cs .note) refl) ∙ ap (cond (isAccepted cs switch) none) (book-note cs)
 book-note (putRow k row ∷ cs) = unchanged (λ b. b .note) (putRow k row) cs refl ∙ book-note cs
 book-note (putRecord k bytes ∷ cs) = unchanged (λ b. b .note) (putRecord k bytes) cs refl ∙ book-note cs
+book-note (putClaim k row bytes ∷ cs) = unchanged (λ b. b .note) (putClaim k row bytes) cs refl ∙ book-note cs
 book-note (drop k ∷ cs) = unchanged (λ b. b .note) (drop k) cs refl ∙ book-note cs
 book-note (ask q ∷ cs) = unchanged (λ b. b .note) (ask q) cs refl ∙ book-note cs
 
@@ -83,6 +84,7 @@ book-in-force (switch ∷ cs) =
     ∙ ap₂ (cond (isAccepted cs switch)) (ruled-by-note (bookAfter cs) (bookAfter cs .note) ∙ ap₂ orElse (book-note cs) (book-in-force cs)) (book-in-force cs)
 book-in-force (putRow k row ∷ cs) = unchanged rulesOn (putRow k row) cs refl ∙ book-in-force cs
 book-in-force (putRecord k bytes ∷ cs) = unchanged rulesOn (putRecord k bytes) cs refl ∙ book-in-force cs
+book-in-force (putClaim k row bytes ∷ cs) = unchanged rulesOn (putClaim k row bytes) cs refl ∙ book-in-force cs
 book-in-force (drop k ∷ cs) = unchanged rulesOn (drop k) cs refl ∙ book-in-force cs
 book-in-force (ask q ∷ cs) = unchanged rulesOn (ask q) cs refl ∙ book-in-force cs
 
@@ -114,5 +116,7 @@ book-slot k (putRecord j bytes ∷ cs) =
     slot-after k j (putRecord j bytes) cs (some (rowOf (treeOf (class (bookAfter cs .operators)) bytes))) refl
     ∙ ap (λ o. cond (isAccepted cs (putRecord j bytes) && eqb k j) (some (rowOf (treeOf (class o) bytes))) (bookAfter cs .slots k)) (ap (λ (r : Rules). r .operators) (book-in-force cs))
     ∙ ap (cond (isAccepted cs (putRecord j bytes) && eqb k j) (some (rowOf (treeOf (class (inForce cs .operators)) bytes)))) (book-slot k cs)
+book-slot k (putClaim j row bytes ∷ cs) =
+    slot-after k j (putClaim j row bytes) cs (some row) refl ∙ ap (cond (isAccepted cs (putClaim j row bytes) && eqb k j) (some row)) (book-slot k cs)
 book-slot k (drop j ∷ cs) = slot-after k j (drop j) cs none refl ∙ ap (cond (isAccepted cs (drop j) && eqb k j) none) (book-slot k cs)
 book-slot k (ask q ∷ cs) = unchanged (λ b. b .slots k) (ask q) cs refl ∙ book-slot k cs

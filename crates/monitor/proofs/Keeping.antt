@@ -22,13 +22,14 @@ use Rattle.sheet.specs.Loading.{sheetOf}
 use Rattle.sheet.specs.InForce.{InForce}
 use Rattle.sheet.proofs.Laws.{fresh-not-loaded, loaded-made, made-in-force}
 use Rattle.parser.specs.Build.{built}
+use Rattle.claims.specs.Claims.{pairChecks, countBy, claimNumber}
 use Rattle.places.specs.Store.{placeCount, held, stored}
 use Rattle.places.proofs.Laws.{held-stored-same, held-stored-other, length-stored}
-use Rattle.monitor.specs.Call.{Call, stage, stageList, switch, putRow, putRecord, drop, ask}
+use Rattle.monitor.specs.Call.{Call, stage, stageList, switch, putRow, putRecord, putClaim, drop, ask}
 use Rattle.monitor.specs.Panel.{Panel, panel, noneStaged, usesOther, inUseCheck, ifAccepted, rebuilt, rebuiltTo}
-use Rattle.monitor.specs.Steps.{ops, switchNumber, putRowNumber, putRecordNumber, dropNumber, stagedAfter, afterSwitch, placesAfterRow, placesAfterRecord, placesAfterDrop, withStaged, withPlaces, after}
+use Rattle.monitor.specs.Steps.{ops, switchNumber, stagedAfter, afterSwitch, placesAfterRow, placesAfterRecord, placesAfterClaim, placesAfterDrop, withStaged, withPlaces, after, outcome}
 use Rattle.monitor.specs.Book.{Rules, ruledBy, Book, blankCheck, notedNumber, bookNumber, withNote, ruledByNote, withSlot, entered, next}
-use Rattle.monitor.proofs.Slots.{Holds, holds-fit, put-row-holds, put-record-holds}
+use Rattle.monitor.proofs.Slots.{Holds, holds-fit, put-row-holds, put-record-holds, put-claim-holds}
 use Rattle.monitor.proofs.Rebuilding.{rebuilt-size, rebuilt-holds}
 use Rattle.monitor.proofs.ListSheets.{list-in-force}
 use Rattle.monitor.proofs.Stands.{OnStage, Stands, same-operators, in-use-same, same-number}
@@ -67,38 +68,37 @@ module _ (p : Panel) (b : Book) (s : Stands p b) where
       go (yes e) = rw (next-accepted c e) (f e)
       go (no h) = rw (next-refused c h, g h) s
 
-  same-places : (number : ℕ) (x : List ℕ) → (number ≡ accepted → ⊥) → withPlaces p (ifAccepted number x (p .places)) ≡ p
-  same-places number x h = rw (ne-eqb number 0 h)
+  -- a call that stores bytes at a place where its number is 0, and whose entry is what they hold, in the slot of that place
+  store-stands : (c : Call) (k : ℕ) (slot : Option (List ℕ)) (bytes : List ℕ) → after p c ≡ withPlaces p (ifAccepted (outcome p c .number) (stored (p .places) k bytes) (p .places))
+      → entered b c ≡ withSlot b k slot → (bookNumber b c ≡ accepted → (k < placeCount) × Holds (b .operators) (b .rules) slot bytes) → Stands (after p c) (next b c)
+  store-stands c k slot bytes becomes page f =
+      by-number c
+      (λ e. let (h, g) = f e in rw (becomes, page, same-number p b s c ∙ e) (stored-stands k h slot bytes g))
+      (λ h. becomes ∙ rw (ne-eqb (outcome p c .number) 0 (λ z. h (sym (same-number p b s c) ∙ z))))
 
   row-stands : (k : ℕ) (row : List ℕ) → Stands (after p (putRow k row)) (next b (putRow k row))
   unfolding placesAfterRow rowNumber
   row-stands k row =
-      by-number (putRow k row)
-      (λ e.
-      let (h, f) = place-passed k (rowChecks (b .operators) row) e in
-      rw (same-number p b s (putRow k row) ∙ e)
-      (stored-stands k h (some row) (built (ops p) (closesIn (p .sheet)) row) (put-row-holds (p .sheet) (b .operators) (b .rules) (s .in-force) row f)))
-      (λ h. same-places (putRowNumber p k row) _ (λ z. h (sym (same-number p b s (putRow k row)) ∙ z)))
+      store-stands (putRow k row) k (some row) (built (ops p) (closesIn (p .sheet)) row) refl refl
+      (λ e. let (h, f) = place-passed k (rowChecks (b .operators) row) e in (h, put-row-holds (p .sheet) (b .operators) (b .rules) (s .in-force) row f))
 
   record-stands : (k : ℕ) (bytes : List ℕ) → Stands (after p (putRecord k bytes)) (next b (putRecord k bytes))
   unfolding placesAfterRecord recordNumber
   record-stands k bytes =
-      by-number (putRecord k bytes)
+      store-stands (putRecord k bytes) k (some (rowOf (treeOf (class (b .operators)) bytes))) (rebuilt (p .sheet) bytes) refl refl
+      (λ e. let (h, f) = place-passed k (recordChecks (b .operators) bytes) e in (h, put-record-holds (p .sheet) (b .operators) (b .rules) (s .in-force) bytes f))
+
+  claim-stands : (k : ℕ) (row bytes : List ℕ) → Stands (after p (putClaim k row bytes)) (next b (putClaim k row bytes))
+  unfolding placesAfterClaim claimNumber
+  claim-stands k row bytes =
+      store-stands (putClaim k row bytes) k (some row) bytes refl refl
       (λ e.
-      let (h, f) = place-passed k (recordChecks (b .operators) bytes) e in
-      rw (same-number p b s (putRecord k bytes) ∙ e)
-      (stored-stands k h (some (rowOf (treeOf (class (b .operators)) bytes))) (rebuilt (p .sheet) bytes)
-      (put-record-holds (p .sheet) (b .operators) (b .rules) (s .in-force) bytes f)))
-      (λ h. same-places (putRecordNumber p k bytes) _ (λ z. h (sym (same-number p b s (putRecord k bytes)) ∙ z)))
+      let (h, f) = place-passed k (pairChecks (b .operators) row bytes (countBy (b .rules) (treeOf (class (b .operators)) bytes))) e in
+      (h, put-claim-holds (b .operators) (b .rules) row bytes f))
 
   drop-stands : (k : ℕ) → Stands (after p (drop k)) (next b (drop k))
   unfolding placesAfterDrop
-  drop-stands k =
-      by-number (drop k)
-      (λ e.
-      let (h, f) = place-passed k (blankCheck (b .slots k) ∷ []) e in
-      rw (same-number p b s (drop k) ∙ e) (stored-stands k h none [] refl))
-      (λ h. same-places (dropNumber p k) _ (λ z. h (sym (same-number p b s (drop k)) ∙ z)))
+  drop-stands k = store-stands (drop k) k none [] refl refl (λ e. let (h, f) = place-passed k (blankCheck (b .slots k) ∷ []) e in (h, refl))
 
   -- ---- staging
   -- a stage that gets the sheet of operators and rules stands for a note of them
@@ -155,5 +155,6 @@ module _ (p : Panel) (b : Book) (s : Stands p b) where
   keeps switch = switch-stands
   keeps (putRow k row) = row-stands k row
   keeps (putRecord k bytes) = record-stands k bytes
+  keeps (putClaim k row bytes) = claim-stands k row bytes
   keeps (drop k) = drop-stands k
   keeps (ask q) = by-number (ask q) (λ _. s) (λ _. refl)

@@ -21,6 +21,7 @@ pub mod ReadFromTheLeft
 pub mod ChainedPatterns
 pub mod StageThenSwitch
 pub mod BindingPowers
+pub mod ClaimedTrees
 pub mod AnswerWays
 pub mod StoreWays
 pub mod UseWays

@@ -1,28 +1,32 @@
--- Each test of a row or a record decides its condition, and so a list of checks gives the number that the conditions mean. Assumes nothing.
+-- Each test of a row, a record or both decides its condition, and so a list of checks gives the number that the conditions mean. Assumes nothing.
 use Prim.Native.Nat.{ℕ, _<_, _≤_}
 use mathlib.Core.Path.{_≡_, refl, ap, sym, _∙_}
 use mathlib.Core.Bool.{Bool, true, false, not, _&&_, _||_, cond, true≢false, false≢true}
 use mathlib.Core.Logic.{_↔_, _⊎_, inl, inr}
 use mathlib.Core.Option.{Option, none, some, Option·none-ne-some}
 use mathlib.Core.List.{List, [], _∷_, _++_}
-use lib.Dec.{ltb}
+use lib.Dec.{eqb, ltb}
 use lib.ListN.{length}
-use borrow.Author.Tests.{ltb-true, ltb-false, lt-ltb, le-ltb, not-true, not-false}
+use borrow.Author.Tests.{ltb-true, ltb-false, lt-ltb, le-ltb, eqb-true, eq-eqb, not-true, not-false}
 use Rattle.expression.specs.Lists.{anyHolds}
 use Rattle.expression.specs.Limits.{mostTokens, mostRecordBytes}
-use Rattle.expression.specs.Refusal.{Check, first, oversize, stranger, noRow, noTree}
+use Rattle.expression.specs.Refusal.{Check, first, accepted, oversize, stranger, noRow, noTree, otherRow, conflict}
 use Rattle.expression.specs.Token.{Class, Infix, Prefix, Opening, Closing, Reading, Meaningless, class}
 use Rattle.expression.specs.Tree.{Tree, yield}
 use Rattle.expression.specs.Grammar.{Row}
 use Rattle.expression.specs.RowTest.{isRow}
 use Rattle.expression.specs.Decode.{treeOf}
+use Rattle.expression.specs.Operand.{rowOf}
 use Rattle.expression.specs.Checks.{strangeInRow, strangeInRecord, isNone, rowTokens, rowChecks, recordChecks}
 use Rattle.expression.proofs.Classes.{brackets}
 use Rattle.expression.proofs.RecordsAndTrees.{treeOf-record, record-treeOf}
 use Rattle.expression.proofs.RowTestDecides.{isRow-exactly-if-row}
+use Rattle.disambiguation.specs.Conflicts.{conflictCount}
+use Rattle.claims.specs.Claims.{sameBytes, claimChecks, countBy}
+use Rattle.claims.proofs.SameBytes.{same-exactly-if}
 use Rattle.monitor.specs.Book.{Book}
 use Rattle.monitor.specs.Answers.{Records}
-use Rattle.monitor.specs.Meaning.{When, SomeOf, OfRow, OfRecord}
+use Rattle.monitor.specs.Meaning.{When, Accepted, SomeOf, OfRow, OfRecord, OfClaim}
 
 -- the test holds exactly if the condition does
 abbrev pub Decides : Bool → Type 0 → Type 0
@@ -121,15 +125,13 @@ module _ (b : Book) where
       go none e h = absurd (true≢false h)
       go (some t) e h = (t, read-records bytes t e)
 
-  decides-long-row : (bytes : List ℕ) (t : Tree) → Records b bytes t
-      → Decides (ltb mostTokens (rowTokens (treeOf (class (b .operators)) bytes))) ((t : Tree) × Records b bytes t × (mostTokens < length (yield t)))
-  decides-long-row bytes t r = (
-    λ e. (t, r, ltb-true mostTokens (length (yield t)) (sym (ap long (reads-back bytes t r)) ∙ e)),
-    λ h. let (u, s, l) = h in ap long (reads-back bytes u s) ∙ lt-ltb mostTokens (length (yield u)) l,
+  -- a test of the tree that a record is of
+  decides-of-tree : (bytes : List ℕ) (t : Tree) → Records b bytes t → (test : Option Tree → Bool) (Is : Tree → Type 0) → ((u : Tree) → Decides (test (some u)) (Is u))
+      → Decides (test (treeOf (class (b .operators)) bytes)) ((u : Tree) × Records b bytes u × Is u)
+  decides-of-tree bytes t r test Is d = (
+    λ e. (t, r, d t .0 (sym (ap test (reads-back bytes t r)) ∙ e)),
+    λ h. let (u, s, l) = h in ap test (reads-back bytes u s) ∙ d u .1 l,
   )
-    where
-      long : Option Tree → Bool
-      long o = ltb mostTokens (rowTokens o)
 
   -- 1, 3, 7 and again 1 of a record
   pub record-means : (Else : ℕ → Type 0) (bytes : List ℕ) (rest : List Check) → ((t : Tree) → Records b bytes t → Else (first rest))
@@ -142,7 +144,8 @@ module _ (b : Book) where
       (λ _. when After7 (isNone (treeOf (class (b .operators)) bytes)) noTree _ (decides-no-tree bytes)
       (λ e.
       let (t, r) = read-tree bytes e in
-      when Else (ltb mostTokens (rowTokens (treeOf (class (b .operators)) bytes))) oversize (first rest) (decides-long-row bytes t r) (λ _. f t r))))
+      when Else (ltb mostTokens (rowTokens (treeOf (class (b .operators)) bytes))) oversize (first rest)
+      (decides-of-tree bytes t r (λ o. ltb mostTokens (rowTokens o)) (λ u. mostTokens < length (yield u)) (λ u. decides-less mostTokens (length (yield u)))) (λ _. f t r))))
     where
       After7 : ℕ → Type 0
       After7 = When ((t : Tree) × Records b bytes t × (mostTokens < length (yield t))) oversize Else
@@ -152,3 +155,16 @@ module _ (b : Book) where
 
       After1 : ℕ → Type 0
       After1 = When (SomeOf (λ c. (class (b .operators) c ≡ Meaningless) ⊎ (class (b .operators) c ≡ Closing)) bytes) stranger After3
+
+  -- 16 and 17 of a record that came with a row
+  pub claim-means : (row bytes : List ℕ) (t : Tree) → Records b bytes t
+      → OfClaim b row bytes (first (claimChecks (sameBytes (rowOf (treeOf (class (b .operators)) bytes)) row) (countBy (b .rules) (treeOf (class (b .operators)) bytes))))
+  claim-means row bytes t r =
+      when After16 (not (sameBytes (rowOf (treeOf (class (b .operators)) bytes)) row)) otherRow _
+      (decides-of-tree bytes t r (λ o. not (sameBytes (rowOf o) row)) (λ u. yield u ≡ row → ⊥) (λ u. decides-not (sameBytes (yield u) row) (same-exactly-if (yield u) row)))
+      (λ _. when Accepted (not (eqb (countBy (b .rules) (treeOf (class (b .operators)) bytes)) 0)) conflict accepted
+      (decides-of-tree bytes t r (λ o. not (eqb (countBy (b .rules) o) 0)) (λ u. conflictCount (b .rules) u ≡ 0 → ⊥)
+      (λ u. decides-not (eqb (conflictCount (b .rules) u) 0) (eqb-true (conflictCount (b .rules) u) 0, eq-eqb (conflictCount (b .rules) u) 0))) (λ _. refl))
+    where
+      After16 : ℕ → Type 0
+      After16 = When ((u : Tree) × Records b bytes u × (conflictCount (b .rules) u ≡ 0 → ⊥)) conflict Accepted

@@ -6,39 +6,40 @@ use mathlib.Core.Path.{_≡_, refl, ap, sym, subst, _∙_}
 use mathlib.Core.Bool.{not, false≢true}
 use mathlib.Core.Option.{Option, none, some}
 use mathlib.Core.List.{List, [], _∷_}
-use lib.Dec.{eqb, ltb}
+use lib.Dec.{ltb}
 use lib.ListN.{length}
 use borrow.Author.Tests.{ltb-true, lt-ltb, not-false}
 use Rattle.expression.specs.Limits.{mostTokens}
 use Rattle.expression.specs.Refusal.{Check, first, accepted, place, empty, short}
-use Rattle.expression.specs.Token.{closing, class}
+use Rattle.expression.specs.Token.{class}
 use Rattle.expression.specs.Tree.{Tree, recordOf, Over}
 use Rattle.expression.specs.Tree as tree
 use Rattle.expression.specs.Decode.{treeOf}
+use Rattle.expression.specs.Operand.{rowOf}
 use Rattle.expression.specs.Checks.{shortCheck, recordBytes, rowTokens, rowChecks, recordChecks, recordNumber, buildNumber, repairNumber, yieldNumber}
 use Rattle.expression.proofs.Classes.{brackets}
 use Rattle.expression.proofs.RowsAndTrees.{row-exactly-if-yielded}
-use Rattle.expression.proofs.Lengths.{record-length, same-row-same-length}
+use Rattle.expression.proofs.Lengths.{few-bytes, record-length, same-row-same-length}
 use Rattle.disambiguation.specs.Conflicts.{ConflictFreeTree}
 use Rattle.disambiguation.specs.ExactlyOne.{HasOne, EveryRowHasOne}
 use Rattle.parser.proofs.InForceBuilds.{built-conflict-free}
 use Rattle.brackets.specs.SameMeaning.{ShortestRow}
 use Rattle.brackets.specs.Shortest.{shortestBy, shortestNumber}
 use Rattle.brackets.proofs.ShortestRows.{shortest-of-tree}
+use Rattle.claims.specs.Claims.{sameBytes, claimChecks, besideRow, pairChecks, countBy}
 use Rattle.places.specs.Store.{placeCount, slotBytes, held, imageOf}
 use Rattle.places.proofs.Images.{length-image}
-use Rattle.monitor.specs.Call.{Question, Call, lentBefore, stage, stageList, switch, putRow, putRecord, drop, ask, fetchRecord, fetchRow, image, build, repair, judge, yield, operand, shortestRow}
+use Rattle.monitor.specs.Call.{Question, Call, lentBefore, stage, stageList, switch, putRow, putRecord, putClaim, drop, ask, fetchRecord, fetchRow, image, build, repair, judge, yield, operand, shortestRow}
 use Rattle.monitor.specs.Panel.{Panel, placeCheck}
 use Rattle.monitor.specs.Steps.{reply}
 use Rattle.monitor.specs.Book.{Book, rowIn, isBlank, blankCheck, slotRow, SlotTree, askedNumber, bookNumber}
 use Rattle.monitor.specs.Answers.{Image, Told}
 use Rattle.monitor.specs.Run.{panelAfter, bookAfter, answer}
-use Rattle.monitor.specs.Meaning.{Accepted, AtPlace, NotBlank, WithRoom, OfRow, OfRecord, MeansAsked, Means}
-use Rattle.monitor.proofs.Uses.{count-small}
+use Rattle.monitor.specs.Meaning.{Accepted, AtPlace, NotBlank, WithRoom, OfRow, OfRecord, OfClaim, MeansAsked, Means}
 use Rattle.monitor.proofs.Slots.{Holds, not-blank}
 use Rattle.monitor.proofs.Stands.{Stands, same-number}
 use Rattle.monitor.proofs.Histories.{stands}
-use Rattle.monitor.proofs.Meanings.{Decides, when, decides-not-less, row-means, reads-back, record-means}
+use Rattle.monitor.proofs.Meanings.{Decides, when, decides-not-less, row-means, reads-back, record-means, claim-means}
 use Rattle.monitor.proofs.MeaningsSheet.{stage-means, stage-list-means, switch-means}
 
 -- each slot that is not blank has a row within the length that has a conflict-free tree
@@ -85,7 +86,7 @@ module _ (b : Book) where
         with-tree : (row : List ℕ) → b .slots k ≡ some row → (t : Tree) → SlotTree b k t → length (imageOf (recordOf t)) ≡ slotBytes
         with-tree row q t c =
             length-image (recordOf t)
-            (omega (arith, free-length c, count-small (λ c. not (eqb c closing)) (slotRow b k), ap (λ slot. length (rowIn slot)) q, trees k row h q .0))
+            (omega (arith, free-length c, few-bytes (slotRow b k), ap (λ slot. length (rowIn slot)) q, trees k row h q .0))
 
         go : (slot : Option (List ℕ)) → b .slots k ≡ slot → WithRoom b (image k out) (first (shortCheck slotBytes (length out) ∷ []))
         go none q =
@@ -147,6 +148,13 @@ module _ (b : Book) where
     book-means switch = switch-means b
     book-means (putRow k row) = place-means (OfRow b row Accepted) k (rowChecks (b .operators) row) (λ _. row-means b Accepted row [] (λ _. refl))
     book-means (putRecord k bytes) = place-means (OfRecord b bytes Accepted) k (recordChecks (b .operators) bytes) (λ _. record-means b Accepted bytes [] (λ _ _. refl))
+    book-means (putClaim k row bytes) =
+        place-means (OfRow b row (OfRecord b bytes (OfClaim b row bytes))) k (pairChecks (b .operators) row bytes count)
+        (λ _. row-means b (OfRecord b bytes (OfClaim b row bytes)) row (besideRow (b .operators) row bytes count)
+        (λ _. record-means b (OfClaim b row bytes) bytes (claimChecks (sameBytes (rowOf (treeOf (class (b .operators)) bytes)) row) count) (claim-means b row bytes)))
+      where
+        count : ℕ
+        count = countBy (b .rules) (treeOf (class (b .operators)) bytes)
     book-means (drop k) = place-means (NotBlank b k Accepted) k (blankCheck (b .slots k) ∷ []) (λ _. blank-means Accepted k [] (λ _ _. refl))
     book-means (ask q) = asked-means q
 

@@ -20,7 +20,7 @@ use Rattle.disambiguation.specs.ExactlyOne.{EveryRowHasExactlyOne}
 use Rattle.brackets.specs.Enclosed.{enclosed}
 use Rattle.brackets.specs.SameMeaning.{ShortestRow}
 use Rattle.places.specs.Store.{imageOf}
-use Rattle.monitor.specs.Call.{Question, Call, lentBefore, stage, stageList, switch, putRow, putRecord, drop, ask, fetchRecord, fetchRow, image, build, repair, judge, yield, operand, shortestRow, Reply}
+use Rattle.monitor.specs.Call.{Question, Call, lentBefore, stage, stageList, switch, putRow, putRecord, putClaim, drop, ask, fetchRecord, fetchRow, image, build, repair, judge, yield, operand, shortestRow, Reply}
 use Rattle.monitor.specs.Book.{Book, slotRow, askedNumber}
 use Rattle.monitor.specs.Answers.{Lent, Valued, Records, Image, Told, Count, Part, Silent, Rest, Answers}
 
@@ -129,6 +129,7 @@ module _ (b : Book) (one : EveryRowHasExactlyOne (b .operators) (b .rules)) wher
   rest-same switch r s e f g = silent-same r s e f g
   rest-same (putRow k row) r s e f g = silent-same r s e f g
   rest-same (putRecord k bytes) r s e f g = silent-same r s e f g
+  rest-same (putClaim k row bytes) r s e f g = silent-same r s e f g
   rest-same (drop k) r s e f g = silent-same r s e f g
   rest-same (ask q) r s e f g =
       let (l, o) = one-lent (askedNumber b q) (Told b q) (one-told q) (lentBefore q) (r .length) (s .length) (r .output) (s .output) (f .output) (g .output) in

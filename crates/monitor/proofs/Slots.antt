@@ -2,14 +2,13 @@
 use Prim.Native.Nat.{ℕ, _≤_}
 use native.Mathlib.Omega.{arith}
 use mathlib.Core.Path.{_≡_, refl, ap, sym, _∙_}
-use mathlib.Core.Bool.{false, not, true≢false}
+use mathlib.Core.Bool.{false, true≢false}
 use mathlib.Core.Option.{Option, none, some}
 use mathlib.Core.List.{List, []}
-use lib.Dec.{eqb}
 use lib.ListN.{length}
 use Rattle.expression.specs.Limits.{mostTokens, mostRecordBytes}
 use Rattle.expression.specs.Refusal.{accepted}
-use Rattle.expression.specs.Token.{closing, Operators, class}
+use Rattle.expression.specs.Token.{Operators, class}
 use Rattle.expression.specs.Tree.{Tree, recordOf, Over}
 use Rattle.expression.specs.Grammar.{Row}
 use Rattle.expression.specs.Decode.{treeOf}
@@ -18,7 +17,7 @@ use Rattle.expression.specs.Checks.{recordBytes, rowNumber, recordNumber}
 use Rattle.expression.proofs.Classes.{brackets}
 use Rattle.expression.proofs.RecordsAndTrees.{treeOf-record}
 use Rattle.expression.proofs.RowsAndTrees.{row-exactly-if-yielded}
-use Rattle.expression.proofs.Lengths.{record-length}
+use Rattle.expression.proofs.Lengths.{few-bytes, record-length}
 use Rattle.expression.proofs.Numbers.{record-accepted, row-accepted}
 use Rattle.disambiguation.specs.Rules.{Rule}
 use Rattle.disambiguation.specs.Conflicts.{ConflictFreeTree}
@@ -27,9 +26,11 @@ use Rattle.sheet.specs.Relation.{closesIn}
 use Rattle.sheet.specs.InForce.{InForce}
 use Rattle.parser.specs.Build.{built}
 use Rattle.parser.proofs.InForceBuilds.{built-conflict-free}
+use Rattle.claims.specs.Claims.{claimNumber}
+use Rattle.claims.proofs.Accepting.{accepted-exactly-if}
 use Rattle.monitor.specs.Panel.{isEmpty, usesOther, rebuilt}
 use Rattle.monitor.specs.Book.{rowIn, isBlank}
-use Rattle.monitor.proofs.Uses.{count-small, record-not-empty, uses-yield, over-under}
+use Rattle.monitor.proofs.Uses.{record-not-empty, uses-yield, over-under}
 
 -- a slot that is not blank has a row
 pub not-blank : (slot : Option (List ℕ)) → isBlank slot ≡ false → (row : List ℕ) × (slot ≡ some row)
@@ -51,7 +52,7 @@ module _ {ops : Operators} {rules : List Rule} {row bytes : List ℕ} {t : Tree}
   bytes-long = ap length (h .recorded) ∙ record-length (class ops) (brackets ops) t (h .tree .over) ∙ ap recordBytes (h .tree .yields)
 
   pub bytes-fit : length bytes ≤ mostRecordBytes
-  bytes-fit = omega (arith, bytes-long, count-small (λ c. not (eqb c closing)) row, h .tokens-fit)
+  bytes-fit = omega (arith, bytes-long, few-bytes row, h .tokens-fit)
 
   pub read-back : treeOf (class ops) bytes ≡ some t
   read-back = ap (treeOf (class ops)) (h .recorded) ∙ treeOf-record (class ops) (brackets ops) t (h .tree .over)
@@ -111,7 +112,7 @@ pub holds-fit : (ops : Operators) (rules : List Rule) (slot : Option (List ℕ))
 holds-fit ops rules none bytes e = omega (arith, ap length e)
 holds-fit ops rules (some row) bytes (t, h) = bytes-fit h
 
--- ---- a row or a record that is put
+-- ---- a row, a record, or both, that is put
 pub put-row-holds : (s : List ℕ) (ops : Operators) (rules : List Rule) → InForce s ops rules → (row : List ℕ) → rowNumber ops row ≡ accepted → Holds ops rules (some row) (built (operatorsOf s) (closesIn s) row)
 put-row-holds s ops rules k row e =
     let (fits, r) = row-accepted ops row .0 e in
@@ -126,3 +127,8 @@ put-record-holds s ops rules k bytes e =
     let here = row-exactly-if-yielded ops (rowOf (treeOf (class ops) bytes)) .1 (t, r .over, sym q) in
     let (u, c, p) = built-conflict-free s ops rules k (rowOf (treeOf (class ops) bytes)) here in
     (u, record { tree = c; recorded = ap (λ o. built o (closesIn s) (rowOf (treeOf (class o) bytes))) (k .operators) ∙ p; tokens-fit = rw q (r .tokens-fit) })
+
+pub put-claim-holds : (ops : Operators) (rules : List Rule) (row bytes : List ℕ) → claimNumber ops rules row bytes ≡ accepted → Holds ops rules (some row) bytes
+put-claim-holds ops rules row bytes z =
+    let (fits, (t, c, e)) = accepted-exactly-if ops rules row bytes .0 z in
+    (t, record { tree = c; recorded = sym e; tokens-fit = fits })

@@ -14,9 +14,9 @@ use Rattle.disambiguation.specs.Verdict.{ruleChecks}
 use Rattle.disambiguation.specs.SheetChecks.{rulesIn, operatorsIn, orderChecks, listOrderChecks, sheetNumber, listNumber}
 use Rattle.sheet.specs.InForce.{InForce}
 use Rattle.sheet.proofs.Laws.{every-row-has-one}
-use Rattle.monitor.specs.Call.{Question, Call, stage, stageList, switch, putRow, putRecord, drop, ask, fetchRecord, fetchRow, image, build, repair, judge, yield, operand, shortestRow}
+use Rattle.monitor.specs.Call.{Question, Call, stage, stageList, switch, putRow, putRecord, putClaim, drop, ask, fetchRecord, fetchRow, image, build, repair, judge, yield, operand, shortestRow}
 use Rattle.monitor.specs.Panel.{Panel, inUseCheck}
-use Rattle.monitor.specs.Steps.{putRowNumber, putRecordNumber, dropNumber, fetchRecordNumber, fetchRowNumber, imageNumber, withStaged, told, reply}
+use Rattle.monitor.specs.Steps.{putRowNumber, putRecordNumber, putClaimNumber, dropNumber, fetchRecordNumber, fetchRowNumber, imageNumber, withStaged, told, reply}
 use Rattle.monitor.specs.Book.{Rules, slotRow, notedNumber}
 use Rattle.monitor.specs.Run.{panelAfter, answer, bookAfter, lastStaged, inForce, IsStaging}
 use Rattle.monitor.specs.Promises.{StageThenSwitch}
@@ -38,12 +38,13 @@ module _ (p : Panel) (staged : List ℕ) where
   same-told (shortestRow bytes out) = refl
 
   same-reply : (c : Call) → (c ≡ switch → ⊥) → reply (withStaged p staged) c ≡ reply p c
-  unfolding putRowNumber putRecordNumber dropNumber
+  unfolding putRowNumber putRecordNumber putClaimNumber dropNumber
   same-reply (stage n bytes) h = refl
   same-reply (stageList n kinds rules) h = refl
   same-reply switch h = absurd (h refl)
   same-reply (putRow k row) h = refl
   same-reply (putRecord k bytes) h = refl
+  same-reply (putClaim k row bytes) h = refl
   same-reply (drop k) h = refl
   same-reply (ask q) h = rw (same-told q)
 
@@ -61,6 +62,7 @@ module _ (cs : List Call) where
   unseen switch d is h = absurd is
   unseen (putRow k row) d is h = absurd is
   unseen (putRecord k bytes) d is h = absurd is
+  unseen (putClaim k row bytes) d is h = absurd is
   unseen (drop k) d is h = absurd is
   unseen (ask q) d is h = absurd is
 
@@ -73,6 +75,7 @@ module _ (cs : List Call) where
   never-in-use switch is e = is
   never-in-use (putRow k row) is e = is
   never-in-use (putRecord k bytes) is e = is
+  never-in-use (putClaim k row bytes) is e = is
   never-in-use (drop k) is e = is
   never-in-use (ask q) is e = is
 

@@ -3,7 +3,7 @@ use Prim.Native.Nat.{ℕ, zero, suc, _<_}
 use native.Mathlib.Omega.{arith}
 use native.Mathlib.Decide.{decLt}
 use mathlib.Core.Path.{_≡_, refl, ap, ap₂, sym, _∙_}
-use mathlib.Core.Bool.{Bool, true, false, not, _&&_}
+use mathlib.Core.Bool.{Bool, true, false, not, _&&_, cond}
 use mathlib.Core.Option.{Option, none, some}
 use mathlib.Core.List.{List, [], _∷_, _++_}
 use lib.ListN.{length}
@@ -19,12 +19,14 @@ use Rattle.sheet.specs.InForce.{InForce}
 use Rattle.sheet.proofs.Laws.{fresh-in-force, fresh-not-loaded}
 use Rattle.brackets.specs.Shortest.{shortestNumber}
 use Rattle.brackets.proofs.InForceShortest.{shortest-by-rules}
+use Rattle.claims.specs.Claims.{claimNumber, numberIn}
+use Rattle.claims.proofs.InForceClaims.{number-by-rules}
 use Rattle.places.specs.Store.{placeCount, storeBytes, held}
 use Rattle.places.specs.Store as store
 use Rattle.places.proofs.Laws.{held-fresh}
-use Rattle.monitor.specs.Call.{Question, Call, stage, stageList, switch, putRow, putRecord, drop, ask, fetchRecord, fetchRow, image, build, repair, judge, yield, operand, shortestRow}
+use Rattle.monitor.specs.Call.{Question, Call, stage, stageList, switch, putRow, putRecord, putClaim, drop, ask, fetchRecord, fetchRow, image, build, repair, judge, yield, operand, shortestRow}
 use Rattle.monitor.specs.Panel.{Panel, fresh, placeCheck, isEmpty, emptyCheck, usesOther, inUseCheck}
-use Rattle.monitor.specs.Steps.{ops, switchNumber, putRowNumber, putRecordNumber, dropNumber, fetchRecordNumber, fetchRowNumber, imageNumber, told, reply}
+use Rattle.monitor.specs.Steps.{ops, switchNumber, putRowNumber, putRecordNumber, putClaimNumber, dropNumber, fetchRecordNumber, fetchRowNumber, imageNumber, told, reply}
 use Rattle.monitor.specs.Book.{Rules, Book, blank, rowIn, isBlank, blankCheck, slotRow, askedNumber, notedNumber, bookNumber}
 use Rattle.monitor.proofs.Slots.{Holds, same-empty, same-length, same-uses, held-accepted, read-back}
 
@@ -148,11 +150,12 @@ module _ (p : Panel) (b : Book) (s : Stands p b) where
       ap₂ (λ o answer. shortestNumber o bytes answer (length out)) same-operators (shortest-by-rules (p .sheet) (b .operators) (b .rules) (s .in-force) bytes)
 
   pub same-number : (c : Call) → reply p c .number ≡ bookNumber b c
-  unfolding putRowNumber putRecordNumber
+  unfolding putRowNumber putRecordNumber putClaimNumber numberIn claimNumber
   same-number (stage n bytes) = refl
   same-number (stageList n kinds rules) = refl
   same-number switch = switch-same
   same-number (putRow k row) = ap (λ o. first (placeCheck k ∷ rowChecks o row)) same-operators
   same-number (putRecord k bytes) = ap (λ o. first (placeCheck k ∷ recordChecks o bytes)) same-operators
+  same-number (putClaim k row bytes) = ap (cond (placeCheck k .0) (placeCheck k .1)) (number-by-rules (p .sheet) (b .operators) (b .rules) (s .in-force) row bytes)
   same-number (drop k) = drop-same k
   same-number (ask q) = same-asked q

@@ -1,43 +1,37 @@
 -- What each way through the calls that store at a place gives, from what is known on it. Assumes nothing.
-use mathlib.Core.Path.{_≡_, refl, sym, ap, _∙_}
-use mathlib.Core.Bool.{Bool, true, false, not}
+use mathlib.Core.Path.{_≡_, refl, sym, ap, subst, _∙_}
 use mathlib.Core.List.{List, [], _∷_, _++_}
-use Prim.Native.Nat.{ℕ, suc, _+_, _-_, _<_, _≤_}
+use Prim.Native.Nat.{ℕ, _+_, _-_, _<_, _≤_}
 use native.Mathlib.Omega.{arith}
 use native.Mathlib.Numerals.{add-one}
 use native.Mathlib.Nat.{le-antisymm}
-use lib.Dec.{eqb}
 use lib.ListN.{length, take, drop, length-append}
 use lib.Seq.{take-at}
 use borrow.Author.Tests.{lt-ltb, le-ltb, ne-eqb}
 use borrow.Author.Needs.{needs}
-use Rattle.expression.specs.Lists.{oneIf}
+use Rattle.expression.specs.Refusal.{Check, first}
 use Rattle.expression.specs.Lent.{outputAfter, lengthAfter}
 use Rattle.expression.specs.Limits.{mostRecordBytes}
-use Rattle.expression.specs.Token.{closing, Operators}
-use Rattle.expression.specs.Checks.{recordBytes, rowChecks, rowNumber, recordNumber, buildNumber}
+use Rattle.expression.specs.Token.{Operators, class}
+use Rattle.expression.specs.Decode.{treeOf}
+use Rattle.expression.specs.Checks.{recordBytes, rowChecks, recordChecks, rowNumber, recordNumber, buildNumber}
+use Rattle.expression.proofs.Lengths.{few-bytes}
 use Rattle.expression.proofs.Numbers.{first-enough, row-numbered, row-accepted, repair-number}
 use Rattle.sheet.specs.Layout.{operatorsOf}
 use Rattle.sheet.specs.Relation.{closesIn}
+use Rattle.record.specs.Answers.{countIn}
 use Rattle.record.specs.declared.Answer.{Answer}
 use Rattle.parser.specs.Build.{built}
 use Rattle.parser.specs.Answers.{AnswersBuild, AnswersRepair}
+use Rattle.claims.specs.Claims.{pairChecks, numberIn}
 use Rattle.places.specs.Store.{placeCount, held, stored}
-use Rattle.monitor.specs.Call.{putRow, putRecord}
-use Rattle.monitor.specs.Panel.{Panel, panel, ifAccepted, rebuilt, rebuiltTo}
-use Rattle.monitor.specs.Steps.{putRowNumber, placesAfterRow, putRecordNumber, placesAfterRecord, dropNumber, placesAfterDrop}
-use Rattle.monitor.specs.Contracts.{Puts, Drops, afterRecord, StoresRow, StoresRecord}
+use Rattle.monitor.specs.Call.{Call, putRow, putRecord, putClaim}
+use Rattle.monitor.specs.Panel.{panel, placeCheck, ifAccepted, rebuilt, rebuiltTo}
+use Rattle.monitor.specs.Steps.{putRowNumber, placesAfterRow, putRecordNumber, placesAfterRecord, putClaimNumber, placesAfterClaim, dropNumber, placesAfterDrop, after, reply}
+use Rattle.monitor.specs.Contracts.{Puts, Drops, storedIf, Stores, StoresRow, StoresRecord, StoresClaim, afterRecord}
 use Rattle.monitor.proofs.AnswerWays.{empty-true, empty-false}
 
--- ---- the numbers with room for every record
-few-bytes : (row : List ℕ) → recordBytes row ≤ length row
-few-bytes [] = omega arith
-few-bytes (c ∷ cs) = go (not (eqb c closing)) (few-bytes cs)
-  where
-    go : (b : Bool) → recordBytes cs ≤ length cs → oneIf b + recordBytes cs ≤ suc (length cs)
-    go true h = omega arith
-    go false h = omega arith
-
+-- ---- the number with room for every record
 pub build-number : (ops : Operators) (row : List ℕ) (room : ℕ) → mostRecordBytes ≤ room → buildNumber ops row room ≡ rowNumber ops row
 unfolding buildNumber rowNumber
 build-number ops row room h =
@@ -58,15 +52,12 @@ module _ {r : Answer} (answer before : List ℕ) {after : List ℕ} (measured : 
   front-inside = omega (arith, size-is, ap length filled, length-append answer (drop (length answer) before))
 
 -- ---- what is stored where the number is 0
-module _ (number : ℕ) (answer places : List ℕ) (k : ℕ) where
-  abbrev storedIf : List ℕ
-  storedIf = ifAccepted number (stored places k answer) places
+module _ (number : ℕ) (bytes places : List ℕ) (k : ℕ) where
+  pub unstored : {r : ℕ} → r ≡ number → (r ≡ 0 → ⊥) → Stores number bytes places k r places
+  unstored e h = record { numbered = e; stands = rw (ne-eqb number 0 (λ f. h (e ∙ f))) }
 
-  unstored : {r : ℕ} → r ≡ number → (r ≡ 0 → ⊥) → places ≡ storedIf
-  unstored e h = rw (ne-eqb number 0 (λ f. h (e ∙ f)))
-
-  stored-front : {r : ℕ} {front later : List ℕ} → r ≡ number → r ≡ 0 → front ≡ answer → later ≡ stored places k front → later ≡ storedIf
-  stored-front e z f a = a ∙ ap (stored places k) f ∙ rw (sym e ∙ z)
+  pub stored-front : {r : ℕ} {front later : List ℕ} → r ≡ number → r ≡ 0 → front ≡ bytes → later ≡ stored places k front → Stores number bytes places k 0 later
+  stored-front e z f a = record { numbered = sym z ∙ e; stands = a ∙ ap (stored places k) f ∙ rw (sym e ∙ z) }
 
 -- ---- store_row
 module _ (sheet places : List ℕ) (k : ℕ) {row before after : List ℕ} {r : Answer} (room : mostRecordBytes ≤ length before) (a : AnswersBuild sheet row before after r) where
@@ -74,7 +65,7 @@ module _ (sheet places : List ℕ) (k : ℕ) {row before after : List ℕ} {r : 
   row-number-is = a .numbered ∙ build-number (operatorsOf sheet) row (length before) room
 
   pub row-refused : (r .number ≡ 0 → ⊥) → StoresRow sheet places k row (r .number) places
-  row-refused h = record { numbered = row-number-is; stands = unstored (rowNumber (operatorsOf sheet) row) (built (operatorsOf sheet) (closesIn sheet) row) places k row-number-is h }
+  row-refused h = unstored (rowNumber (operatorsOf sheet) row) (built (operatorsOf sheet) (closesIn sheet) row) places k row-number-is h
 
   module _ (zero : r .number ≡ 0) where
     pub row-part : r .length ≤ length after
@@ -82,12 +73,8 @@ module _ (sheet places : List ℕ) (k : ℕ) {row before after : List ℕ} {r : 
 
     pub row-stored : {places′ : List ℕ} → places′ ≡ stored places k (take (r .length - 0) after) → StoresRow sheet places k row 0 places′
     row-stored e =
-        record {
-          numbered = sym zero ∙ row-number-is;
-          stands =
-              stored-front (rowNumber (operatorsOf sheet) row) (built (operatorsOf sheet) (closesIn sheet) row) places k row-number-is zero
-              (front-is (built (operatorsOf sheet) (closesIn sheet) row) before (a .measured) (a .output) zero) e;
-        }
+        stored-front (rowNumber (operatorsOf sheet) row) (built (operatorsOf sheet) (closesIn sheet) row) places k row-number-is zero
+        (front-is (built (operatorsOf sheet) (closesIn sheet) row) before (a .measured) (a .output) zero) e
 
 pub ruleset store-row-ways = (row-refused, row-part, row-stored, needs)
 
@@ -97,7 +84,7 @@ module _ (sheet places : List ℕ) (k : ℕ) {bytes before after : List ℕ} {r 
   record-number-is = a .numbered ∙ repair-number (operatorsOf sheet) bytes (length before) room
 
   pub record-refused : (r .number ≡ 0 → ⊥) → StoresRecord sheet places k bytes (r .number) places
-  record-refused h = record { numbered = record-number-is; stands = unstored (recordNumber (operatorsOf sheet) bytes) (rebuilt sheet bytes) places k record-number-is h }
+  record-refused h = unstored (recordNumber (operatorsOf sheet) bytes) (rebuilt sheet bytes) places k record-number-is h
 
   module _ (zero : r .number ≡ 0) where
     pub record-part : r .length ≤ length after
@@ -105,12 +92,8 @@ module _ (sheet places : List ℕ) (k : ℕ) {bytes before after : List ℕ} {r 
 
     pub record-stored : {places′ : List ℕ} → places′ ≡ stored places k (take (r .length - 0) after) → StoresRecord sheet places k bytes 0 places′
     record-stored e =
-        record {
-          numbered = sym zero ∙ record-number-is;
-          stands =
-              stored-front (recordNumber (operatorsOf sheet) bytes) (rebuilt sheet bytes) places k record-number-is zero
-              (front-is (rebuilt sheet bytes) before (a .measured) (a .output) zero) e;
-        }
+        stored-front (recordNumber (operatorsOf sheet) bytes) (rebuilt sheet bytes) places k record-number-is zero
+        (front-is (rebuilt sheet bytes) before (a .measured) (a .output) zero) e
 
   -- the bytes are what the place holds
   module _ (same : bytes ≡ held places k) where
@@ -124,6 +107,16 @@ module _ (sheet places : List ℕ) (k : ℕ) {bytes before after : List ℕ} {r 
 pub ruleset store-record-ways = (record-refused, record-part, record-stored, needs)
 
 pub ruleset rebuild-ways = (rebuild-refused, record-part, rebuild-stored, needs)
+
+-- ---- store_claim
+module _ (sheet places : List ℕ) (k : ℕ) (row bytes : List ℕ) {number : ℕ} (is : number ≡ numberIn sheet row bytes) where
+  pub claim-refused : (number ≡ 0 → ⊥) → StoresClaim sheet places k row bytes number places
+  claim-refused h = unstored (numberIn sheet row bytes) bytes places k is h
+
+  pub claim-stored : {later : List ℕ} → number ≡ 0 → later ≡ stored places k bytes → StoresClaim sheet places k row bytes 0 later
+  claim-stored zero e = stored-front (numberIn sheet row bytes) bytes places k is zero refl e
+
+pub ruleset store-claim-ways = (claim-refused, claim-stored, needs)
 
 -- ---- rebuild_all
 module _ (sheet before : List ℕ) where
@@ -150,52 +143,50 @@ module _ (sheet before : List ℕ) where
 
 pub ruleset rebuild-all-ways = (rebuilt-none, rebuilt-more, rebuilt-all, needs)
 
--- ---- put_row, put_record
-module _ (sheet places : List ℕ) (k : ℕ) (bytes : List ℕ) where
-  abbrev here : List ℕ → Panel
-  here staged = panel sheet staged places
+-- ---- a put: 8 where the place is over 15, else the number and the places of what is stored
+module _ (sheet places : List ℕ) (k : ℕ) (c : Call) (checks : List Check) (bytes : List ℕ)
+    (due : (staged : List ℕ) → reply (panel sheet staged places) c .number ≡ first (placeCheck k ∷ checks))
+    (left : (staged : List ℕ) → after (panel sheet staged places) c ≡ panel sheet staged (storedIf (first (placeCheck k ∷ checks)) bytes places k)) where
+  put-stored : {r : ℕ} {later : List ℕ} → Stores (first (placeCheck k ∷ checks)) bytes places k r later → Puts sheet places c r later
+  put-stored w = record { changes = λ staged. record { numbered = w .numbered ∙ sym (due staged); stands = ap (panel sheet staged) (w .stands) ∙ sym (left staged) } }
 
+  pub put-over : placeCount ≤ k → Puts sheet places c 8 places
+  put-over h = put-stored (unstored (first (placeCheck k ∷ checks)) bytes places k (rw (le-ltb k placeCount h)) (λ e. omega arith))
+
+  pub put-done : {r : ℕ} {later : List ℕ} → k < placeCount → Stores (first checks) bytes places k r later → Puts sheet places c r later
+  put-done {r} {later} h w = put-stored (subst (λ number. Stores number bytes places k r later) (rw (lt-ltb k placeCount h)) w)
+
+-- ---- put_row, put_record, put_claim
+module _ (sheet places : List ℕ) (k : ℕ) (bytes : List ℕ) where
   pub put-row-over : placeCount ≤ k → Puts sheet places (putRow k bytes) 8 places
   unfolding putRowNumber placesAfterRow
-  put-row-over h =
-      record {
-        changes = λ staged.
-            let e : 8 ≡ putRowNumber (here staged) k bytes = simp (le-ltb k placeCount h) in
-            record {
-              numbered = e;
-              stands = ap (panel sheet staged) (unstored (putRowNumber (here staged) k bytes) (built (operatorsOf sheet) (closesIn sheet) bytes) places k e (λ e. omega arith));
-            };
-      }
+  put-row-over = put-over sheet places k (putRow k bytes) (rowChecks (operatorsOf sheet) bytes) (built (operatorsOf sheet) (closesIn sheet) bytes) (λ staged. refl) (λ staged. refl)
 
-  pub put-row-done : {r : ℕ} {places′ : List ℕ} → k < placeCount → StoresRow sheet places k bytes r places′ → Puts sheet places (putRow k bytes) r places′
+  pub put-row-done : {r : ℕ} {later : List ℕ} → k < placeCount → StoresRow sheet places k bytes r later → Puts sheet places (putRow k bytes) r later
   unfolding putRowNumber placesAfterRow rowNumber
-  put-row-done h w =
-      record {
-        changes = λ staged.
-            let e : rowNumber (operatorsOf sheet) bytes ≡ putRowNumber (here staged) k bytes = simp (lt-ltb k placeCount h) in
-            record {
-              numbered = w .numbered ∙ e;
-              stands = ap (panel sheet staged) (w .stands ∙ ap (λ x. ifAccepted x (stored places k (built (operatorsOf sheet) (closesIn sheet) bytes)) places) e);
-            };
-      }
+  put-row-done = put-done sheet places k (putRow k bytes) (rowChecks (operatorsOf sheet) bytes) (built (operatorsOf sheet) (closesIn sheet) bytes) (λ staged. refl) (λ staged. refl)
 
   pub put-record-over : placeCount ≤ k → Puts sheet places (putRecord k bytes) 8 places
   unfolding putRecordNumber placesAfterRecord
-  put-record-over h =
-      record {
-        changes = λ staged.
-            let e : 8 ≡ putRecordNumber (here staged) k bytes = simp (le-ltb k placeCount h) in
-            record { numbered = e; stands = ap (panel sheet staged) (unstored (putRecordNumber (here staged) k bytes) (rebuilt sheet bytes) places k e (λ e. omega arith)) };
-      }
+  put-record-over = put-over sheet places k (putRecord k bytes) (recordChecks (operatorsOf sheet) bytes) (rebuilt sheet bytes) (λ staged. refl) (λ staged. refl)
 
-  pub put-record-done : {r : ℕ} {places′ : List ℕ} → k < placeCount → StoresRecord sheet places k bytes r places′ → Puts sheet places (putRecord k bytes) r places′
+  pub put-record-done : {r : ℕ} {later : List ℕ} → k < placeCount → StoresRecord sheet places k bytes r later → Puts sheet places (putRecord k bytes) r later
   unfolding putRecordNumber placesAfterRecord recordNumber
-  put-record-done h w =
-      record {
-        changes = λ staged.
-            let e : recordNumber (operatorsOf sheet) bytes ≡ putRecordNumber (here staged) k bytes = simp (lt-ltb k placeCount h) in
-            record { numbered = w .numbered ∙ e; stands = ap (panel sheet staged) (w .stands ∙ ap (λ x. ifAccepted x (stored places k (rebuilt sheet bytes)) places) e) };
-      }
+  put-record-done = put-done sheet places k (putRecord k bytes) (recordChecks (operatorsOf sheet) bytes) (rebuilt sheet bytes) (λ staged. refl) (λ staged. refl)
+
+module _ (sheet places : List ℕ) (k : ℕ) (row bytes : List ℕ) where
+  abbrev checks : List Check
+  checks = pairChecks (operatorsOf sheet) row bytes (countIn sheet (treeOf (class (operatorsOf sheet)) bytes))
+
+  pub put-claim-over : placeCount ≤ k → Puts sheet places (putClaim k row bytes) 8 places
+  unfolding putClaimNumber placesAfterClaim
+  put-claim-over = put-over sheet places k (putClaim k row bytes) checks bytes (λ staged. refl) (λ staged. refl)
+
+  pub put-claim-done : {r : ℕ} {later : List ℕ} → k < placeCount → StoresClaim sheet places k row bytes r later → Puts sheet places (putClaim k row bytes) r later
+  unfolding putClaimNumber placesAfterClaim numberIn
+  put-claim-done = put-done sheet places k (putClaim k row bytes) checks bytes (λ staged. refl) (λ staged. refl)
+
+pub ruleset put-claim-ways = (put-claim-over, put-claim-done, needs)
 
 pub ruleset put-row-ways = (put-row-over, put-row-done, needs)
 

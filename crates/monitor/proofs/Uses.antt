@@ -1,28 +1,21 @@
 -- Which operators rows, records and trees use, and what other operators make of a tree. Assumes nothing.
-use Prim.Native.Nat.{ℕ, _+_, _≤_, _<_}
-use native.Mathlib.Omega.{arith}
+use Prim.Native.Nat.{ℕ, _<_}
 use mathlib.Core.Path.{_≡_, refl, ap, ap₂, sym, _∙_}
 use mathlib.Core.Bool.{Bool, false, _||_, or-false}
-use mathlib.Core.List.{List, [], _∷_, _++_}
+use mathlib.Core.List.{[], _∷_, _++_}
 use lib.Dec.{eqb, ltb}
-use lib.ListN.{length}
 use borrow.Author.Tests.{lt-ltb, ltb-true, eqb-true, not-false}
-use Rattle.expression.specs.Lists.{anyHolds, howMany}
+use Rattle.expression.specs.Lists.{anyHolds}
 use Rattle.expression.specs.Limits.{mostOperators}
 use Rattle.expression.specs.Token.{Reading, closing, Operators, kindOf, classOfKind, class}
 use Rattle.expression.specs.Tree.{Tree, reading, bracket, binary, prefix, yield, recordOf, Over}
 use Rattle.expression.proofs.Classes.{class-operator, class-reading, infix-byte, prefix-byte, reading-byte}
-use Rattle.expression.proofs.Tests.{at-most-one, or-middle, both-false, any-append}
+use Rattle.expression.proofs.Tests.{or-middle, both-false, any-append}
 use Rattle.monitor.specs.Panel.{isEmpty, beyond, changed, usesOther}
 
 -- an operator that a new sheet has not, or has as another kind
 abbrev unfit : Operators → Operators → ℕ → Bool
 unfit n m c = beyond m c || changed n m c
-
--- ---- lists
-pub count-small : (p : ℕ → Bool) (xs : List ℕ) → howMany p xs ≤ length xs
-count-small p [] = omega arith
-count-small p (x ∷ xs) = omega (arith, at-most-one (p x), count-small p xs)
 
 -- ---- no record is empty
 pub record-not-empty : (t : Tree) → isEmpty (recordOf t) ≡ false

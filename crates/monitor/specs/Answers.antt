@@ -12,7 +12,7 @@ use Rattle.expression.specs.Operand.{operandRecord}
 use Rattle.disambiguation.specs.Conflicts.{conflictCount, ConflictFreeTree}
 use Rattle.brackets.specs.SameMeaning.{ShortestRow}
 use Rattle.places.specs.Store.{imageOf}
-use Rattle.monitor.specs.Call.{Question, Call, lentBefore, stage, stageList, switch, putRow, putRecord, ask, fetchRecord, fetchRow, image, build, repair, judge, yield, operand, shortestRow, Reply}
+use Rattle.monitor.specs.Call.{Question, Call, lentBefore, stage, stageList, switch, putRow, putRecord, putClaim, ask, fetchRecord, fetchRow, image, build, repair, judge, yield, operand, shortestRow, Reply}
 use Rattle.monitor.specs.Call as call
 use Rattle.monitor.specs.Book.{Book, slotRow, SlotTree, askedNumber, bookNumber}
 
@@ -92,6 +92,7 @@ module _ (b : Book) where
   Rest switch r = Silent r
   Rest (putRow k row) r = Silent r
   Rest (putRecord k bytes) r = Silent r
+  Rest (putClaim k row bytes) r = Silent r
   Rest (call.drop k) r = Silent r
   Rest (ask q) r = Answered q r
 

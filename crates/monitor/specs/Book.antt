@@ -15,8 +15,9 @@ use Rattle.disambiguation.specs.Rules.{Rule}
 use Rattle.disambiguation.specs.Conflicts.{ConflictFreeTree}
 use Rattle.disambiguation.specs.SheetChecks.{rulesIn, operatorsIn, sheetNumber, listNumber}
 use Rattle.brackets.specs.Shortest.{shortestBy, shortestNumber}
+use Rattle.claims.specs.Claims.{pairChecks, countBy}
 use Rattle.places.specs.Store.{slotBytes}
-use Rattle.monitor.specs.Call.{Question, Call, stage, stageList, switch, putRow, putRecord, drop, ask, fetchRecord, fetchRow, image, build, repair, judge, yield, operand, shortestRow}
+use Rattle.monitor.specs.Call.{Question, Call, stage, stageList, switch, putRow, putRecord, putClaim, drop, ask, fetchRecord, fetchRow, image, build, repair, judge, yield, operand, shortestRow}
 use Rattle.monitor.specs.Panel.{placeCheck, inUseCheck, ifAccepted}
 
 -- a sheet as it is written down: n and the kinds, and the rules
@@ -83,6 +84,7 @@ module _ (b : Book) where
   bookNumber switch = notedNumber (b .note)
   bookNumber (putRow k row) = first (placeCheck k ∷ rowChecks (b .operators) row)
   bookNumber (putRecord k bytes) = first (placeCheck k ∷ recordChecks (b .operators) bytes)
+  bookNumber (putClaim k row bytes) = first (placeCheck k ∷ pairChecks (b .operators) row bytes (countBy (b .rules) (treeOf (class (b .operators)) bytes)))
   bookNumber (drop k) = first (placeCheck k ∷ blankCheck (b .slots k) ∷ [])
   bookNumber (ask q) = askedNumber q
 
@@ -99,14 +101,15 @@ module _ (b : Book) where
   abbrev pub withSlot : ℕ → Option (List ℕ) → Book
   withSlot k slot = record { operators = b .operators; rules = b .rules; note = b .note; slots = λ j. cond (eqb j k) slot (b .slots j) }
 
-  -- Staging: the call's sheet is noted. Switch: the noted one is put in force and the note cleared; slots stay. Put of a row: the slot gets the row; of a record: its yield.
-  -- Drop: the slot goes blank.
+  -- Staging: the call's sheet is noted. Switch: the noted one is put in force and the note cleared; slots stay. Put of a row, alone or with a claimed record: the slot gets
+  -- the row; of a record: its yield. Drop: the slot goes blank.
   abbrev pub entered : Call → Book
   entered (stage n bytes) = withNote (ruledBy (operatorsIn n bytes) (rulesIn n bytes))
   entered (stageList n kinds rules) = withNote (ruledBy (operators n kinds) rules)
   entered switch = ruledByNote (b .note)
   entered (putRow k row) = withSlot k (some row)
   entered (putRecord k bytes) = withSlot k (some (rowOf (treeOf (class (b .operators)) bytes)))
+  entered (putClaim k row bytes) = withSlot k (some row)
   entered (drop k) = withSlot k none
   entered (ask q) = b
 

@@ -17,13 +17,15 @@ pub data Question : Type 0 where
   -- docs/REFERENCE.md, section 6
   shortestRow : (bytes : List ℕ) (out : List ℕ) → Question
 
--- All calls. A staging's bytes are its kinds and then its rules; `stageList` is the staging whose kinds and rules come as two lists.
+-- All calls. A staging's bytes are its kinds and then its rules; `stageList` is the staging whose kinds and rules come as two lists. `putClaim` is the put of a row with
+-- the record that is claimed for it.
 pub data Call : Type 0 where
   stage : (n : ℕ) (bytes : List ℕ) → Call
   stageList : (n : ℕ) (kinds : List ℕ) (rules : List Rule) → Call
   switch : Call
   putRow : (place : ℕ) (row : List ℕ) → Call
   putRecord : (place : ℕ) (bytes : List ℕ) → Call
+  putClaim : (place : ℕ) (row bytes : List ℕ) → Call
   drop : (place : ℕ) → Call
   ask : Question → Call
 
@@ -46,6 +48,7 @@ lentTo (stageList n kinds rules) = []
 lentTo switch = []
 lentTo (putRow k row) = []
 lentTo (putRecord k bytes) = []
+lentTo (putClaim k row bytes) = []
 lentTo (drop k) = []
 lentTo (ask q) = lentBefore q
 

@@ -17,6 +17,7 @@ use Rattle.record.specs.declared.Answer.{Answer}
 use Rattle.record.specs.declared.Judgement.{Judgement}
 use Rattle.record.specs.declared.operands.Part.{Part}
 use Rattle.parser.specs.Build.{built}
+use Rattle.claims.specs.Claims.{numberIn}
 use Rattle.places.specs.Store.{placeCount, held, stored}
 use Rattle.monitor.specs.Call.{Question, Call, ask, judge, operand}
 use Rattle.monitor.specs.Call as call
@@ -87,18 +88,26 @@ unfoldable pub someUse : ℕ → ℕ → List ℕ → Bool
 someUse n set places = not (allBelow placeCount (λ k. not (usesBy n set (held places k))))
 
 -- ---- inside the puts and the switch
--- What is built of a row, or of a record's row, is stored at a place; the places are as they were where it is refused.
+-- Bytes with a number of their own are stored at a place where that is 0; else the places are as they were.
+abbrev pub storedIf : ℕ → List ℕ → List ℕ → ℕ → List ℕ
+storedIf number bytes places k = ifAccepted number (stored places k bytes) places
+
+pub record Stores (number : ℕ) (bytes places : List ℕ) (k r : ℕ) (later : List ℕ) : Type 0 where
+  pub numbered : r ≡ number
+  pub stands : later ≡ storedIf number bytes places k
+
+-- what is built of a row, or of a record's row
 module _ (sheet places : List ℕ) (k : ℕ) where
-  abbrev pub afterRow : List ℕ → List ℕ
-  afterRow row = ifAccepted (rowNumber (operatorsOf sheet) row) (stored places k (built (operatorsOf sheet) (closesIn sheet) row)) places
+  abbrev pub StoresRow : List ℕ → ℕ → List ℕ → Type 0
+  StoresRow row = Stores (rowNumber (operatorsOf sheet) row) (built (operatorsOf sheet) (closesIn sheet) row) places k
 
+  abbrev pub StoresRecord : List ℕ → ℕ → List ℕ → Type 0
+  StoresRecord bytes = Stores (recordNumber (operatorsOf sheet) bytes) (rebuilt sheet bytes) places k
+
+  -- a record as it was sent, beside its row
+  abbrev pub StoresClaim : List ℕ → List ℕ → ℕ → List ℕ → Type 0
+  StoresClaim row bytes = Stores (numberIn sheet row bytes) bytes places k
+
+  -- the places after a record is put
   abbrev pub afterRecord : List ℕ → List ℕ
-  afterRecord bytes = ifAccepted (recordNumber (operatorsOf sheet) bytes) (stored places k (rebuilt sheet bytes)) places
-
-  pub record StoresRow (row : List ℕ) (r : ℕ) (later : List ℕ) : Type 0 where
-    pub numbered : r ≡ rowNumber (operatorsOf sheet) row
-    pub stands : later ≡ afterRow row
-
-  pub record StoresRecord (bytes : List ℕ) (r : ℕ) (later : List ℕ) : Type 0 where
-    pub numbered : r ≡ recordNumber (operatorsOf sheet) bytes
-    pub stands : later ≡ afterRecord bytes
+  afterRecord bytes = storedIf (recordNumber (operatorsOf sheet) bytes) (rebuilt sheet bytes) places k

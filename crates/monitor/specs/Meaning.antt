@@ -7,16 +7,17 @@ use mathlib.Core.List.{List, [], _∷_}
 use lib.ListN.{length}
 use lib.ListN as lists
 use Rattle.expression.specs.Limits.{mostOperators, mostRules, mostRuleBytes, bytesOfRule, mostTokens, mostRecordBytes}
-use Rattle.expression.specs.Refusal.{accepted, oversize, torn, stranger, dead, double, noRow, noTree, place, empty, short, inUse, nothingStaged}
+use Rattle.expression.specs.Refusal.{accepted, oversize, torn, stranger, dead, double, noRow, noTree, place, empty, short, inUse, nothingStaged, otherRow, conflict}
 use Rattle.expression.specs.Token.{Closing, Meaningless, prefixKind, Operators, operators, kindOf, class}
 use Rattle.expression.specs.Tree.{Tree}
 use Rattle.expression.specs.Tree as tree
 use Rattle.expression.specs.Grammar.{Row}
 use Rattle.disambiguation.specs.Rules.{Rule, priority, right}
+use Rattle.disambiguation.specs.Conflicts.{conflictCount}
 use Rattle.disambiguation.specs.ExactlyOne.{SomeRowHasNone, EveryRowHasOne, SomeRowHasTwo}
 use Rattle.disambiguation.specs.SheetChecks.{rulesIn, operatorsIn}
 use Rattle.places.specs.Store.{placeCount}
-use Rattle.monitor.specs.Call.{Question, Call, lentBefore, stage, stageList, switch, putRow, putRecord, drop, ask, fetchRecord, fetchRow, image, build, repair, judge, yield, operand, shortestRow}
+use Rattle.monitor.specs.Call.{Question, Call, lentBefore, stage, stageList, switch, putRow, putRecord, putClaim, drop, ask, fetchRecord, fetchRow, image, build, repair, judge, yield, operand, shortestRow}
 use Rattle.monitor.specs.Book.{Rules, Book}
 use Rattle.monitor.specs.Answers.{Records, Told}
 
@@ -78,6 +79,13 @@ module _ (b : Book) where
       (When ((t : Tree) × Records b bytes t × (mostTokens < length (tree.yield t))) oversize
       Else)))
 
+  -- A record that came with a row: 16, it is of another row; 17, its tree has a conflict.
+  abbrev pub OfClaim : List ℕ → List ℕ → ℕ → Type 0
+  OfClaim row bytes =
+      When ((t : Tree) × Records b bytes t × (tree.yield t ≡ row → ⊥)) otherRow
+      (When ((t : Tree) × Records b bytes t × (conflictCount (b .rules) t ≡ 0 → ⊥)) conflict
+      Accepted)
+
   -- 11: a slot's row uses an operator that is not below n of the new operators, or one whose kind they change.
   abbrev pub UsesOther : Operators → Type 0
   UsesOther new =
@@ -111,5 +119,6 @@ module _ (b : Book) where
       Accepted)
   Means (putRow k row) = AtPlace k (OfRow row Accepted)
   Means (putRecord k bytes) = AtPlace k (OfRecord bytes Accepted)
+  Means (putClaim k row bytes) = AtPlace k (OfRow row (OfRecord bytes (OfClaim row bytes)))
   Means (drop k) = AtPlace k (NotBlank k Accepted)
   Means (ask q) = MeansAsked q

@@ -1,14 +1,14 @@
 -- Demands 1, 2 and 3 of the panel's calls, and what later requests add to them, on one page. Assumes nothing.
 --     Demand 1 speaks of every panel value and every call with any bytes: no call has a `requires`, and each is proved to end.
 --     Demands 2 and 3 and the requests speak of the panel after every list of calls, refused ones included, from a fresh panel. A list has the last call first.
-use Prim.Native.Nat.{ℕ, _≤_}
+use Prim.Native.Nat.{ℕ, _≤_, _<_}
 use mathlib.Core.Path.{_≡_}
 use mathlib.Core.Logic.{_↔_, _⊎_}
 use mathlib.Core.Option.{none, some}
 use mathlib.Core.List.{List, _∷_}
 use lib.ListN.{length}
 use Rattle.expression.specs.Limits.{mostTokens, mostRecordBytes}
-use Rattle.expression.specs.Refusal.{accepted, dead, double, inUse, nothingStaged}
+use Rattle.expression.specs.Refusal.{accepted, dead, double, inUse, nothingStaged, conflict}
 use Rattle.expression.specs.Token.{Infix, Operators, operators, class}
 use Rattle.expression.specs.Grammar.{Row}
 use Rattle.expression.specs.Tree.{Tree, recordOf, Over}
@@ -25,7 +25,9 @@ use Rattle.sheet.specs.InForce.{InForce}
 use Rattle.sheet.specs.BindingPowers.{given, notInfix, powersIn}
 use Rattle.parser.specs.FromTheLeft.{state, FromTheLeft}
 use Rattle.brackets.specs.SameMeaning.{OfInfix, ShortestRow}
-use Rattle.monitor.specs.Call.{Call, Reply, lentTo, stage, stageList, switch, putRecord, ask, build, repair, judge, yield, shortestRow}
+use Rattle.claims.specs.Claims.{Claimed}
+use Rattle.places.specs.Store.{placeCount}
+use Rattle.monitor.specs.Call.{Call, Reply, lentTo, stage, stageList, switch, putRow, putRecord, putClaim, ask, fetchRecord, build, repair, judge, yield, shortestRow}
 use Rattle.monitor.specs.Panel.{Panel}
 use Rattle.monitor.specs.Steps.{after, reply}
 use Rattle.monitor.specs.Book.{Rules, ruledBy}
@@ -150,6 +152,21 @@ module _ (cs : List Call) where
     pub parsed : (row : List ℕ) → Row ops row → OfInfix ops rules row
         → (t : Tree) × ConflictFreeTree ops rules row t
         × (readByPowers (class ops) (λ a. powersIn (panelAfter cs .sheet) a .left) (λ a. powersIn (panelAfter cs .sheet) a .right) row ≡ some t)
+
+  -- W8, trees from the planning tool. A row comes with the record that is claimed for it, and a place. What the numbers mean is in `Demand3.numbers`.
+  pub record ClaimedTrees : Type 0 where
+    -- At a place, and with a row within the length, the pair is accepted exactly if the record is that of the row's conflict-free tree,
+    pub accepted-exactly-if : (k : ℕ) (row bytes : List ℕ) → (answer cs (putClaim k row bytes) .number ≡ accepted) ↔ ((k < placeCount) × (length row ≤ mostTokens) × Claimed ops rules row bytes)
+    -- and that is exactly if building the row gives this record.
+    pub as-built : (k : ℕ) (row bytes out : List ℕ) → k < placeCount → mostRecordBytes ≤ length out
+        → (answer cs (putClaim k row bytes) .number ≡ accepted) ↔ AnsweredBy cs (ask (build row out)) out bytes
+    -- 17 is given only where the row is the record's own.
+    pub same-row : (k : ℕ) (row bytes : List ℕ) → answer cs (putClaim k row bytes) .number ≡ conflict → (t : Tree) × Over (class ops) t × (recordOf t ≡ bytes) × (tree.yield t ≡ row)
+    -- An accepted record is held as sent,
+    pub as-sent : (k : ℕ) (row bytes out : List ℕ) → answer cs (putClaim k row bytes) .number ≡ accepted → length bytes ≤ length out
+        → AnsweredBy (putClaim k row bytes ∷ cs) (ask (fetchRecord k out)) out bytes
+    -- and the call counts as a put of the row there: the panel after it is the same.
+    pub as-put : (k : ℕ) (row bytes : List ℕ) → answer cs (putClaim k row bytes) .number ≡ accepted → panelAfter (putClaim k row bytes ∷ cs) ≡ panelAfter (putRow k row ∷ cs)
 
 -- W4, chains of priority. Of any rules, which patterns they exclude: both where one or more priority rules lead from the one operator to the other, whatever their kinds, and else
 -- by left and right as written. With W5, what an operator sees of an operand is said in `Edges`. Demands 2 and 3 and the requests above speak of conflicts by these patterns.

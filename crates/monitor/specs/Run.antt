@@ -15,7 +15,7 @@ use Rattle.expression.specs.Decode.{treeOf}
 use Rattle.expression.specs.Operand.{rowOf}
 use Rattle.disambiguation.specs.SheetChecks.{rulesIn, operatorsIn}
 use Rattle.places.specs.Store.{imageOf}
-use Rattle.monitor.specs.Call.{Call, stage, stageList, switch, putRow, putRecord, drop, ask, fetchRecord, fetchRow, image, repair, Reply}
+use Rattle.monitor.specs.Call.{Call, stage, stageList, switch, putRow, putRecord, putClaim, drop, ask, fetchRecord, fetchRow, image, repair, Reply}
 use Rattle.monitor.specs.Panel.{Panel, fresh}
 use Rattle.monitor.specs.Steps.{after, reply}
 use Rattle.monitor.specs.Book.{Rules, ruledBy, Book, blank, next}
@@ -46,6 +46,7 @@ lastStaged (stageList n kinds rules ∷ cs) = cond (isAccepted cs (stageList n k
 lastStaged (switch ∷ cs) = cond (isAccepted cs switch) none (lastStaged cs)
 lastStaged (putRow k row ∷ cs) = lastStaged cs
 lastStaged (putRecord k bytes ∷ cs) = lastStaged cs
+lastStaged (putClaim k row bytes ∷ cs) = lastStaged cs
 lastStaged (drop k ∷ cs) = lastStaged cs
 lastStaged (ask q ∷ cs) = lastStaged cs
 
@@ -62,6 +63,7 @@ inForce (stageList n kinds rules ∷ cs) = inForce cs
 inForce (switch ∷ cs) = cond (isAccepted cs switch) (orElse (lastStaged cs) (inForce cs)) (inForce cs)
 inForce (putRow k row ∷ cs) = inForce cs
 inForce (putRecord k bytes ∷ cs) = inForce cs
+inForce (putClaim k row bytes ∷ cs) = inForce cs
 inForce (drop k ∷ cs) = inForce cs
 inForce (ask q ∷ cs) = inForce cs
 
@@ -70,6 +72,7 @@ unfoldable pub lastPut : ℕ → List Call → Option (List ℕ)
 lastPut k [] = none
 lastPut k (putRow j row ∷ cs) = cond (isAccepted cs (putRow j row) && eqb k j) (some row) (lastPut k cs)
 lastPut k (putRecord j bytes ∷ cs) = cond (isAccepted cs (putRecord j bytes) && eqb k j) (some (rowOf (treeOf (class (inForce cs .operators)) bytes))) (lastPut k cs)
+lastPut k (putClaim j row bytes ∷ cs) = cond (isAccepted cs (putClaim j row bytes) && eqb k j) (some row) (lastPut k cs)
 lastPut k (drop j ∷ cs) = cond (isAccepted cs (drop j) && eqb k j) none (lastPut k cs)
 lastPut k (stage n bytes ∷ cs) = lastPut k cs
 lastPut k (stageList n kinds rules ∷ cs) = lastPut k cs
@@ -88,6 +91,7 @@ IsStaging (stageList n kinds rules) = Unit {0}
 IsStaging switch = ⊥
 IsStaging (putRow k row) = ⊥
 IsStaging (putRecord k bytes) = ⊥
+IsStaging (putClaim k row bytes) = ⊥
 IsStaging (drop k) = ⊥
 IsStaging (ask q) = ⊥
 

@@ -13,11 +13,12 @@ use Rattle.disambiguation.specs.SheetChecks.{kindsIn, rulesIn, sheetNumber, lis
 use Rattle.sheet.specs.Layout.{operatorsOf}
 use Rattle.sheet.specs.Relation.{closesIn}
 use Rattle.sheet.specs.Loading.{sheetOf}
-use Rattle.record.specs.Answers.{judgement}
+use Rattle.record.specs.Answers.{countIn, judgement}
 use Rattle.parser.specs.Build.{built}
 use Rattle.brackets.specs.Shortest.{shortestOf, shortestNumber}
+use Rattle.claims.specs.Claims.{pairChecks}
 use Rattle.places.specs.Store.{placeCount, slotBytes, held, imageOf, stored}
-use Rattle.monitor.specs.Call.{Question, Call, lentTo, stage, stageList, switch, putRow, putRecord, drop, ask, fetchRecord, fetchRow, image, build, repair, judge, yield, operand, shortestRow, Reply}
+use Rattle.monitor.specs.Call.{Question, Call, lentTo, stage, stageList, switch, putRow, putRecord, putClaim, drop, ask, fetchRecord, fetchRow, image, build, repair, judge, yield, operand, shortestRow, Reply}
 use Rattle.monitor.specs.Panel.{Panel, panel, noneStaged, placeCheck, emptyCheck, inUseCheck, stagedCheck, ifAccepted, rebuilt, rebuiltTo}
 
 -- What a call gives: its number; accepted, the bytes that it writes into its lent output; a judge's count; an operand's part.
@@ -47,6 +48,9 @@ module _ (p : Panel) where
   unfoldable pub putRecordNumber : ℕ → List ℕ → ℕ
   putRecordNumber k bytes = first (placeCheck k ∷ recordChecks ops bytes)
 
+  unfoldable pub putClaimNumber : ℕ → List ℕ → List ℕ → ℕ
+  putClaimNumber k row bytes = first (placeCheck k ∷ pairChecks ops row bytes (countIn (p .sheet) (treeOf (class ops) bytes)))
+
   unfoldable pub dropNumber : ℕ → ℕ
   dropNumber k = first (placeCheck k ∷ emptyCheck (held (p .places) k) ∷ [])
 
@@ -74,6 +78,10 @@ module _ (p : Panel) where
   unfoldable pub placesAfterRecord : ℕ → List ℕ → List ℕ
   placesAfterRecord k bytes = ifAccepted (putRecordNumber k bytes) (stored (p .places) k (rebuilt (p .sheet) bytes)) (p .places)
 
+  -- A claimed record is held as sent.
+  unfoldable pub placesAfterClaim : ℕ → List ℕ → List ℕ → List ℕ
+  placesAfterClaim k row bytes = ifAccepted (putClaimNumber k row bytes) (stored (p .places) k bytes) (p .places)
+
   unfoldable pub placesAfterDrop : ℕ → List ℕ
   placesAfterDrop k = ifAccepted (dropNumber k) (stored (p .places) k []) (p .places)
 
@@ -90,6 +98,7 @@ module _ (p : Panel) where
   after switch = afterSwitch
   after (putRow k row) = withPlaces (placesAfterRow k row)
   after (putRecord k bytes) = withPlaces (placesAfterRecord k bytes)
+  after (putClaim k row bytes) = withPlaces (placesAfterClaim k row bytes)
   after (drop k) = withPlaces (placesAfterDrop k)
   after (ask q) = p
 
@@ -112,6 +121,7 @@ module _ (p : Panel) where
   outcome switch = numbered switchNumber
   outcome (putRow k row) = numbered (putRowNumber k row)
   outcome (putRecord k bytes) = numbered (putRecordNumber k bytes)
+  outcome (putClaim k row bytes) = numbered (putClaimNumber k row bytes)
   outcome (drop k) = numbered (dropNumber k)
   outcome (ask q) = told q
 

@@ -1,5 +1,5 @@
 // The panel's calls: the sheet in force, the staged one and the sixteen places are lent. After a refusal the panel and a lent output are as they were.
-ghost use Rattle.monitor.specs.Call.{stage, switch, putRow, putRecord, fetchRecord, fetchRow, image, build, repair, yield, shortestRow};
+ghost use Rattle.monitor.specs.Call.{stage, switch, putRow, putRecord, putClaim, fetchRecord, fetchRow, image, build, repair, yield, shortestRow};
 ghost use Rattle.monitor.specs.Panel.{panel};
 ghost use Rattle.monitor.specs.Contracts.{Changes, Stages, Puts, Drops, AnswersOn, AnswersUnder, AnswersFrom, Judges, NumbersOperand, FindsOperand, PlacesOperand};
 use expression::limits::MOST_RECORD_BYTES;
@@ -76,6 +76,22 @@ pub fn put_record(
     }
     let mut buffer = [0u8; MOST_RECORD_BYTES];
     storing::store_record(sheet, places, place as u8, bytes, &mut buffer)
+}
+
+// The place holds the record as it was sent, where that is the record of the row's conflict-free tree.
+pub fn put_claim(
+    sheet: &[u32; SHEET_WORDS],
+    places: &mut [u8; STORE_BYTES],
+    place: u32,
+    row: &[u8],
+    bytes: &[u8],
+) -> u8
+    ensures { λ r. ⌜ Puts (now (sheet .entry)) (now (places .entry)) (putClaim place (now (row .entry)) (now (bytes .entry))) r (now (places .exit)) ⌝ }
+{
+    if PLACE_COUNT <= place {
+        return refusal::PLACE;
+    }
+    storing::store_claim(sheet, places, place as u8, row, bytes)
 }
 
 // The place is empty.

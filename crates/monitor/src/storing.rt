@@ -1,11 +1,11 @@
-// Storing what is built at a place, and the rebuilding of all places under a new sheet.
+// Storing at a place what is built or was sent, and the rebuilding of all places under a new sheet.
 ghost use mathlib.Core.Path.{_≡_};
 ghost use Prim.Native.Nat.{_≤_};
 ghost use lib.ListN.{length};
 ghost use Rattle.expression.specs.Limits.{mostRecordBytes};
 ghost use Rattle.places.specs.Store.{placeCount, held};
 ghost use Rattle.monitor.specs.Panel.{rebuiltTo};
-ghost use Rattle.monitor.specs.Contracts.{StoresRow, StoresRecord, afterRecord};
+ghost use Rattle.monitor.specs.Contracts.{StoresRow, StoresRecord, StoresClaim, afterRecord};
 use expression::limits::MOST_RECORD_BYTES;
 use expression::refusal;
 use places::limits;
@@ -54,7 +54,25 @@ pub fn store_record(
     refusal::ACCEPTED
 }
 
-// The same of the record that the place holds.
+// The record as it was sent, where its number beside the row is 0.
+pub fn store_claim(
+    sheet: &[u32; SHEET_WORDS],
+    places: &mut [u8; STORE_BYTES],
+    place: u8,
+    row: &[u8],
+    bytes: &[u8],
+) -> u8
+    ensures { λ r. ⌜ StoresClaim (now (sheet .entry)) (now (places .entry)) place (now (row .entry)) (now (bytes .entry)) r (now (places .exit)) ⌝ }
+{
+    let number = claims::claim_number(sheet, row, bytes);
+    if number != refusal::ACCEPTED {
+        return number;
+    }
+    places::put(places, place, bytes);
+    refusal::ACCEPTED
+}
+
+// The record that is built of the row of what the place holds.
 fn rebuild_by(
     sheet: &[u32; SHEET_WORDS],
     places: &mut [u8; STORE_BYTES],
