@@ -19,6 +19,7 @@ use Rattle.record.specs.declared.Answer.{Answer}
 use Rattle.record.specs.declared.Judgement.{Judgement}
 use Rattle.parser.proofs.RepairWays.{number-is, laid, repair-part}
 use Rattle.claims.specs.Claims.{sameBytes, claimChecks, besideRow, numberBeside, numberIn}
+use Rattle.claims.proofs.Accepting.{row-passes}
 
 -- ---- number_of
 pub other-row : (same : Bool) (count : ℕ) → not same ≡ true → 16 ≡ first (claimChecks same count)
@@ -43,12 +44,17 @@ module _ (sheet row bytes : List ℕ) where
   same = sameBytes (rowOf (treeOf (class ops) bytes)) row
 
   -- ---- claim_number
+  pub pair-passed : {beside : ℕ} → beside ≡ numberBeside sheet row bytes → beside ≡ 0 → 0 ≡ numberIn sheet row bytes
+  unfolding rowNumber numberBeside numberIn
+  pair-passed e z =
+      sym (rest-first (rowChecks ops row) (besideRow ops row bytes count) (row-numbered ops row) (row-passes ops row bytes count (sym e ∙ z)) ∙ sym e ∙ z)
+
   module _ {number : ℕ} (is : number ≡ rowNumber ops row) where
     pub row-refused : (number ≡ 0 → ⊥) → number ≡ numberIn sheet row bytes
     unfolding rowNumber numberIn
     row-refused h = is ∙ sym (first-refused (rowChecks ops row) (besideRow ops row bytes count) (λ z. h (is ∙ z)))
 
-    pub row-passed : {r : ℕ} → r ≡ numberBeside sheet row bytes → number ≡ 0 → r ≡ numberIn sheet row bytes
+    pub row-passed : {beside : ℕ} → beside ≡ numberBeside sheet row bytes → number ≡ 0 → beside ≡ numberIn sheet row bytes
     unfolding rowNumber numberBeside numberIn
     row-passed e z = e ∙ sym (rest-first (rowChecks ops row) (besideRow ops row bytes count) (row-numbered ops row) (sym is ∙ z))
 
@@ -76,6 +82,6 @@ module _ (sheet row bytes : List ℕ) where
           e ∙ ap₂ (λ x n. first (claimChecks x n)) (s ∙ ap (λ own. sameBytes own row) (laid sheet bytes [] zeros room yields zero)) (ap (λ (j : Judgement). j .count) k ∙ counted)
           ∙ sym (rest-first (recordChecks ops bytes) (claimChecks same count) (record-numbered ops bytes) (sym number-of-record ∙ zero))
 
-pub ruleset pair-ways = (row-refused, row-passed, needs)
+pub ruleset pair-ways = (pair-passed, row-refused, row-passed, needs)
 
 pub ruleset beside-ways = (record-refused, row-part, record-passed, needs)

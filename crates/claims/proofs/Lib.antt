@@ -1,6 +1,6 @@
 pub mod SameBytes
 pub mod Comparing
-pub mod Claiming
 pub mod Accepting
+pub mod Claiming
 pub mod InForceClaims
 pub mod Examples

@@ -52,13 +52,18 @@ fn number_beside(sheet: &[u32; SHEET_WORDS], row: &[u8], bytes: &[u8]) -> u8
     number_of(same, judged.count)
 }
 
-// The number of the pair: the row's own, or that of the record beside it.
+// The number of the pair: the row's own, or that of the record beside it. A record that passes is of the row, which is then a row and
+// need not be looked at by itself.
 pub fn claim_number(sheet: &[u32; SHEET_WORDS], row: &[u8], bytes: &[u8]) -> u8
     ensures { λ r. ⌜ r ≡ numberIn (now (sheet .entry)) (now (row .entry)) (now (bytes .entry)) ⌝ }
 {
+    let beside = number_beside(sheet, row, bytes);
+    if beside == refusal::ACCEPTED {
+        return refusal::ACCEPTED;
+    }
     let number = parser::row_number(sheet, row);
     if number != refusal::ACCEPTED {
         return number;
     }
-    number_beside(sheet, row, bytes)
+    beside
 }

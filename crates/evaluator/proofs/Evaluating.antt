@@ -18,12 +18,13 @@ use Rattle.expression.specs.Decode.{treeOf}
 use Rattle.expression.specs.Checks.{recordChecks, recordNumber}
 use Rattle.expression.proofs.Classes.{brackets}
 use Rattle.expression.proofs.RecordsAndTrees.{record-treeOf}
-use Rattle.expression.proofs.Numbers.{first-append, first-refused, front-accepted, passed-first, record-numbered}
+use Rattle.expression.proofs.Numbers.{first-append, first-refused, passed-first, record-numbered}
 use Rattle.sheet.specs.Layout.{operatorsOf}
 use Rattle.record.specs.Checks.{strangerInRecord}
 use Rattle.record.proofs.Accepted.{Accepted, accepted-tree}
 use Rattle.places.specs.Store.{placeCount, held}
 use Rattle.monitor.specs.Panel.{placeCheck, emptyCheck}
+use Rattle.monitor.proofs.Replies.{front-accepted}
 use Rattle.monitor.proofs.AnswerWays.{empty-true, empty-false}
 use Rattle.evaluator.specs.Value.{lacksMeaning, lacksReading, value, treeChecks}
 use Rattle.evaluator.specs.Bytes.{anyMeaningless, anyBeyond}

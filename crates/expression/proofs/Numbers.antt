@@ -54,15 +54,7 @@ first-refused (c ∷ cs) ds n = go (c .0) (first-refused cs ds) n
     go true f n = refl
     go false f n = f n
 
--- what an accepted list has passed, and what comes after it
-pub front-accepted : (cs ds : List Check) → Numbered cs → first (cs ++ ds) ≡ accepted → first cs ≡ accepted
-front-accepted [] ds n e = refl
-front-accepted (c ∷ cs) ds n e = go (c .0) (front-accepted cs ds (n .1)) e
-  where
-    go : (b : Bool) → (first (cs ++ ds) ≡ accepted → first cs ≡ accepted) → cond b (c .1) (first (cs ++ ds)) ≡ accepted → cond b (c .1) (first cs) ≡ accepted
-    go true f e = absurd (n .0 e)
-    go false f e = f e
-
+-- what comes after an accepted list
 pub rest-first : (cs ds : List Check) → Numbered cs → first cs ≡ accepted → first (cs ++ ds) ≡ first ds
 rest-first cs ds n e = first-append cs ds (passed-first cs n e)
 
@@ -71,27 +63,20 @@ abbrev pub lacks : ℕ → List Check → Bool
 lacks n [] = true
 lacks n (c ∷ cs) = not (eqb (c .1) n) && lacks n cs
 
--- Such checks do not give it, with others after them that do not where these are passed.
-pub never : (n : ℕ) (cs ds : List Check) → lacks n cs ≡ true → (first cs ≡ accepted → first ds ≡ n → ⊥) → first (cs ++ ds) ≡ n → ⊥
-never n [] ds h f e = f refl e
-never n (c ∷ cs) ds h f e = go (c .0) (eqb (c .1) n) refl (never n cs ds) h f e
-  where
-    go : (b is : Bool) → eqb (c .1) n ≡ is → (lacks n cs ≡ true → (first cs ≡ accepted → first ds ≡ n → ⊥) → first (cs ++ ds) ≡ n → ⊥) → (not is && lacks n cs) ≡ true
-        → (cond b (c .1) (first cs) ≡ accepted → first ds ≡ n → ⊥) → cond b (c .1) (first (cs ++ ds)) ≡ n → ⊥
-    go b true q again h f e = absurd (true≢false (sym h))
-    go true false q again h f e = true≢false (sym (eq-eqb (c .1) n e) ∙ q)
-    go false false q again h f e = again h f e
-
--- Where they do not have it and it is not 0, they are passed, and what comes after them gives it.
-pub given-after : (n : ℕ) (cs ds : List Check) → (n ≡ accepted → ⊥) → lacks n cs ≡ true → first (cs ++ ds) ≡ n → Passed cs × (first ds ≡ n)
-given-after n [] ds a h e = (tt, e)
-given-after n (c ∷ cs) ds a h e = go (c .0) (eqb (c .1) n) refl refl (given-after n cs ds a) h e
+-- Where such checks are followed by others and the number is given, they are passed, and the others give it.
+pub given-after : (n : ℕ) (cs ds : List Check) → lacks n cs ≡ true → first (cs ++ ds) ≡ n → Passed cs × (first ds ≡ n)
+given-after n [] ds h e = (tt, e)
+given-after n (c ∷ cs) ds h e = go (c .0) (eqb (c .1) n) refl refl (given-after n cs ds) h e
   where
     go : (b is : Bool) → c .0 ≡ b → eqb (c .1) n ≡ is → (lacks n cs ≡ true → first (cs ++ ds) ≡ n → Passed cs × (first ds ≡ n)) → (not is && lacks n cs) ≡ true
         → cond b (c .1) (first (cs ++ ds)) ≡ n → Passed (c ∷ cs) × (first ds ≡ n)
     go b true p q again h e = absurd (true≢false (sym h))
     go true false p q again h e = absurd (true≢false (sym (eq-eqb (c .1) n e) ∙ q))
     go false false p q again h e = let (passed, rest) = again h e in ((p, passed), rest)
+
+-- They do not give it, with others after them that do not where these are passed.
+pub never : (n : ℕ) (cs ds : List Check) → lacks n cs ≡ true → (first cs ≡ accepted → first ds ≡ n → ⊥) → first (cs ++ ds) ≡ n → ⊥
+never n cs ds h f e = let (passed, rest) = given-after n cs ds h e in f (first-passed cs passed) rest
 
 -- the answer comes last: it is short, or the call's number is the list's
 pub first-short : (cs : List Check) (answer room : ℕ) → first cs ≡ accepted → Numbered cs → room < answer → first (cs ++ (shortCheck answer room ∷ [])) ≡ short

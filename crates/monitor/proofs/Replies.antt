@@ -4,7 +4,7 @@ use native.Mathlib.Omega.{arith}
 use mathlib.Core.Path.{_≡_, refl, ap, sym, subst, _∙_}
 use mathlib.Core.Bool.{Bool, true, false, not, cond}
 use mathlib.Core.Option.{Option, none, some}
-use mathlib.Core.List.{List, [], _∷_}
+use mathlib.Core.List.{List, [], _∷_, _++_}
 use lib.Dec.{eqb, ltb}
 use lib.ListN.{length}
 use borrow.Author.Tests.{ltb-true, ne-eqb}
@@ -18,7 +18,7 @@ use Rattle.expression.specs.Operand.{rowOf, operandIn, operandRecord, operandPa
 use Rattle.expression.specs.Checks.{shortCheck, recordBytes, rowTokens, rowChecks, recordChecks, rowNumber, recordNumber, buildNumber, repairNumber, yieldNumber}
 use Rattle.expression.proofs.Classes.{brackets}
 use Rattle.expression.proofs.RecordsAndTrees.{treeOf-record}
-use Rattle.expression.proofs.Numbers.{front-accepted, record-accepted, row-numbered, record-numbered}
+use Rattle.expression.proofs.Numbers.{Numbered, record-accepted, row-numbered, record-numbered}
 use Rattle.disambiguation.specs.Conflicts.{conflictCount}
 use Rattle.sheet.proofs.Laws.{count-by-relation}
 use Rattle.record.specs.Answers.{judgement, countIn}
@@ -57,6 +57,14 @@ no-output true = refl
 no-output false = refl
 
 -- what an accepted list has passed
+pub front-accepted : (cs ds : List Check) → Numbered cs → first (cs ++ ds) ≡ accepted → first cs ≡ accepted
+front-accepted [] ds n e = refl
+front-accepted (c ∷ cs) ds n e = go (c .0) (front-accepted cs ds (n .1)) e
+  where
+    go : (b : Bool) → (first (cs ++ ds) ≡ accepted → first cs ≡ accepted) → cond b (c .1) (first (cs ++ ds)) ≡ accepted → cond b (c .1) (first cs) ≡ accepted
+    go true f e = absurd (n .0 e)
+    go false f e = f e
+
 pub place-passed : (k : ℕ) (cs : List Check) → first (placeCheck k ∷ cs) ≡ accepted → (k < placeCount) × (first cs ≡ accepted)
 place-passed k cs e = go (ltb k placeCount) refl e
   where

@@ -10,4 +10,5 @@ claim-number-spec =
     (λ c κs. search pair-ways)
     (λ c. search pair-ways)
     (λ c κs. search pair-ways)
+    (λ c. search pair-ways)
     (λ c. search pair-ways))
