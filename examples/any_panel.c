@@ -51,33 +51,32 @@ static bool has_row(const struct panel *p, const uint8_t *record, size_t length,
     return answer.number == PANEL_ACCEPTED && answer.length == count && memcmp(row, tokens, count) == 0;
 }
 
-/*
- * What such a panel builds of a row, and repairs of a record, has that row. The row and the record have the same operators;
- * of which kind the panel takes them to be is not known. Answers whether it takes the row.
- */
+/* A row and a record of it; of which kind a panel takes the operators to be is not known. */
+static const uint8_t long_row[] = {
+    0x80, 0x07, 0x20, 0x81, 0x00, 0x03, 0x82, 0x21, 0x00, 0x83, 0x1F, 0x0B, 0x84, 0x00, 0x85, 0x1E, 0x86};
+static const uint8_t long_record[] = {
+    0x1F, 0x00, 0x07, 0x80, 0x20, 0x00, 0x81, 0x03, 0x82, 0x83, 0x1E, 0x00, 0x0B, 0x84, 0x85, 0x86};
+
+/* What such a panel builds of the row, and repairs of the record, has that row. Answers whether it takes the row. */
 static bool check_rows_of(const struct panel *p) {
-    static const uint8_t tokens[] = {
-        0x80, 0x07, 0x20, 0x81, 0x00, 0x03, 0x82, 0x21, 0x00, 0x83, 0x1F, 0x0B, 0x84, 0x00, 0x85, 0x1E, 0x86};
-    static const uint8_t tree[] = {
-        0x1F, 0x00, 0x07, 0x80, 0x20, 0x00, 0x81, 0x03, 0x82, 0x83, 0x1E, 0x00, 0x0B, 0x84, 0x85, 0x86};
     static const uint8_t strange_row[] = {0x80, 0x22, 0x81}, strange_record[] = {0x22, 0x80, 0x81};
     uint8_t out[300], row[300];
     struct panel_answer built, repaired, shortest;
     CHECK(panel_build(p, strange_row, sizeof strange_row, out, sizeof out).number == PANEL_STRANGER);
     CHECK(panel_repair(p, strange_record, sizeof strange_record, out, sizeof out).number == PANEL_STRANGER);
     CHECK(panel_shortest_row(p, strange_record, sizeof strange_record, out, sizeof out).number == PANEL_STRANGER);
-    shortest = panel_shortest_row(p, tree, sizeof tree, out, sizeof out);
-    repaired = panel_repair(p, tree, sizeof tree, out, sizeof out);
-    CHECK(shortest.number == repaired.number && shortest.length <= sizeof tokens);
+    shortest = panel_shortest_row(p, long_record, sizeof long_record, out, sizeof out);
+    repaired = panel_repair(p, long_record, sizeof long_record, out, sizeof out);
+    CHECK(shortest.number == repaired.number && shortest.length <= sizeof long_row);
     if (repaired.number == PANEL_ACCEPTED) {
-        size_t length = panel_yield(p, tree, sizeof tree, row, sizeof row).length;
-        CHECK(repaired.length == sizeof tree && has_row(p, out, sizeof tree, row, length));
+        size_t length = panel_yield(p, long_record, sizeof long_record, row, sizeof row).length;
+        CHECK(repaired.length == sizeof long_record && has_row(p, out, sizeof long_record, row, length));
     }
-    built = panel_build(p, tokens, sizeof tokens, out, sizeof out);
+    built = panel_build(p, long_row, sizeof long_row, out, sizeof out);
     CHECK((built.number == PANEL_STRANGER) == (repaired.number == PANEL_STRANGER));
     if (built.number != PANEL_ACCEPTED)
         return false;
-    CHECK(built.length == sizeof tree && has_row(p, out, sizeof tree, tokens, sizeof tokens));
+    CHECK(built.length == sizeof long_record && has_row(p, out, sizeof long_record, long_row, sizeof long_row));
     return true;
 }
 
@@ -121,6 +120,50 @@ static void check_powers_of(const struct panel *p) {
     }
 }
 
+/* The number that a claim has by the answers of other calls: the row's, the record's, 16 or 17. */
+static enum panel_number number_of_claim(
+    const struct panel *p, const uint8_t *row, size_t row_length, const uint8_t *record, size_t length) {
+    uint8_t out[300];
+    enum panel_number of_row = panel_build(p, row, row_length, out, sizeof out).number;
+    struct panel_judgement judged = panel_judge(p, record, length);
+    if (of_row != PANEL_ACCEPTED || judged.number != PANEL_ACCEPTED)
+        return of_row != PANEL_ACCEPTED ? of_row : judged.number;
+    if (!has_row(p, record, length, row, row_length))
+        return PANEL_OTHER_ROW;
+    return judged.count == 0 ? PANEL_ACCEPTED : PANEL_CONFLICT;
+}
+
+/* An accepted claim is held as it was sent and changes nothing else; a refused one changes nothing. Counts the numbers. */
+static void check_claim(
+    const struct panel *p, const uint8_t *row, size_t row_length, const uint8_t *record, size_t length, int *seen) {
+    enum { PLACE = 3 };
+    struct panel claimed = *p, expected = *p;
+    enum panel_number number = panel_put_claim(&claimed, PLACE, row, row_length, record, length);
+    CHECK(number == number_of_claim(p, row, row_length, record, length));
+    if (number == PANEL_ACCEPTED) {
+        uint8_t *image = expected.places + PLACE * PANEL_IMAGE_BYTES;
+        memset(image, 0, PANEL_IMAGE_BYTES);
+        image[0] = (uint8_t)length;
+        memcpy(image + 1, record, length);
+    }
+    CHECK(memcmp(&claimed, &expected, sizeof claimed) == 0);
+    seen[number]++;
+}
+
+/* The long row with what the panel builds of it, with the long record and with another; other rows, and what is no tree. */
+static void check_claims_of(const struct panel *p, int *seen) {
+    static const uint8_t strange[] = {0x80, 0x22, 0x81};
+    uint8_t built[300];
+    size_t length = panel_build(p, long_row, sizeof long_row, built, sizeof built).length;
+    check_claim(p, long_row, sizeof long_row, built, length, seen);
+    check_claim(p, long_row, sizeof long_row, long_record, sizeof long_record, seen);
+    check_claim(p, long_row, 1, long_record, sizeof long_record, seen);
+    check_claim(p, long_row, sizeof long_row, long_row, 1, seen);
+    check_claim(p, long_row, 2, long_record, sizeof long_record, seen);
+    check_claim(p, long_row, 1, long_record, sizeof long_record - 1, seen);
+    check_claim(p, strange, sizeof strange, long_record, sizeof long_record, seen);
+}
+
 /* The same with at most three bytes at a place, so that some hold trees; at place 0, 128 brackets around a reading. */
 static struct panel shortened(struct panel p) {
     for (size_t place = 1; place < PANEL_PLACES; place++)
@@ -144,8 +187,9 @@ static void check_switch(struct panel *p, struct panel *copy, int *seen) {
 int main(void) {
     static const uint8_t sheet_a[] = {0, 0, 1, 1, 0, 2, 1, 1, 2, 0, 0};
     static const uint8_t row[] = {0x20, 0x80, 0x00, 0x81, 0x21, 0x01, 0x82};
-    static const int met[] = {0, 1, 3, 7, 9, 13, 14}, switched[] = {0, 11, 15};
+    static const int met[] = {0, 1, 3, 7, 9, 13, 14}, switched[] = {0, 11, 15}, claimed[] = {0, 3, 6, 7, 16, 17};
     int taken = 0, seen[PANEL_NO_READING + 1] = {0}, switches[PANEL_NOTHING_STAGED + 1] = {0};
+    int claims[PANEL_CONFLICT + 1] = {0};
     for (uint32_t seed = 0; seed < 500; seed++) {
         struct panel p, copy, short_places;
         uint8_t one[300] = {0}, other[300] = {0};
@@ -159,6 +203,7 @@ int main(void) {
         }
         short_places = shortened(p);
         check_powers_of(&p);
+        check_claims_of(&p, claims);
         check_values_of(&p, seen);
         check_values_of(&short_places, seen);
         check_switch(&p, &copy, switches);
@@ -172,5 +217,7 @@ int main(void) {
         CHECK(seen[met[i]] > 0);
     for (size_t i = 0; i < sizeof switched / sizeof switched[0]; i++)
         CHECK(switches[switched[i]] > 0);
+    for (size_t i = 0; i < sizeof claimed / sizeof claimed[0]; i++)
+        CHECK(claims[claimed[i]] > 0);
     return failures != 0;
 }

@@ -3,6 +3,7 @@
  * 0 with NULL. Silent if all is well.
  */
 #include "check.h"
+#include "lent_output.h"
 #include "panel_evaluate.h"
 
 #include <string.h>
@@ -10,30 +11,13 @@
 static const uint8_t sheet_a[] = {0, 0, 1, 1, 0, 2, 1, 1, 2, 0, 0};
 static const uint8_t row[] = {0x20, 0x80, 0x00, 0x81, 0x21, 0x01, 0x82};
 static const uint8_t record[] = {0x01, 0x20, 0x00, 0x80, 0x81, 0x82};
-
-/* The number is the one given, and the output's bytes are all 0xEE still. */
-static bool untouched(struct panel_answer answer, enum panel_number number, const uint8_t *out, size_t room) {
-    for (size_t i = 0; i < room; i++)
-        if (out[i] != 0xEE)
-            return false;
-    return answer.number == number && answer.length == 0;
-}
-
-/* The answer is these bytes, and the output past them is 0xEE still. */
-static bool wrote(struct panel_answer answer, const uint8_t *bytes, size_t length, uint8_t *out, size_t room) {
-    bool right = answer.number == PANEL_ACCEPTED && answer.length == length && memcmp(out, bytes, length) == 0;
-    for (size_t i = length; i < room; i++)
-        right = right && out[i] == 0xEE;
-    memset(out, 0xEE, room);
-    return right;
-}
+/* A row without brackets and its record under sheet A; the record of its other tree, which has a conflict there. */
+static const uint8_t bare[] = {0x80, 0x00, 0x81, 0x01, 0x82}, repaired[] = {0x00, 0x80, 0x01, 0x81, 0x82};
+static const uint8_t torn[] = {0x01, 0x00, 0x80, 0x81, 0x82};
 
 static void check_trees(const struct panel *p, uint8_t *out) {
-    static const uint8_t torn[] = {0x01, 0x00, 0x80, 0x81, 0x82};
-    static const uint8_t repaired[] = {0x00, 0x80, 0x01, 0x81, 0x82};
     /* (80) 00 ((81 01 82)): all brackets are spare. */
     static const uint8_t spare[] = {0x00, 0x20, 0x80, 0x20, 0x20, 0x01, 0x81, 0x82};
-    static const uint8_t bare[] = {0x80, 0x00, 0x81, 0x01, 0x82};
     CHECK(wrote(panel_build(p, row, sizeof row, out, 300), record, sizeof record, out, 300));
     CHECK(wrote(panel_build(p, row, sizeof row, out, sizeof record), record, sizeof record, out, 300));
     CHECK(untouched(panel_build(p, row, sizeof row, out, sizeof record - 1), PANEL_SHORT, out, 300));
@@ -162,6 +146,23 @@ static void check_places(struct panel *p, uint8_t *out) {
     CHECK(untouched(panel_fetch_row(p, 0, out, 300), PANEL_EMPTY, out, 300));
 }
 
+/* A record that came with a row is held as it was sent; refused, it changes nothing. */
+static void check_claims(struct panel *p, uint8_t *out) {
+    const struct panel before = *p;
+    CHECK(panel_put_claim(p, 16, row, sizeof row, record, sizeof record) == PANEL_PLACE);
+    CHECK(panel_put_claim(p, 3, NULL, 0, NULL, 0) == PANEL_NO_ROW);
+    CHECK(panel_put_claim(p, 3, row, sizeof row, NULL, 0) == PANEL_NO_TREE);
+    CHECK(panel_put_claim(p, 3, row, sizeof row, torn, sizeof torn) == PANEL_OTHER_ROW);
+    CHECK(panel_put_claim(p, 3, bare, sizeof bare, torn, sizeof torn) == PANEL_CONFLICT);
+    CHECK(memcmp(p, &before, sizeof before) == 0);
+    CHECK(panel_put_claim(p, 3, row, sizeof row, record, sizeof record) == PANEL_ACCEPTED);
+    CHECK(wrote(panel_fetch_record(p, 3, out, 300), record, sizeof record, out, 300));
+    CHECK(panel_put_claim(p, 3, bare, sizeof bare, repaired, sizeof repaired) == PANEL_ACCEPTED);
+    CHECK(wrote(panel_fetch_record(p, 3, out, 300), repaired, sizeof repaired, out, 300));
+    CHECK(wrote(panel_fetch_row(p, 3, out, 300), bare, sizeof bare, out, 300));
+    CHECK(panel_drop(p, 3) == PANEL_ACCEPTED);
+}
+
 static bool gave(struct panel_value evaluated, enum panel_number number, int32_t value) {
     return evaluated.number == number && evaluated.value == value;
 }
@@ -238,10 +239,11 @@ int main(void) {
     check_trees(&p, out);
     check_operands(&p);
     check_places(&p, out);
+    check_claims(&p, out);
     check_values(&p);
     check_prefix(&p, out);
     CHECK(change_sheet(&p, 0, NULL, 0) == PANEL_ACCEPTED);
-    for (int number = PANEL_ACCEPTED; number <= PANEL_NOTHING_STAGED; number++)
+    for (int number = PANEL_ACCEPTED; number <= PANEL_CONFLICT; number++)
         CHECK(strncmp(panel_word((enum panel_number)number), "unknown", 7) != 0);
     return failures != 0;
 }

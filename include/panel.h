@@ -151,6 +151,18 @@ PANEL_NODISCARD static inline enum panel_number panel_put_record(
     return (enum panel_number)tihvomen_put_record(p->sheet.words, p->places, place, panel_from(record, length), length);
 }
 
+/*
+ * A row with the record that is claimed for it: accepted exactly if the record is that of the row's conflict-free tree,
+ * whoever made it. The place then holds the record as it was sent, as after a put of the row. Numbers: 8; 1, 3, 6 for the
+ * row; 1, 3, 7, 1 for the record; 16, 17.
+ */
+PANEL_NODISCARD static inline enum panel_number panel_put_claim(
+    struct panel *p, unsigned place, const uint8_t *row, size_t row_length, const uint8_t *record, size_t record_length) {
+    return (enum panel_number)tihvomen_put_claim(
+        p->sheet.words, p->places, place, panel_from(row, row_length), row_length, panel_from(record, record_length),
+        record_length);
+}
+
 /* The place is empty afterwards. Numbers: 8, 9. */
 PANEL_NODISCARD static inline enum panel_number panel_drop(struct panel *p, unsigned place) {
     return (enum panel_number)tihvomen_drop(p->places, place);

@@ -50,6 +50,8 @@ uint8_t tihvomen_stage_rules(
 uint8_t tihvomen_switch(uint32_t *sheet, uint32_t *stage, uint8_t *places);
 uint8_t tihvomen_put_row(const uint32_t *sheet, uint8_t *places, uint32_t place, const uint8_t *row, size_t);
 uint8_t tihvomen_put_record(const uint32_t *sheet, uint8_t *places, uint32_t place, const uint8_t *record, size_t);
+uint8_t tihvomen_put_claim(
+    const uint32_t *sheet, uint8_t *places, uint32_t place, const uint8_t *row, size_t, const uint8_t *record, size_t);
 uint8_t tihvomen_drop(uint8_t *places, uint32_t place);
 struct panel_raw_answer tihvomen_fetch_record(const uint8_t *places, uint32_t place, uint8_t *out, size_t);
 struct panel_raw_answer tihvomen_fetch_row(

@@ -46,7 +46,11 @@ enum panel_number {
     /* a reading of the tree that is to be evaluated lies beyond the lent list */
     PANEL_NO_READING = 14,
     /* a switch where no sheet is staged */
-    PANEL_NOTHING_STAGED = 15
+    PANEL_NOTHING_STAGED = 15,
+    /* the record that came with a row has another row */
+    PANEL_OTHER_ROW = 16,
+    /* the record that came with a row has that row, but its tree is not the conflict-free one */
+    PANEL_CONFLICT = 17
 };
 
 /* What a number says: its word, then a sentence without a full stop. */
@@ -70,6 +74,8 @@ static inline const char *panel_word(enum panel_number number) {
     case PANEL_NO_MEANING: return "no meaning: an operator of the tree has no meaning of its kind";
     case PANEL_NO_READING: return "no reading: a reading of the tree lies beyond the lent list";
     case PANEL_NOTHING_STAGED: return "nothing staged: no sheet waits for a switch";
+    case PANEL_OTHER_ROW: return "other row: the row of the record is not the row that came with it";
+    case PANEL_CONFLICT: return "conflict: the record's tree has an operator where a rule excludes it";
     }
     return "unknown: the panel gives no such number";
 }

@@ -58,6 +58,11 @@ static void make_row(struct list *row, const struct panel *p, const struct list 
     row->length = panel_yield(p, record->bytes, record->length, row->bytes, MOST_BYTES).length;
 }
 
+/* The record that is built of a row, or nothing if the row is refused. */
+static void make_record(struct list *record, const struct panel *p, const struct list *row) {
+    record->length = panel_build(p, row->bytes, row->length, record->bytes, MOST_BYTES).length;
+}
+
 /* The same bytes over and over. */
 static void make_repeated(struct list *list, const uint8_t *bytes, size_t length, size_t total) {
     list->length = 0;

@@ -3,6 +3,7 @@
  * would be good ones. Sides that are none, and the ends of the sizes. Silent if all is well.
  */
 #include "check.h"
+#include "lent_output.h"
 #include "panel_evaluate.h"
 
 #include <limits.h>
@@ -12,14 +13,6 @@ static const uint8_t sheet_a[] = {0, 0, 1, 1, 0, 2, 1, 1, 2, 0, 0};
 static const uint8_t row[] = {0x20, 0x80, 0x00, 0x81, 0x21, 0x01, 0x82};
 static const uint8_t record[] = {0x01, 0x20, 0x00, 0x80, 0x81, 0x82};
 static uint8_t out[300];
-
-/* A refusal with this number, after which the output is as it was. */
-static bool refused(struct panel_answer answer, enum panel_number number) {
-    for (size_t i = 0; i < sizeof out; i++)
-        if (out[i] != 0xEE)
-            return false;
-    return answer.number == number && answer.length == 0;
-}
 
 /* A panel with sheet A in force and staged, and trees at the places 0 and 3. */
 static struct panel filled(void) {
@@ -42,10 +35,11 @@ static void check_places(void) {
         CHECK(evaluated.number == PANEL_PLACE && evaluated.value == 0);
         CHECK(panel_put_row(&p, places[i], row, sizeof row) == PANEL_PLACE);
         CHECK(panel_put_record(&p, places[i], record, sizeof record) == PANEL_PLACE);
+        CHECK(panel_put_claim(&p, places[i], row, sizeof row, record, sizeof record) == PANEL_PLACE);
         CHECK(panel_drop(&p, places[i]) == PANEL_PLACE);
-        CHECK(refused(panel_fetch_record(&p, places[i], out, sizeof out), PANEL_PLACE));
-        CHECK(refused(panel_fetch_row(&p, places[i], out, sizeof out), PANEL_PLACE));
-        CHECK(refused(panel_image(&p, places[i], out, sizeof out), PANEL_PLACE));
+        CHECK(untouched(panel_fetch_record(&p, places[i], out, sizeof out), PANEL_PLACE, out, sizeof out));
+        CHECK(untouched(panel_fetch_row(&p, places[i], out, sizeof out), PANEL_PLACE, out, sizeof out));
+        CHECK(untouched(panel_image(&p, places[i], out, sizeof out), PANEL_PLACE, out, sizeof out));
     }
     CHECK(memcmp(&p, &before, sizeof p) == 0);
 }

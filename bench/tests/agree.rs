@@ -1,6 +1,6 @@
 //! The fast panel gives the proved one's answers: numbers and whole outputs, call by call over many runs.
 use tihvomen_bench::fast;
-use tihvomen_bench::inputs::{any_tree, meanings, perhaps_damaged, readings};
+use tihvomen_bench::inputs::{any_tree, claim, meanings, perhaps_damaged, readings};
 use tihvomen_bench::line::Lines;
 use tihvomen_bench::random::Random;
 use tihvomen_bench::stagings::{self, Staging};
@@ -26,6 +26,12 @@ fn record(random: &mut Random, kinds: &[u8]) -> Vec<u8> {
 fn row(random: &mut Random, kinds: &[u8]) -> Vec<u8> {
     let row = any_tree(random, kinds).row();
     perhaps_damaged(random, row)
+}
+
+/// The record that is built of a row; nothing where it is refused.
+fn built(panel: &fast::Panel, row: &[u8]) -> Vec<u8> {
+    let mut out = [0; 300];
+    panel.build(row, &mut out).map_or(Vec::new(), |length| out[..length].to_vec())
 }
 
 /// The kinds of the sheet in force, and of the staged one.
@@ -67,7 +73,7 @@ fn call(random: &mut Random, proved: &mut tihvomen::Panel, fast: &mut fast::Pane
     let place = random.below(18) as u8;
     let number = |refusal: tihvomen::Refusal| refusal.number();
     let kinds = &all_kinds.in_force;
-    match random.below(20) {
+    match random.below(22) {
         0 | 1 => stage(random, proved, fast, all_kinds),
         2 | 3 => switch(random, proved, fast, all_kinds),
         4 | 5 => {
@@ -110,6 +116,16 @@ fn call(random: &mut Random, proved: &mut tihvomen::Panel, fast: &mut fast::Pane
             let operator = random.below(34) as u8;
             let powers = proved.powers(operator).map(|powers| (powers.left, powers.right));
             assert_eq!(powers.map_err(number), fast.powers(operator));
+        }
+        19 | 20 => {
+            // Now and then with an operator that the sheet lacks.
+            let mut kinds = kinds.clone();
+            if kinds.len() < 32 && random.once_in(8) {
+                kinds.push(random.below(2) as u8);
+            }
+            let (row, record) = claim(random, &kinds, |row| built(fast, row));
+            assert_eq!(proved.put_claim(place, &row, &record).map_err(number), fast.put_claim(place, &row, &record));
+            written(random, |out| proved.fetch_record_into(place, out), |out| fast.fetch_record(place, out));
         }
         _ => {
             let record = record(random, kinds);

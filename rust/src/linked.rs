@@ -3,6 +3,8 @@
 //! A slice goes over as address and length; a Rust slice's address is never null. Sheet, stage, places and the output of a
 //! reply have fixed lengths and go over by address alone. The structs are laid out as in C.
 #![allow(unsafe_code)]
+mod exports;
+
 use crate::rule::Rule;
 use crate::sizes::{MOST_REPLY, SHEET_WORDS, STORE_BYTES};
 
@@ -43,69 +45,6 @@ pub struct Value {
     pub value: i32,
 }
 
-mod exports {
-    use super::{Answer, Judgement, Part, Places, Powers, Sheet, Value};
-    use crate::rule::Rule;
-    use crate::sizes::MOST_REPLY;
-
-    extern "C" {
-        pub fn tihvomen_operators(sheet: &Sheet) -> u8;
-        pub fn tihvomen_stage(stage: &mut Sheet, n: u32, bytes: *const u8, length: usize) -> u8;
-        pub fn tihvomen_stage_rules(
-            stage: &mut Sheet,
-            n: u32,
-            kinds: *const u8,
-            kind_count: usize,
-            rules: *const Rule,
-            count: usize,
-        ) -> u8;
-        pub fn tihvomen_switch(sheet: &mut Sheet, stage: &mut Sheet, places: &mut Places) -> u8;
-        pub fn tihvomen_put_row(sheet: &Sheet, places: &mut Places, place: u32, row: *const u8, length: usize) -> u8;
-        pub fn tihvomen_put_record(
-            sheet: &Sheet,
-            places: &mut Places,
-            place: u32,
-            record: *const u8,
-            length: usize,
-        ) -> u8;
-        pub fn tihvomen_drop(places: &mut Places, place: u32) -> u8;
-        pub fn tihvomen_fetch_record(places: &Places, place: u32, out: *mut u8, room: usize) -> Answer;
-        pub fn tihvomen_fetch_row(sheet: &Sheet, places: &Places, place: u32, out: *mut u8, room: usize) -> Answer;
-        pub fn tihvomen_image(places: &Places, place: u32, out: *mut u8, room: usize) -> Answer;
-        pub fn tihvomen_build(sheet: &Sheet, row: *const u8, length: usize, out: *mut u8, room: usize) -> Answer;
-        pub fn tihvomen_repair(sheet: &Sheet, record: *const u8, length: usize, out: *mut u8, room: usize) -> Answer;
-        pub fn tihvomen_judge(sheet: &Sheet, record: *const u8, length: usize) -> Judgement;
-        pub fn tihvomen_yield(sheet: &Sheet, record: *const u8, length: usize, out: *mut u8, room: usize) -> Answer;
-        pub fn tihvomen_shortest_row(
-            sheet: &Sheet,
-            record: *const u8,
-            length: usize,
-            out: *mut u8,
-            room: usize,
-        ) -> Answer;
-        pub fn tihvomen_operand_number(sheet: &Sheet, record: *const u8, length: usize) -> u8;
-        pub fn tihvomen_operand(sheet: &Sheet, record: *const u8, length: usize, right: bool) -> Part;
-        pub fn tihvomen_powers(sheet: &Sheet, operator: u32) -> Powers;
-        pub fn tihvomen_reply(
-            sheet: &mut Sheet,
-            stage: &mut Sheet,
-            places: &mut Places,
-            line: *const u8,
-            length: usize,
-            out: &mut [u8; MOST_REPLY],
-        ) -> usize;
-        pub fn tihvomen_evaluate(
-            sheet: &Sheet,
-            places: &Places,
-            place: u32,
-            meanings: *const u8,
-            meaning_count: usize,
-            readings: *const i32,
-            reading_count: usize,
-        ) -> Value;
-    }
-}
-
 #[inline]
 pub fn operators(sheet: &Sheet) -> u8 {
     // SAFETY: `sheet` is read within its length.
@@ -140,6 +79,14 @@ pub fn put_row(sheet: &Sheet, places: &mut Places, place: u8, row: &[u8]) -> u8 
 pub fn put_record(sheet: &Sheet, places: &mut Places, place: u8, record: &[u8]) -> u8 {
     // SAFETY: `record` is read within its length; `places` is ours alone meanwhile.
     unsafe { exports::tihvomen_put_record(sheet, places, place.into(), record.as_ptr(), record.len()) }
+}
+
+#[inline]
+pub fn put_claim(sheet: &Sheet, places: &mut Places, place: u8, row: &[u8], record: &[u8]) -> u8 {
+    // SAFETY: `row` and `record` are read within their lengths; `places` is ours alone meanwhile.
+    unsafe {
+        exports::tihvomen_put_claim(sheet, places, place.into(), row.as_ptr(), row.len(), record.as_ptr(), record.len())
+    }
 }
 
 #[inline]

@@ -94,6 +94,33 @@ impl Panel {
         Refusal::check(linked::put_record(&self.sheet, &mut self.places, place, record))
     }
 
+    /// A row with the record that is claimed for it: accepted exactly if the record is that of the row's conflict-free tree,
+    /// whoever made it. The place then holds the record as it was sent, as after a put of the row.
+    ///
+    /// ```
+    /// use tihvomen::{Panel, Refusal};
+    ///
+    /// let mut panel = Panel::new();
+    /// // Two infix operators: 01 over 00, each left with itself.
+    /// panel.stage(2, &[0, 0, 1, 1, 0, 2, 1, 1, 2, 0, 0])?;
+    /// panel.switch()?;
+    /// let row = [0x80, 0x00, 0x81, 0x01, 0x82];
+    /// assert_eq!(panel.put_claim(3, &row, &[0x00, 0x80, 0x01, 0x81, 0x83]), Err(Refusal::OtherRow));
+    /// assert_eq!(panel.put_claim(3, &row, &[0x01, 0x00, 0x80, 0x81, 0x82]), Err(Refusal::Conflict));
+    /// assert_eq!(panel.put_claim(3, &row, &[0x00, 0x80, 0x01, 0x81, 0x82]), Ok(()));
+    /// # Ok::<(), Refusal>(())
+    /// ```
+    ///
+    /// # Errors
+    ///
+    /// The first that applies: [`Refusal::Place`] (8); [`Refusal::Oversize`] (1), [`Refusal::Stranger`] (3),
+    /// [`Refusal::NoRow`] (6) for the row; [`Refusal::Oversize`] (1), [`Refusal::Stranger`] (3), [`Refusal::NoTree`] (7)
+    /// for the record, [`Refusal::Oversize`] (1) for its row; [`Refusal::OtherRow`] (16), [`Refusal::Conflict`] (17).
+    #[inline]
+    pub fn put_claim(&mut self, place: u8, row: &[u8], record: &[u8]) -> Result<(), Refusal> {
+        Refusal::check(linked::put_claim(&self.sheet, &mut self.places, place, row, record))
+    }
+
     /// The place is empty afterwards.
     ///
     /// # Errors

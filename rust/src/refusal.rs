@@ -40,11 +40,15 @@ pub enum Refusal {
     NoReading = 14,
     /// A switch where no sheet is staged.
     NothingStaged = 15,
+    /// The record that came with a row has another row.
+    OtherRow = 16,
+    /// The record that came with a row has that row, but its tree is not the conflict-free one.
+    Conflict = 17,
 }
 
 impl Refusal {
     /// All refusals, in the order of their numbers.
-    pub const ALL: [Refusal; 15] = [
+    pub const ALL: [Refusal; 17] = [
         Refusal::Oversize,
         Refusal::Torn,
         Refusal::Stranger,
@@ -60,15 +64,17 @@ impl Refusal {
         Refusal::NoMeaning,
         Refusal::NoReading,
         Refusal::NothingStaged,
+        Refusal::OtherRow,
+        Refusal::Conflict,
     ];
 
-    /// The number of the refusal, from 1 to 15.
+    /// The number of the refusal, from 1 to 17.
     #[must_use]
     pub const fn number(self) -> u8 {
         self as u8
     }
 
-    /// The refusal of a number; none for 0, which is success, and for numbers over 15.
+    /// The refusal of a number; none for 0, which is success, and for numbers over 17.
     #[must_use]
     pub fn of_number(number: u8) -> Option<Refusal> {
         Refusal::ALL.into_iter().find(|refusal| refusal.number() == number)
@@ -79,7 +85,7 @@ impl Refusal {
     pub(crate) fn check(number: u8) -> Result<(), Refusal> {
         match number {
             0 => Ok(()),
-            _ => Err(Refusal::of_number(number).expect("the library gives numbers 0 to 15")),
+            _ => Err(Refusal::of_number(number).expect("the library gives numbers 0 to 17")),
         }
     }
 }
@@ -106,13 +112,15 @@ impl fmt::Display for Refusal {
             Refusal::NoMeaning => "no meaning: an operator of the tree has no meaning of its kind",
             Refusal::NoReading => "no reading: a reading of the tree lies beyond the lent list",
             Refusal::NothingStaged => "nothing staged: no sheet waits for a switch",
+            Refusal::OtherRow => "other row: the row of the record is not the row that came with it",
+            Refusal::Conflict => "conflict: the record's tree has an operator where a rule excludes it",
         })
     }
 }
 
 impl Error for Refusal {}
 
-/// The number of no refusal: 0, which is success, or one over 15.
+/// The number of no refusal: 0, which is success, or one over 17.
 #[derive(Clone, Copy, Debug, PartialEq, Eq, Hash)]
 pub struct UnknownNumber(pub u8);
 
@@ -131,7 +139,7 @@ impl TryFrom<u8> for Refusal {
     ///
     /// # Errors
     ///
-    /// [`UnknownNumber`] for 0, which is success, and for numbers over 15.
+    /// [`UnknownNumber`] for 0, which is success, and for numbers over 17.
     fn try_from(number: u8) -> Result<Refusal, UnknownNumber> {
         Refusal::of_number(number).ok_or(UnknownNumber(number))
     }
@@ -145,7 +153,7 @@ mod tests {
     fn numbers_go_there_and_back() {
         for number in 0..=255 {
             let refusal = Refusal::of_number(number);
-            assert_eq!(refusal.is_some(), (1..=15).contains(&number));
+            assert_eq!(refusal.is_some(), (1..=17).contains(&number));
             assert_eq!(refusal.map_or(number, Refusal::number), number);
             assert_eq!(Refusal::try_from(number), refusal.ok_or(UnknownNumber(number)));
         }

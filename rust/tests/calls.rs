@@ -34,6 +34,7 @@ fn make(panel: &mut Panel, call: &[&str]) -> Result<String, Refusal> {
         ["switch"] => silent(panel.switch()),
         ["put", place, row] => silent(panel.put_row(number(place), &bytes(row))),
         ["record", place, record] => silent(panel.put_record(number(place), &bytes(record))),
+        ["claim", place, row, record] => silent(panel.put_claim(number(place), &bytes(row), &bytes(record))),
         ["drop", place] => silent(panel.drop_place(number(place))),
         ["shortest", record] => panel.shortest_row(&bytes(record)).map(digits),
         ["evaluate", place, meanings, readings] => {
@@ -77,4 +78,9 @@ fn shortest_rows_and_values_with_prefix_operators() {
 #[test]
 fn binding_powers() {
     run(include_str!("../../tests/calls/w7.calls"));
+}
+
+#[test]
+fn claimed_records() {
+    run(include_str!("../../tests/calls/w8.calls"));
 }

@@ -45,6 +45,10 @@ fn sheets_and_places() {
     by_list.switch().unwrap();
     by_list.put_record(3, &RECORD).unwrap();
     assert_eq!(by_list, panel);
+    assert_eq!(by_list.put_claim(3, &ROW[1..4], &RECORD[2..5]), Ok(()));
+    assert_eq!(by_list.put_claim(3, &ROW, &RECORD[2..5]), Err(Refusal::OtherRow));
+    assert_eq!(by_list.put_claim(3, &ROW, &RECORD), Ok(()));
+    assert_eq!(by_list, panel);
 
     assert_eq!(panel.fetch_record_into(3, &mut [0; 5]), Err(Refusal::Short));
     assert_eq!((panel.stage(1, &[INFIX, 2, 0, 0]), panel.switch()), (Ok(()), Err(Refusal::InUse)));
@@ -124,13 +128,13 @@ fn lines() {
 #[test]
 fn numbers() {
     for number in 0..=u8::MAX {
-        let known = (1..=15).contains(&number);
+        let known = (1..=17).contains(&number);
         assert_eq!(Refusal::try_from(number).is_ok(), known);
         assert_eq!(Refusal::try_from(number).map_or_else(|unknown| unknown.0, Refusal::number), number);
     }
     assert_eq!(Refusal::try_from(0), Err(UnknownNumber(0)));
-    let error: &dyn std::error::Error = &UnknownNumber(16);
-    assert_eq!(error.to_string(), "16 is the number of no refusal");
+    let error: &dyn std::error::Error = &UnknownNumber(18);
+    assert_eq!(error.to_string(), "18 is the number of no refusal");
     let error: &dyn std::error::Error = &Refusal::Place;
     assert_eq!(error.to_string(), "place: there are places 0 to 15 only");
 }

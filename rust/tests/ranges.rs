@@ -18,6 +18,8 @@ fn refused_at(panel: &mut Panel, place: u8) {
     for row in [&[0x80][..], &[], &[0x7f], &[0x80; 256]] {
         assert_eq!(panel.put_row(place, row), Err(Refusal::Place));
         assert_eq!(panel.put_record(place, row), Err(Refusal::Place));
+        assert_eq!(panel.put_claim(place, row, &[0x80]), Err(Refusal::Place));
+        assert_eq!(panel.put_claim(place, &[0x80], row), Err(Refusal::Place));
     }
     assert_eq!(panel.drop_place(place), Err(Refusal::Place));
     assert_eq!(panel.image(place), Err(Refusal::Place));
@@ -56,6 +58,7 @@ fn places_up_to_15() {
         assert_eq!(panel.image(place).map(|image| image[2]), Ok(0x80 + place));
         assert_eq!(panel.evaluate(place, &[9, 9], &[7; 16]), Ok(7));
         assert_eq!(panel.put_record(place, &[0x80]), Ok(()));
+        assert_eq!(panel.put_claim(place, &[0x81], &[0x81]), Ok(()));
         assert_eq!(panel.drop_place(place), Ok(()));
     }
     assert!((0..PLACES).all(|place| panel.image(place) == Ok([0; IMAGE_BYTES])));

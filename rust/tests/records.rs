@@ -34,6 +34,7 @@ fn refused(panel: &Panel, record: &[u8], refusal: Refusal) {
     assert_eq!(panel.operand(record, Side::Left), Err(refusal), "the left operand of {record:02x?}");
     assert_eq!(panel.operand(record, Side::Right), Err(refusal), "the right operand of {record:02x?}");
     assert_eq!(panel.clone().put_record(0, record), Err(refusal), "the put of {record:02x?}");
+    assert_eq!(panel.clone().put_claim(0, &[0x80], record), Err(refusal), "the claim of {record:02x?}");
 }
 
 #[test]

@@ -98,6 +98,8 @@ fn stagings_are_not_seen() {
         assert_eq!((panel.put_row(4, &ROW), panel.put_record(5, &UNDER_TURNED)), (Ok(()), Ok(())));
         assert!(holds(&panel, 4, &UNDER_A) && holds(&panel, 5, &UNDER_A));
         assert_eq!(panel.put_row(6, &[0x80, 2, 0x81]), Err(Refusal::Stranger));
+        assert_eq!(panel.put_claim(6, &ROW, &UNDER_TURNED), Err(Refusal::Conflict));
+        assert_eq!(panel.put_claim(4, &ROW, &UNDER_A), Ok(()));
         assert_eq!((panel.judge(&UNDER_A), panel.judge(&UNDER_TURNED)), (Ok(0), Ok(1)));
         let mut record = [0; 5];
         assert_eq!((panel.build_into(&ROW, &mut record), record), (Ok(5), UNDER_A));

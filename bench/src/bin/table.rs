@@ -85,10 +85,31 @@ fn trees(both: &Both, size: &str, tokens: usize, shape: Shape) {
     line(&format!("operand, {size}"), &records, operand, |record| fast.operand(record, true).map(<[u8]>::len));
 }
 
+/// Each row with the record that is built of it.
+fn claims(both: &mut Both, size: &str, rows: &[Vec<u8>]) {
+    let Both { proved, fast } = both;
+    let mut out = [0; 300];
+    let built = |row: &Vec<u8>| fast.build(row, &mut out).map(|length| out[..length].to_vec());
+    let records: Vec<Vec<u8>> = rows.iter().map(built).collect::<Result<_, u8>>().expect("the rows are accepted");
+    let positions: Vec<Vec<u8>> = (0..).take(rows.len()).map(|at| vec![at]).collect();
+    let claim = |at: &[u8]| (&rows[usize::from(at[0])], &records[usize::from(at[0])]);
+    assert!(positions.iter().map(|at| claim(at)).all(|(row, record)| fast.put_claim(3, row, record).is_ok()));
+    let put_proved = |at: &[u8]| {
+        let (row, record) = claim(at);
+        proved.put_claim(3, row, record)
+    };
+    let put_fast = |at: &[u8]| {
+        let (row, record) = claim(at);
+        fast.put_claim(3, row, record)
+    };
+    line(&format!("put claim, {size}"), &positions, put_proved, put_fast);
+}
+
 /// Put, the two fetches, the image and the evaluation; the places then hold sixteen rows.
 fn places(both: &mut Both, size: &str, tokens: usize, shape: Shape) {
-    let Both { proved, fast } = both;
     let rows = rows(tokens, shape);
+    claims(both, size, &rows);
+    let Both { proved, fast } = both;
     line(&format!("put row, {size}"), &rows, |row| proved.put_row(3, row), |row| fast.put_row(3, row));
     for (place, row) in (0..16).zip(&rows) {
         assert!(proved.put_row(place, row).is_ok() && fast.put_row(place, row).is_ok());

@@ -1,5 +1,6 @@
 //! The panel for speed: bit rows, a stack of waiting operators, no recursion, no allocation. A call answers a length or a number.
 
+mod claim;
 mod evaluate;
 mod prefixed;
 mod record;
@@ -91,6 +92,17 @@ impl Panel {
         let mut row = [0; 256];
         record::write_row(&self.sheet, bytes, &mut row);
         self.store(usize::from(place), &row[..tokens], bytes.len());
+        Ok(())
+    }
+
+    #[inline(never)]
+    pub fn put_claim(&mut self, place: u8, row: &[u8], bytes: &[u8]) -> Result<(), u8> {
+        let image = self.places.get_mut(usize::from(place)).ok_or(8)?;
+        claim::check(&self.sheet, row, bytes)?;
+        image[0] = bytes.len() as u8;
+        image[1..1 + bytes.len()].copy_from_slice(bytes);
+        image[1 + bytes.len()..].fill(0);
+        self.tokens[usize::from(place)] = row.len() as u8;
         Ok(())
     }
 

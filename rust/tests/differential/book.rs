@@ -11,6 +11,7 @@ pub enum Call {
     Switch,
     PutRow { place: u8, row: Vec<u8> },
     PutRecord { place: u8, record: Vec<u8> },
+    PutClaim { place: u8, row: Vec<u8>, record: Vec<u8> },
     Drop { place: u8 },
     FetchRecord { place: u8, room: usize },
     FetchRow { place: u8, room: usize },
@@ -60,6 +61,9 @@ impl Book {
             Call::PutRecord { place, record } => {
                 self.place(*place).and_then(|_| self.record(record)).map(|_| Vec::new())
             }
+            Call::PutClaim { place, row, record } => {
+                self.place(*place).and_then(|_| self.claim(row, record)).map(|_| Vec::new())
+            }
             Call::Drop { place } => self.held(*place).map(|_| Vec::new()),
             Call::FetchRecord { place, room } => self.held(*place).and_then(|row| fits(self.built(row), *room)),
             Call::FetchRow { place, room } => self.held(*place).and_then(|row| fits(row.clone(), *room)),
@@ -99,7 +103,9 @@ impl Book {
                 self.staged = Some(Sheet::of_rules(kinds, rules));
             }
             Call::Switch => self.sheet = self.staged.take().expect("a switch without a staged sheet is 15"),
-            Call::PutRow { place, row } => self.slots[usize::from(*place)] = Some(row.clone()),
+            Call::PutRow { place, row } | Call::PutClaim { place, row, .. } => {
+                self.slots[usize::from(*place)] = Some(row.clone());
+            }
             Call::PutRecord { place, record } => {
                 self.slots[usize::from(*place)] = self.sheet.tree_of_record(record).map(|tree| tree.row());
             }
@@ -165,6 +171,19 @@ impl Book {
             return Err(1);
         }
         Ok(tree)
+    }
+
+    /// Claim: the row's list, the record's list, 16, 17.
+    fn claim(&self, row: &[u8], record: &[u8]) -> Result<(), u8> {
+        let row = self.row(row)?;
+        let tree = self.record(record)?;
+        if tree.row() != row {
+            return Err(16);
+        }
+        if self.sheet.conflicts(&tree) != 0 {
+            return Err(17);
+        }
+        Ok(())
     }
 
     fn has_meaning(&self, token: u8) -> bool {

@@ -8,7 +8,7 @@ use tihvomen::{Panel, Refusal};
 
 /// A call that makes sense to try on the panel that the book stands for. `last` is an earlier call's answer.
 pub fn any_call(random: &mut Random, book: &Book, last: &[u8]) -> Call {
-    let mut call = match random.below(38) {
+    let mut call = match random.below(42) {
         0..=2 => {
             let staging = stagings::any(random, &book.kinds_in_use());
             Call::Stage { n: staging.n, bytes: staging.bytes() }
@@ -31,6 +31,10 @@ pub fn any_call(random: &mut Random, book: &Book, last: &[u8]) -> Call {
             Call::Evaluate { place: place(random, book), meanings, readings }
         }
         35 | 36 => Call::Powers { operator: operator(random, book) },
+        37..=40 => {
+            let (row, record) = claim(random, book, last);
+            Call::PutClaim { place: place(random, book), row, record }
+        }
         _ => {
             let side = [Side::Left, Side::Right][random.below(2)];
             Call::Operand { record: record(random, book, last), side }
@@ -120,6 +124,18 @@ fn record(random: &mut Random, book: &Book, last: &[u8]) -> Vec<u8> {
     inputs::perhaps_damaged(random, record)
 }
 
+/// A row with a record that is claimed for it.
+fn claim(random: &mut Random, book: &Book, last: &[u8]) -> (Vec<u8>, Vec<u8>) {
+    let kinds = kinds(random, book);
+    let built = |row: &[u8]| book.reply(&Call::Build { row: row.to_vec(), room: usize::MAX }).answer;
+    let (row, record) = inputs::claim(random, &kinds, built);
+    match random.below(20) {
+        0 => (last.to_vec(), record),
+        1 => (row, last.to_vec()),
+        _ => (row, record),
+    }
+}
+
 /// Makes the call to the library. The whole lent output is checked: the answer, then what stood there before.
 pub fn make(random: &mut Random, panel: &mut Panel, call: &Call) -> Reply {
     match call {
@@ -127,6 +143,7 @@ pub fn make(random: &mut Random, panel: &mut Panel, call: &Call) -> Reply {
         Call::Switch => silent(panel.switch()),
         Call::PutRow { place, row } => silent(panel.put_row(*place, row)),
         Call::PutRecord { place, record } => silent(panel.put_record(*place, record)),
+        Call::PutClaim { place, row, record } => silent(panel.put_claim(*place, row, record)),
         Call::Drop { place } => silent(panel.drop_place(*place)),
         Call::FetchRecord { place, room } => written(random, *room, |out| panel.fetch_record_into(*place, out)),
         Call::FetchRow { place, room } => written(random, *room, |out| panel.fetch_row_into(*place, out)),

@@ -21,7 +21,8 @@ pub fn frame(call: &Call) -> Option<Vec<u8>> {
         Call::Repair { record, .. } => Some([&[8], &record[..]].concat()),
         Call::Image { place, .. } => named(9, *place, &[]),
         Call::Switch => Some(vec![10]),
-        Call::Build { .. }
+        Call::PutClaim { .. }
+        | Call::Build { .. }
         | Call::Yield { .. }
         | Call::Operand { .. }
         | Call::ShortestRow { .. }

@@ -1,6 +1,6 @@
-//! Random rows, records, meanings and readings: good ones, nearly good ones and damaged ones.
+//! Random rows, records, claims, meanings and readings: good ones, nearly good ones and damaged ones.
 use crate::random::Random;
-use crate::tree::{is_of_kind, Tree, CLOSING, INFIX, OPENING, PREFIX};
+use crate::tree::{is_of_kind, is_reading, Tree, CLOSING, INFIX, OPENING, PREFIX};
 
 /// What a random tree is made of. `lean` 0 is deep to the left, 1 deep to the right, else in between; `brackets` and `prefixes`
 /// say how many nodes of a hundred are such.
@@ -95,6 +95,42 @@ pub fn damaged(random: &mut Random, mut bytes: Vec<u8>) -> Vec<u8> {
         }
     }
     bytes
+}
+
+/// A row with a record that is claimed for it: mostly the one that `built` gives of the row, which is nothing where the row is
+/// refused, or that of any tree of the row; else one that is nearly so, or one of both is damaged.
+pub fn claim(random: &mut Random, kinds: &[u8], built: impl Fn(&[u8]) -> Vec<u8>) -> (Vec<u8>, Vec<u8>) {
+    let tree = any_tree(random, kinds);
+    let row = tree.row();
+    let record = if random.once_in(3) { tree.record() } else { built(&row) };
+    match random.below(12) {
+        0 => (row, any_tree(random, kinds).record()),
+        1 => (row, altered(random, kinds, record)),
+        2 => (row, bracketed(random, record)),
+        3 => (damaged(random, row), record),
+        4 => (row, damaged(random, record)),
+        5 => (damaged(random, row), damaged(random, record)),
+        _ => (row, record),
+    }
+}
+
+/// The record with another reading, or another operator of the same kind, in the place of one.
+fn altered(random: &mut Random, kinds: &[u8], mut record: Vec<u8>) -> Vec<u8> {
+    let at = random.below(record.len());
+    let Some(byte) = record.get_mut(at) else { return record };
+    let alike = |other: u8| match kinds.get(usize::from(*byte)) {
+        Some(&kind) => is_of_kind(kinds, other, kind),
+        None => is_reading(*byte) && is_reading(other) || other == *byte,
+    };
+    let others: Vec<u8> = (0..=u8::MAX).filter(|&other| alike(other)).collect();
+    *byte = others[random.below(others.len())];
+    record
+}
+
+/// The record with brackets around one of its nodes.
+fn bracketed(random: &mut Random, mut record: Vec<u8>) -> Vec<u8> {
+    record.insert(random.below(record.len()), OPENING);
+    record
 }
 
 /// A meaning for each of the 32 operators: from 1 to 9, and 10 or 11 for a prefix one.

@@ -7,6 +7,7 @@ mod book;
 mod both;
 mod calls;
 mod chains;
+mod claims;
 mod evaluate;
 mod expression;
 mod forms;

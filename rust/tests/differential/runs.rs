@@ -7,7 +7,7 @@ use crate::stagings;
 use tihvomen::Panel;
 
 /// The calls' names, in the order of `kind`, and the numbers that each can give.
-pub const KINDS: [(&str, &[u8]); 16] = [
+pub const KINDS: [(&str, &[u8]); 17] = [
     ("stage", &[0, 1, 2, 3, 4, 5]),
     ("put row", &[0, 1, 3, 6, 8]),
     ("put record", &[0, 1, 3, 7, 8]),
@@ -24,10 +24,11 @@ pub const KINDS: [(&str, &[u8]); 16] = [
     ("evaluate", &[0, 8, 9, 13, 14]),
     ("switch", &[0, 11, 15]),
     ("powers", &[0, 3]),
+    ("put claim", &[0, 1, 3, 6, 7, 8, 16, 17]),
 ];
 
 /// There are numbers from 0 up to this.
-pub const NUMBERS: usize = 16;
+pub const NUMBERS: usize = 18;
 
 /// How often each kind of call gave each number.
 pub type Tally = [[usize; NUMBERS]; KINDS.len()];
@@ -50,6 +51,7 @@ fn kind(call: &Call) -> usize {
         Call::Evaluate { .. } => 13,
         Call::Switch => 14,
         Call::Powers { .. } => 15,
+        Call::PutClaim { .. } => 16,
     }
 }
 
@@ -106,9 +108,15 @@ fn check_panel(book: &Book, before: &Panel, panel: &Panel, call: &Call, number: 
     let written = match call {
         Call::Stage { .. } => 0..0,
         Call::Switch => 0..16,
-        Call::PutRow { place, .. } | Call::PutRecord { place, .. } | Call::Drop { place } => *place..*place + 1,
+        Call::PutRow { place, .. }
+        | Call::PutRecord { place, .. }
+        | Call::PutClaim { place, .. }
+        | Call::Drop { place } => *place..*place + 1,
         _ => return assert!(panel == before, "a call that only reads changed the panel: {call:02x?}"),
     };
+    if let Call::PutClaim { place, record, .. } = call {
+        assert_eq!(panel.fetch_record(*place).as_ref(), Ok(record), "a claim is not held as sent: {call:02x?}");
+    }
     for place in 0..16 {
         let slot = &book.slots[usize::from(place)];
         if written.contains(&place) {

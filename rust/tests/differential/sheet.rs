@@ -164,7 +164,7 @@ fn shapes(count: usize, prefixes: usize) -> Vec<Tree> {
 }
 
 /// All lists of `count` operators below n.
-fn lists(n: u8, count: usize) -> impl Iterator<Item = Vec<u8>> {
+pub fn lists(n: u8, count: usize) -> impl Iterator<Item = Vec<u8>> {
     let base = usize::from(n);
     (0..base.pow(count as u32)).map(move |code| {
         let digit = |position: usize| (code / base.pow(position as u32) % base) as u8;

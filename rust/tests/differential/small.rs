@@ -1,6 +1,7 @@
 //! Every sheet of three operators with prefix ones among them, by rules of sides: the number of its staging, and under an accepted
 //! one the powers of the operators and the trees of all short rows.
 use crate::both;
+use crate::sheet::lists;
 use crate::theory::kinds_of_bits;
 use crate::tree::{INFIX, PREFIX};
 use tihvomen::Refusal;
@@ -8,10 +9,10 @@ use tihvomen::Refusal;
 const OPERATORS: u8 = 3;
 
 /// Rows with up to so many operators are built.
-const FEW_OPERATORS: u32 = 4;
+const FEW_OPERATORS: usize = 4;
 
 /// The row of these operators: a reading before each infix one, and at the end.
-fn row(kinds: &[u8], operators: &[u8]) -> Vec<u8> {
+pub fn row(kinds: &[u8], operators: &[u8]) -> Vec<u8> {
     let token = |&operator: &u8| match kinds[usize::from(operator)] {
         PREFIX => vec![operator],
         _ => vec![0x80, operator],
@@ -19,19 +20,13 @@ fn row(kinds: &[u8], operators: &[u8]) -> Vec<u8> {
     [operators.iter().flat_map(token).collect(), vec![0x81]].concat()
 }
 
-/// All lists of so many operators.
-fn lists(count: u32) -> impl Iterator<Item = Vec<u8>> {
-    let digit = |code: usize, at: u32| (code / 3usize.pow(at) % 3) as u8;
-    (0..3usize.pow(count)).map(move |code| (0..count).map(|at| digit(code, at)).collect())
-}
-
-/// Each pair of an operator and an infix one on its right is decided in one of four ways: the first closes before the second, yields to
-/// it, neither, both.
-fn numbers(kinds: &[u8]) -> [usize; 6] {
-    let infix = (0..OPERATORS).filter(|&operator| kinds[usize::from(operator)] == INFIX);
-    let pairs: Vec<[u8; 2]> = infix.flat_map(|b| (0..OPERATORS).map(move |a| [a, b])).collect();
-    let mut seen = [0; 6];
-    for code in 0..1usize << (2 * pairs.len()) {
+/// The rules of all sheets of operators of these kinds. Each pair of an operator and an infix one on its right is decided in one of four
+/// ways: the first closes before the second, yields to it, neither, both.
+pub fn all_rules(kinds: &[u8]) -> impl Iterator<Item = Vec<u8>> {
+    let n = kinds.len() as u8;
+    let infix = (0..n).filter(|&operator| kinds[usize::from(operator)] == INFIX);
+    let pairs: Vec<[u8; 2]> = infix.flat_map(|b| (0..n).map(move |a| [a, b])).collect();
+    (0..1usize << (2 * pairs.len())).map(move |code| {
         let mut rules = Vec::new();
         for (at, [a, b]) in pairs.iter().enumerate() {
             if code >> (2 * at) & 1 == 1 {
@@ -41,6 +36,14 @@ fn numbers(kinds: &[u8]) -> [usize; 6] {
                 rules.extend([3, *b, *a]);
             }
         }
+        rules
+    })
+}
+
+/// How often the staging of these sheets has each number.
+fn numbers(kinds: &[u8]) -> [usize; 6] {
+    let mut seen = [0; 6];
+    for rules in all_rules(kinds) {
         let (number, sheet, panel) = both::switched_in(kinds, &rules);
         seen[usize::from(number)] += 1;
         if number == 0 {
@@ -52,7 +55,7 @@ fn numbers(kinds: &[u8]) -> [usize; 6] {
                     "{operator} {kinds:02x?} {rules:02x?}"
                 );
             }
-            for operators in (0..=FEW_OPERATORS).flat_map(lists) {
+            for operators in (0..=FEW_OPERATORS).flat_map(|count| lists(OPERATORS, count)) {
                 let row = row(kinds, &operators);
                 let record = sheet.tree_of(&row).record();
                 assert_eq!(panel.build(&row), Ok(record), "{row:02x?} under {kinds:02x?} {rules:02x?}");

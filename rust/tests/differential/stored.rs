@@ -46,6 +46,9 @@ fn call(words: &[&str]) -> Call {
         ["switch"] => Call::Switch,
         ["put", place, row] => Call::PutRow { place: number(place), row: bytes(row) },
         ["record", place, record] => Call::PutRecord { place: number(place), record: bytes(record) },
+        ["claim", place, row, record] => {
+            Call::PutClaim { place: number(place), row: bytes(row), record: bytes(record) }
+        }
         ["drop", place] => Call::Drop { place: number(place) },
         ["shortest", record] => Call::ShortestRow { record: bytes(record), room },
         ["evaluate", place, meanings, values] => {
@@ -62,7 +65,7 @@ fn call(words: &[&str]) -> Call {
 #[test]
 fn stored_answers_are_the_books() {
     let files = stored("calls", "calls");
-    assert!(files.len() > 3, "{files:?}");
+    assert!(files.len() > 4, "{files:?}");
     for file in files {
         let mut book = Book::new();
         for (at, line) in fs::read_to_string(&file).unwrap().lines().enumerate() {
