@@ -23,7 +23,7 @@ use Rattle.expression.proofs.Lengths.{few-bytes, record-length}
 use Rattle.expression.proofs.Numbers.{first-passed, rest-first, given-after, row-numbered, record-numbered, row-accepted, Recorded, record-accepted}
 use Rattle.disambiguation.specs.Rules.{Rule}
 use Rattle.disambiguation.specs.Conflicts.{ConflictFreeTree}
-use Rattle.claims.specs.Claims.{Claimed, sameBytes, claimChecks, besideRow, countBy, claimNumber}
+use Rattle.claims.specs.Claims.{Claimed, sameBytes, claimChecks, besideChecks, countBy, claimNumber}
 use Rattle.claims.proofs.SameBytes.{same-exactly-if}
 
 -- the tree that a record is read as
@@ -31,7 +31,7 @@ read : (ops : Operators) (bytes : List ℕ) (t : Tree) → Over (class ops) t �
 read ops bytes t over e = ap (treeOf (class ops)) (sym e) ∙ treeOf-record (class ops) (brackets ops) t over
 
 -- A record that passes beside a row is of a tree of that row, and its count is 0;
-module _ (ops : Operators) (row bytes : List ℕ) (count : ℕ) (z : first (besideRow ops row bytes count) ≡ accepted) where
+module _ (ops : Operators) (row bytes : List ℕ) (count : ℕ) (z : first (besideChecks ops row bytes count) ≡ accepted) where
   passed : (t : Tree) × Recorded ops bytes t × (yield t ≡ row) × (count ≡ 0)
   unfolding recordNumber
   passed =
@@ -61,7 +61,7 @@ module _ (ops : Operators) (rules : List Rule) (row bytes : List ℕ) where
   claimed : claimNumber ops rules row bytes ≡ accepted → (length row ≤ mostTokens) × Claimed ops rules row bytes
   unfolding claimNumber rowNumber
   claimed z =
-      let (of-row, beside) = given-after accepted (rowChecks ops row) (besideRow ops row bytes count) refl z in
+      let (of-row, beside) = given-after accepted (rowChecks ops row) (besideChecks ops row bytes count) refl z in
       let (t, r, yields, none) = passed ops row bytes count beside in
       let free = sym (ap (countBy rules) (read ops bytes t (r .over) (r .recorded))) ∙ none in
       (row-accepted ops row .0 (first-passed (rowChecks ops row) of-row) .0, (t, record { over = r .over; yields = yields; free = free }, r .recorded))
@@ -74,7 +74,7 @@ module _ (ops : Operators) (rules : List Rule) (row bytes : List ℕ) where
     unfolding claimNumber rowNumber recordNumber
     claim-passes =
         let q = read ops bytes t (c .over) e in
-        rest-first (rowChecks ops row) (besideRow ops row bytes count) (row-numbered ops row) (row-accepted ops row .1 (fits, row-exactly-if-yielded ops row .1 (t, c .over, c .yields)))
+        rest-first (rowChecks ops row) (besideChecks ops row bytes count) (row-numbered ops row) (row-accepted ops row .1 (fits, row-exactly-if-yielded ops row .1 (t, c .over, c .yields)))
         ∙ rest-first (recordChecks ops bytes) (claimChecks same count) (record-numbered ops bytes)
         (record-accepted ops bytes .1 (t, record { over = c .over; recorded = e; bytes-fit = bytes-fit; tokens-fit = rw (c .yields) fits }))
         ∙ first-passed (claimChecks same count) (
@@ -86,7 +86,7 @@ module _ (ops : Operators) (rules : List Rule) (row bytes : List ℕ) where
   pub conflict-in-row : claimNumber ops rules row bytes ≡ conflict → (t : Tree) × Over (class ops) t × (recordOf t ≡ bytes) × (yield t ≡ row)
   unfolding claimNumber recordNumber
   conflict-in-row z =
-      let (_, beside) = given-after conflict (rowChecks ops row) (besideRow ops row bytes count) refl z in
+      let (_, beside) = given-after conflict (rowChecks ops row) (besideChecks ops row bytes count) refl z in
       let (passed, last) = given-after conflict (recordChecks ops bytes) (claimChecks same count) refl beside in
       let (t, r) = record-accepted ops bytes .0 (first-passed (recordChecks ops bytes) passed) in
       (t, r .over, r .recorded, sym (ap rowOf (read ops bytes t (r .over) (r .recorded))) ∙ same-exactly-if (rowOf (treeOf (class ops) bytes)) row .0 (rows-same same last))

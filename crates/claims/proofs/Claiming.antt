@@ -18,7 +18,7 @@ use Rattle.record.specs.Answers.{Yields, countIn, judgement}
 use Rattle.record.specs.declared.Answer.{Answer}
 use Rattle.record.specs.declared.Judgement.{Judgement}
 use Rattle.parser.proofs.RepairWays.{number-is, laid, repair-part}
-use Rattle.claims.specs.Claims.{sameBytes, claimChecks, besideRow, numberBeside, numberIn}
+use Rattle.claims.specs.Claims.{sameBytes, claimChecks, besideChecks, besideNumberIn, claimNumberIn}
 use Rattle.claims.proofs.Accepting.{row-passes}
 
 -- ---- number_of
@@ -44,27 +44,27 @@ module _ (sheet row bytes : List ℕ) where
   same = sameBytes (rowOf (treeOf (class ops) bytes)) row
 
   -- ---- claim_number
-  pub pair-passed : {beside : ℕ} → beside ≡ numberBeside sheet row bytes → beside ≡ 0 → 0 ≡ numberIn sheet row bytes
-  unfolding rowNumber numberBeside numberIn
+  pub pair-passed : {beside : ℕ} → beside ≡ besideNumberIn sheet row bytes → beside ≡ 0 → 0 ≡ claimNumberIn sheet row bytes
+  unfolding rowNumber besideNumberIn claimNumberIn
   pair-passed e z =
-      sym (rest-first (rowChecks ops row) (besideRow ops row bytes count) (row-numbered ops row) (row-passes ops row bytes count (sym e ∙ z)) ∙ sym e ∙ z)
+      sym (rest-first (rowChecks ops row) (besideChecks ops row bytes count) (row-numbered ops row) (row-passes ops row bytes count (sym e ∙ z)) ∙ sym e ∙ z)
 
   module _ {number : ℕ} (is : number ≡ rowNumber ops row) where
-    pub row-refused : (number ≡ 0 → ⊥) → number ≡ numberIn sheet row bytes
-    unfolding rowNumber numberIn
-    row-refused h = is ∙ sym (first-refused (rowChecks ops row) (besideRow ops row bytes count) (λ z. h (is ∙ z)))
+    pub row-refused : (number ≡ 0 → ⊥) → number ≡ claimNumberIn sheet row bytes
+    unfolding rowNumber claimNumberIn
+    row-refused h = is ∙ sym (first-refused (rowChecks ops row) (besideChecks ops row bytes count) (λ z. h (is ∙ z)))
 
-    pub row-passed : {beside : ℕ} → beside ≡ numberBeside sheet row bytes → number ≡ 0 → beside ≡ numberIn sheet row bytes
-    unfolding rowNumber numberBeside numberIn
-    row-passed e z = e ∙ sym (rest-first (rowChecks ops row) (besideRow ops row bytes count) (row-numbered ops row) (sym is ∙ z))
+    pub row-passed : {beside : ℕ} → beside ≡ besideNumberIn sheet row bytes → number ≡ 0 → beside ≡ claimNumberIn sheet row bytes
+    unfolding rowNumber besideNumberIn claimNumberIn
+    row-passed e z = e ∙ sym (rest-first (rowChecks ops row) (besideChecks ops row bytes count) (row-numbered ops row) (sym is ∙ z))
 
   -- ---- number_beside: the record's row was written into a buffer with room for every row
   module _ (zeros : List ℕ) {own : List ℕ} {y : Answer} (room : mostTokens ≤ length zeros) (yields : Yields ops bytes zeros own y) where
     number-of-record : y .number ≡ recordNumber ops bytes
     number-of-record = number-is sheet bytes [] zeros room yields
 
-    pub record-refused : (y .number ≡ 0 → ⊥) → y .number ≡ numberBeside sheet row bytes
-    unfolding recordNumber numberBeside
+    pub record-refused : (y .number ≡ 0 → ⊥) → y .number ≡ besideNumberIn sheet row bytes
+    unfolding recordNumber besideNumberIn
     record-refused h = number-of-record ∙ sym (first-refused (recordChecks ops bytes) (claimChecks same count) (λ z. h (number-of-record ∙ z)))
 
     module _ (zero : y .number ≡ 0) where
@@ -76,8 +76,8 @@ module _ (sheet row bytes : List ℕ) where
       counted = rw (sym number-of-record ∙ zero)
 
       pub record-passed : {r : ℕ} {x : Bool} {j : Judgement} → r ≡ first (claimChecks x (j .count)) → x ≡ sameBytes (take (y .length - 0) own) row → j ≡ judgement sheet bytes
-          → r ≡ numberBeside sheet row bytes
-      unfolding recordNumber numberBeside
+          → r ≡ besideNumberIn sheet row bytes
+      unfolding recordNumber besideNumberIn
       record-passed e s k =
           e ∙ ap₂ (λ x n. first (claimChecks x n)) (s ∙ ap (λ own. sameBytes own row) (laid sheet bytes [] zeros room yields zero)) (ap (λ (j : Judgement). j .count) k ∙ counted)
           ∙ sym (rest-first (recordChecks ops bytes) (claimChecks same count) (record-numbered ops bytes) (sym number-of-record ∙ zero))

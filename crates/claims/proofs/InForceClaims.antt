@@ -19,15 +19,15 @@ use Rattle.sheet.proofs.Laws.{count-by-relation}
 use Rattle.record.specs.Answers.{countIn}
 use Rattle.parser.specs.Build.{built}
 use Rattle.parser.proofs.InForceBuilds.{built-conflict-free, built-is}
-use Rattle.claims.specs.Claims.{Claimed, pairChecks, countBy, claimNumber, numberIn}
+use Rattle.claims.specs.Claims.{Claimed, pairChecks, countBy, claimNumber, claimNumberIn}
 
 module _ (sheet : List ℕ) (ops : Operators) (rules : List Rule) (k : InForce sheet ops rules) (row bytes : List ℕ) where
   count-is : (read : Option Tree) → treeOf (class ops) bytes ≡ read → countIn sheet read ≡ countBy rules read
   count-is none e = refl
   count-is (some t) e = sym (count-by-relation sheet ops rules k t (record-treeOf (class ops) (brackets ops) bytes t e .1))
 
-  pub number-by-rules : numberIn sheet row bytes ≡ claimNumber ops rules row bytes
-  unfolding numberIn claimNumber
+  pub number-by-rules : claimNumberIn sheet row bytes ≡ claimNumber ops rules row bytes
+  unfolding claimNumberIn claimNumber
   number-by-rules =
       ap (λ o. first (pairChecks o row bytes (countIn sheet (treeOf (class o) bytes)))) (k .operators)
       ∙ ap (λ n. first (pairChecks ops row bytes n)) (count-is (treeOf (class ops) bytes) refl)

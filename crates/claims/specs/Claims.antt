@@ -34,12 +34,12 @@ claimChecks same count = (not same, otherRow) ∷ (not (eqb count 0), conflict) 
 -- With the conflict count of the record's tree,
 module _ (ops : Operators) (row bytes : List ℕ) (count : ℕ) where
   -- of the record beside the row: its own list, then 16 and 17;
-  abbrev pub besideRow : List Check
-  besideRow = recordChecks ops bytes ++ claimChecks (sameBytes (rowOf (treeOf (class ops) bytes)) row) count
+  abbrev pub besideChecks : List Check
+  besideChecks = recordChecks ops bytes ++ claimChecks (sameBytes (rowOf (treeOf (class ops) bytes)) row) count
 
   -- of the pair: the row's list first.
   abbrev pub pairChecks : List Check
-  pairChecks = rowChecks ops row ++ besideRow
+  pairChecks = rowChecks ops row ++ besideChecks
 
 -- the count by a sheet's rules
 abbrev pub countBy : List Rule → Option Tree → ℕ
@@ -55,8 +55,8 @@ module _ (sheet row bytes : List ℕ) where
   abbrev count : ℕ
   count = countIn sheet (treeOf (class (operatorsOf sheet)) bytes)
 
-  unfoldable pub numberBeside : ℕ
-  numberBeside = first (besideRow (operatorsOf sheet) row bytes count)
+  unfoldable pub besideNumberIn : ℕ
+  besideNumberIn = first (besideChecks (operatorsOf sheet) row bytes count)
 
-  unfoldable pub numberIn : ℕ
-  numberIn = first (pairChecks (operatorsOf sheet) row bytes count)
+  unfoldable pub claimNumberIn : ℕ
+  claimNumberIn = first (pairChecks (operatorsOf sheet) row bytes count)

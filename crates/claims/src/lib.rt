@@ -2,7 +2,7 @@
 // is read, its row is compared with the one that came with it, and its conflicts are counted.
 ghost use mathlib.Core.Path.{_≡_};
 ghost use Rattle.expression.specs.Refusal.{first};
-ghost use Rattle.claims.specs.Claims.{sameBytes, claimChecks, numberBeside, numberIn};
+ghost use Rattle.claims.specs.Claims.{sameBytes, claimChecks, besideNumberIn, claimNumberIn};
 use expression::limits::MOST_TOKENS;
 use expression::refusal;
 use sheet::layout::SHEET_WORDS;
@@ -38,7 +38,7 @@ fn number_of(same: bool, count: u8) -> u8
 
 // The number of the record beside the row: its own, 16, 17 or 0.
 fn number_beside(sheet: &[u32; SHEET_WORDS], row: &[u8], bytes: &[u8]) -> u8
-    ensures { λ r. ⌜ r ≡ numberBeside (now (sheet .entry)) (now (row .entry)) (now (bytes .entry)) ⌝ }
+    ensures { λ r. ⌜ r ≡ besideNumberIn (now (sheet .entry)) (now (row .entry)) (now (bytes .entry)) ⌝ }
 {
     let mut own = [0u8; MOST_TOKENS];
     let yielded = record::yield_row(sheet, bytes, &mut own);
@@ -55,7 +55,7 @@ fn number_beside(sheet: &[u32; SHEET_WORDS], row: &[u8], bytes: &[u8]) -> u8
 // The number of the pair: the row's own, or that of the record beside it. A record that passes is of the row, which is then a row and
 // need not be looked at by itself.
 pub fn claim_number(sheet: &[u32; SHEET_WORDS], row: &[u8], bytes: &[u8]) -> u8
-    ensures { λ r. ⌜ r ≡ numberIn (now (sheet .entry)) (now (row .entry)) (now (bytes .entry)) ⌝ }
+    ensures { λ r. ⌜ r ≡ claimNumberIn (now (sheet .entry)) (now (row .entry)) (now (bytes .entry)) ⌝ }
 {
     let beside = number_beside(sheet, row, bytes);
     if beside == refusal::ACCEPTED {

@@ -19,7 +19,7 @@ use Rattle.sheet.specs.InForce.{InForce}
 use Rattle.sheet.proofs.Laws.{fresh-in-force, fresh-not-loaded}
 use Rattle.brackets.specs.Shortest.{shortestNumber}
 use Rattle.brackets.proofs.InForceShortest.{shortest-by-rules}
-use Rattle.claims.specs.Claims.{claimNumber, numberIn}
+use Rattle.claims.specs.Claims.{claimNumber, claimNumberIn}
 use Rattle.claims.proofs.InForceClaims.{number-by-rules}
 use Rattle.places.specs.Store.{placeCount, storeBytes, held}
 use Rattle.places.specs.Store as store
@@ -150,7 +150,7 @@ module _ (p : Panel) (b : Book) (s : Stands p b) where
       ap₂ (λ o answer. shortestNumber o bytes answer (length out)) same-operators (shortest-by-rules (p .sheet) (b .operators) (b .rules) (s .in-force) bytes)
 
   pub same-number : (c : Call) → reply p c .number ≡ bookNumber b c
-  unfolding putRowNumber putRecordNumber putClaimNumber numberIn claimNumber
+  unfolding putRowNumber putRecordNumber putClaimNumber claimNumberIn claimNumber
   same-number (stage n bytes) = refl
   same-number (stageList n kinds rules) = refl
   same-number switch = switch-same

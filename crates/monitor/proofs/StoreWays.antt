@@ -23,7 +23,7 @@ use Rattle.record.specs.Answers.{countIn}
 use Rattle.record.specs.declared.Answer.{Answer}
 use Rattle.parser.specs.Build.{built}
 use Rattle.parser.specs.Answers.{AnswersBuild, AnswersRepair}
-use Rattle.claims.specs.Claims.{pairChecks, numberIn}
+use Rattle.claims.specs.Claims.{pairChecks, claimNumberIn}
 use Rattle.places.specs.Store.{placeCount, held, stored}
 use Rattle.monitor.specs.Call.{Call, putRow, putRecord, putClaim}
 use Rattle.monitor.specs.Panel.{panel, placeCheck, ifAccepted, rebuilt, rebuiltTo}
@@ -109,12 +109,12 @@ pub ruleset store-record-ways = (record-refused, record-part, record-stored, nee
 pub ruleset rebuild-ways = (rebuild-refused, record-part, rebuild-stored, needs)
 
 -- ---- store_claim
-module _ (sheet places : List ℕ) (k : ℕ) (row bytes : List ℕ) {number : ℕ} (is : number ≡ numberIn sheet row bytes) where
+module _ (sheet places : List ℕ) (k : ℕ) (row bytes : List ℕ) {number : ℕ} (is : number ≡ claimNumberIn sheet row bytes) where
   pub claim-refused : (number ≡ 0 → ⊥) → StoresClaim sheet places k row bytes number places
-  claim-refused h = unstored (numberIn sheet row bytes) bytes places k is h
+  claim-refused h = unstored (claimNumberIn sheet row bytes) bytes places k is h
 
   pub claim-stored : {later : List ℕ} → number ≡ 0 → later ≡ stored places k bytes → StoresClaim sheet places k row bytes 0 later
-  claim-stored zero e = stored-front (numberIn sheet row bytes) bytes places k is zero refl e
+  claim-stored zero e = stored-front (claimNumberIn sheet row bytes) bytes places k is zero refl e
 
 pub ruleset store-claim-ways = (claim-refused, claim-stored, needs)
 
@@ -183,7 +183,7 @@ module _ (sheet places : List ℕ) (k : ℕ) (row bytes : List ℕ) where
   put-claim-over = put-over sheet places k (putClaim k row bytes) checks bytes (λ staged. refl) (λ staged. refl)
 
   pub put-claim-done : {r : ℕ} {later : List ℕ} → k < placeCount → StoresClaim sheet places k row bytes r later → Puts sheet places (putClaim k row bytes) r later
-  unfolding putClaimNumber placesAfterClaim numberIn
+  unfolding putClaimNumber placesAfterClaim claimNumberIn
   put-claim-done = put-done sheet places k (putClaim k row bytes) checks bytes (λ staged. refl) (λ staged. refl)
 
 pub ruleset put-claim-ways = (put-claim-over, put-claim-done, needs)

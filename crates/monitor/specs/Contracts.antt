@@ -17,7 +17,7 @@ use Rattle.record.specs.declared.Answer.{Answer}
 use Rattle.record.specs.declared.Judgement.{Judgement}
 use Rattle.record.specs.declared.operands.Part.{Part}
 use Rattle.parser.specs.Build.{built}
-use Rattle.claims.specs.Claims.{numberIn}
+use Rattle.claims.specs.Claims.{claimNumberIn}
 use Rattle.places.specs.Store.{placeCount, held, stored}
 use Rattle.monitor.specs.Call.{Question, Call, ask, judge, operand}
 use Rattle.monitor.specs.Call as call
@@ -106,7 +106,7 @@ module _ (sheet places : List ℕ) (k : ℕ) where
 
   -- a record as it was sent, beside its row
   abbrev pub StoresClaim : List ℕ → List ℕ → ℕ → List ℕ → Type 0
-  StoresClaim row bytes = Stores (numberIn sheet row bytes) bytes places k
+  StoresClaim row bytes = Stores (claimNumberIn sheet row bytes) bytes places k
 
   -- the places after a record is put
   abbrev pub afterRecord : List ℕ → List ℕ
