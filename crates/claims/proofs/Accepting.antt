@@ -4,7 +4,6 @@ use native.Mathlib.Omega.{arith}
 use mathlib.Core.Path.{_≡_, refl, ap, sym, subst, _∙_}
 use mathlib.Core.Bool.{Bool, true, false, not}
 use mathlib.Core.Logic.{_↔_}
-use mathlib.Core.Option.{some}
 use mathlib.Core.List.{List, []}
 use lib.Dec.{eqb}
 use lib.ListN.{length}
@@ -17,18 +16,13 @@ use Rattle.expression.specs.Decode.{treeOf}
 use Rattle.expression.specs.Operand.{rowOf}
 use Rattle.expression.specs.Checks.{recordBytes, rowChecks, recordChecks, rowNumber, recordNumber}
 use Rattle.expression.proofs.Classes.{brackets}
-use Rattle.expression.proofs.RecordsAndTrees.{treeOf-record}
 use Rattle.expression.proofs.RowsAndTrees.{row-exactly-if-yielded}
 use Rattle.expression.proofs.Lengths.{few-bytes, record-length}
-use Rattle.expression.proofs.Numbers.{first-passed, rest-first, given-after, row-numbered, record-numbered, row-accepted, Recorded, record-accepted}
+use Rattle.expression.proofs.Numbers.{first-passed, rest-first, given-after, row-numbered, record-numbered, row-accepted, Recorded, read-as, record-accepted}
 use Rattle.disambiguation.specs.Rules.{Rule}
 use Rattle.disambiguation.specs.Conflicts.{ConflictFreeTree}
 use Rattle.claims.specs.Claims.{Claimed, sameBytes, claimChecks, besideChecks, countBy, claimNumber}
 use Rattle.claims.proofs.SameBytes.{same-exactly-if}
-
--- the tree that a record is read as
-read : (ops : Operators) (bytes : List ℕ) (t : Tree) → Over (class ops) t → recordOf t ≡ bytes → treeOf (class ops) bytes ≡ some t
-read ops bytes t over e = ap (treeOf (class ops)) (sym e) ∙ treeOf-record (class ops) (brackets ops) t over
 
 -- A record that passes beside a row is of a tree of that row, and its count is 0;
 module _ (ops : Operators) (row bytes : List ℕ) (count : ℕ) (z : first (besideChecks ops row bytes count) ≡ accepted) where
@@ -41,7 +35,7 @@ module _ (ops : Operators) (row bytes : List ℕ) (count : ℕ) (z : first (besi
       let (t, r) = record-accepted ops bytes .0 (first-passed (recordChecks ops bytes) of-record) in (
         t,
         r,
-        sym (ap rowOf (read ops bytes t (r .over) (r .recorded))) ∙ same-exactly-if (rowOf (treeOf (class ops) bytes)) row .0 (not-false same rows),
+        sym (ap rowOf (read-as ops bytes t (r .over) (r .recorded))) ∙ same-exactly-if (rowOf (treeOf (class ops) bytes)) row .0 (not-false same rows),
         eqb-true count 0 (not-false (eqb count 0) none),
       )
 
@@ -63,7 +57,7 @@ module _ (ops : Operators) (rules : List Rule) (row bytes : List ℕ) where
   claimed z =
       let (of-row, beside) = given-after accepted (rowChecks ops row) (besideChecks ops row bytes count) refl z in
       let (t, r, yields, none) = passed ops row bytes count beside in
-      let free = sym (ap (countBy rules) (read ops bytes t (r .over) (r .recorded))) ∙ none in
+      let free = sym (ap (countBy rules) (read-as ops bytes t (r .over) (r .recorded))) ∙ none in
       (row-accepted ops row .0 (first-passed (rowChecks ops row) of-row) .0, (t, record { over = r .over; yields = yields; free = free }, r .recorded))
 
   module _ (fits : length row ≤ mostTokens) (t : Tree) (c : ConflictFreeTree ops rules row t) (e : recordOf t ≡ bytes) where
@@ -73,7 +67,7 @@ module _ (ops : Operators) (rules : List Rule) (row bytes : List ℕ) where
     claim-passes : claimNumber ops rules row bytes ≡ accepted
     unfolding claimNumber rowNumber recordNumber
     claim-passes =
-        let q = read ops bytes t (c .over) e in
+        let q = read-as ops bytes t (c .over) e in
         rest-first (rowChecks ops row) (besideChecks ops row bytes count) (row-numbered ops row) (row-accepted ops row .1 (fits, row-exactly-if-yielded ops row .1 (t, c .over, c .yields)))
         ∙ rest-first (recordChecks ops bytes) (claimChecks same count) (record-numbered ops bytes)
         (record-accepted ops bytes .1 (t, record { over = c .over; recorded = e; bytes-fit = bytes-fit; tokens-fit = rw (c .yields) fits }))
@@ -89,7 +83,7 @@ module _ (ops : Operators) (rules : List Rule) (row bytes : List ℕ) where
       let (_, beside) = given-after conflict (rowChecks ops row) (besideChecks ops row bytes count) refl z in
       let (passed, last) = given-after conflict (recordChecks ops bytes) (claimChecks same count) refl beside in
       let (t, r) = record-accepted ops bytes .0 (first-passed (recordChecks ops bytes) passed) in
-      (t, r .over, r .recorded, sym (ap rowOf (read ops bytes t (r .over) (r .recorded))) ∙ same-exactly-if (rowOf (treeOf (class ops) bytes)) row .0 (rows-same same last))
+      (t, r .over, r .recorded, sym (ap rowOf (read-as ops bytes t (r .over) (r .recorded))) ∙ same-exactly-if (rowOf (treeOf (class ops) bytes)) row .0 (rows-same same last))
     where
       rows-same : (x : Bool) → first (claimChecks x count) ≡ conflict → x ≡ true
       rows-same true e = refl

@@ -46,17 +46,23 @@ abbrev pub countBy : List Rule → Option Tree → ℕ
 countBy rules none = 0
 countBy rules (some t) = conflictCount rules t
 
--- The number of the pair by a sheet's operators and rules,
-unfoldable pub claimNumber : Operators → List Rule → List ℕ → List ℕ → ℕ
-claimNumber ops rules row bytes = first (pairChecks ops row bytes (countBy rules (treeOf (class ops) bytes)))
+-- The checks of the pair by a sheet's operators and rules, and its number;
+abbrev pub pairChecksBy : Operators → List Rule → List ℕ → List ℕ → List Check
+pairChecksBy ops rules row bytes = pairChecks ops row bytes (countBy rules (treeOf (class ops) bytes))
 
--- and under the words of a sheet: of the record beside the row, and of the pair.
+unfoldable pub claimNumber : Operators → List Rule → List ℕ → List ℕ → ℕ
+claimNumber ops rules row bytes = first (pairChecksBy ops rules row bytes)
+
+-- the same under the words of a sheet, and of the record beside the row.
 module _ (sheet row bytes : List ℕ) where
   abbrev count : ℕ
   count = countIn sheet (treeOf (class (operatorsOf sheet)) bytes)
 
-  unfoldable pub besideNumberIn : ℕ
-  besideNumberIn = first (besideChecks (operatorsOf sheet) row bytes count)
+  abbrev pub pairChecksIn : List Check
+  pairChecksIn = pairChecks (operatorsOf sheet) row bytes count
 
   unfoldable pub claimNumberIn : ℕ
-  claimNumberIn = first (pairChecks (operatorsOf sheet) row bytes count)
+  claimNumberIn = first pairChecksIn
+
+  unfoldable pub besideNumberIn : ℕ
+  besideNumberIn = first (besideChecks (operatorsOf sheet) row bytes count)

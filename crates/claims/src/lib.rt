@@ -61,9 +61,9 @@ pub fn claim_number(sheet: &[u32; SHEET_WORDS], row: &[u8], bytes: &[u8]) -> u8
     if beside == refusal::ACCEPTED {
         return refusal::ACCEPTED;
     }
-    let number = parser::row_number(sheet, row);
-    if number != refusal::ACCEPTED {
-        return number;
+    let of_row = parser::row_number(sheet, row);
+    if of_row != refusal::ACCEPTED {
+        return of_row;
     }
     beside
 }

@@ -119,6 +119,10 @@ module _ (ops : Operators) where
     pub bytes-fit : length bytes ≤ mostRecordBytes
     pub tokens-fit : length (yield t) ≤ mostTokens
 
+  -- It is read as the tree that it is of.
+  pub read-as : (bytes : List ℕ) (t : Tree) → Over (class ops) t → recordOf t ≡ bytes → treeOf (class ops) bytes ≡ some t
+  read-as bytes t over e = ap (treeOf (class ops)) (sym e) ∙ treeOf-record (class ops) (brackets ops) t over
+
   pub is-some : (o : Option Tree) → isNone o ≡ false → (t : Tree) × (o ≡ some t)
   is-some none e = absurd (true≢false e)
   is-some (some t) e = (t, refl)
@@ -141,7 +145,7 @@ module _ (ops : Operators) where
         ),
     λ h.
         let (t, r) = h in
-        let q = ap (treeOf (class ops)) (sym (r .recorded)) ∙ treeOf-record (class ops) (brackets ops) t (r .over) in
+        let q = read-as bytes t (r .over) (r .recorded) in
         first-passed (recordChecks ops bytes) (
           le-ltb mostRecordBytes (length bytes) (r .bytes-fit),
           (record-has-no-stranger (class ops) bytes t q, (rw q, (rw q (le-ltb mostTokens (length (yield t)) (r .tokens-fit)), tt))),

@@ -13,15 +13,15 @@ use borrow.Author.Tests.{lt-ltb, eq-eqb}
 use Rattle.expression.specs.Limits.{mostTokens, mostRecordBytes}
 use Rattle.expression.specs.Refusal.{accepted, place, conflict}
 use Rattle.expression.specs.Token.{class}
+use Rattle.expression.specs.Grammar.{Row}
 use Rattle.expression.specs.Tree.{Tree, recordOf, Over}
 use Rattle.expression.specs.Tree as tree
-use Rattle.expression.specs.Decode.{treeOf}
 use Rattle.expression.specs.Checks.{rowNumber, buildNumber}
 use Rattle.expression.proofs.Numbers.{row-accepted}
 use Rattle.sheet.specs.Relation.{closesIn}
 use Rattle.parser.specs.Build.{built}
 use Rattle.parser.proofs.InForceBuilds.{one-tree}
-use Rattle.claims.specs.Claims.{Claimed, pairChecks, countBy, claimNumber}
+use Rattle.claims.specs.Claims.{Claimed, pairChecksBy, claimNumber}
 use Rattle.claims.proofs.Accepting.{accepted-exactly-if, conflict-in-row}
 use Rattle.claims.proofs.InForceClaims.{claimed-exactly-if-built}
 use Rattle.places.specs.Store.{placeCount, stored}
@@ -53,7 +53,7 @@ module _ (cs : List Call) (k : ℕ) (row bytes : List ℕ) where
   unfolding claimNumber
   claimed-exactly-if = (
     λ z.
-        let (h, f) = place-passed k (pairChecks (ops cs) row bytes (countBy (rules cs) (treeOf (class (ops cs)) bytes))) (sym number-is ∙ z) in
+        let (h, f) = place-passed k (pairChecksBy (ops cs) (rules cs) row bytes) (sym number-is ∙ z) in
         let (fits, claimed) = accepted-exactly-if (ops cs) (rules cs) row bytes .0 f in
         (h, fits, claimed),
     λ h. let (l, fits, claimed) = h in number-is ∙ rw (lt-ltb k placeCount l) (accepted-exactly-if (ops cs) (rules cs) row bytes .1 (fits, claimed)),
@@ -70,8 +70,10 @@ module _ (cs : List Call) (k : ℕ) (row bytes : List ℕ) where
   abbrev made : List ℕ
   made = built (steps.ops (panelAfter cs)) (closesIn (panelAfter cs .sheet)) row
 
-  made-is : made ≡ built (ops cs) (closesIn (panelAfter cs .sheet)) row
-  made-is = ap (λ o. built o (closesIn (panelAfter cs .sheet)) row) (sheet-in-force cs .operators)
+  made-exactly-if : Claimed (ops cs) (rules cs) row bytes ↔ (Row (ops cs) row × (made ≡ bytes))
+  made-exactly-if =
+      subst (λ o. Claimed (ops cs) (rules cs) row bytes ↔ (Row (ops cs) row × (built o (closesIn (panelAfter cs .sheet)) row ≡ bytes))) (sym (sheet-in-force cs .operators))
+      (claimed-exactly-if-built (panelAfter cs .sheet) (ops cs) (rules cs) (sheet-in-force cs) row bytes)
 
   module _ (out : List ℕ) (room : mostRecordBytes ≤ length out) where
     build-number-is : answer cs (ask (build row out)) .number ≡ rowNumber (ops cs) row
@@ -83,8 +85,8 @@ module _ (cs : List Call) (k : ℕ) (row bytes : List ℕ) where
         to : answer cs claim .number ≡ accepted → AnsweredBy cs (ask (build row out)) out bytes
         to z =
             let (_, fits, claimed) = claimed-exactly-if .0 z in
-            let (r, e) = claimed-exactly-if-built (panelAfter cs .sheet) (ops cs) (rules cs) (sheet-in-force cs) row bytes .0 claimed in
-            answered-by cs (build row out) bytes (build-number-is ∙ row-accepted (ops cs) row .1 (fits, r)) (made-is ∙ e)
+            let (r, e) = made-exactly-if .0 claimed in
+            answered-by cs (build row out) bytes (build-number-is ∙ row-accepted (ops cs) row .1 (fits, r)) e
 
         from : AnsweredBy cs (ask (build row out)) out bytes → answer cs claim .number ≡ accepted
         from (z, l, o) =
@@ -92,7 +94,7 @@ module _ (cs : List Call) (k : ℕ) (row bytes : List ℕ) where
             let (_, m, p) = answered-by cs (build row out) made z refl in
             let same : made ≡ bytes =
             sym (take-at made (lists.drop (length made) out) (length bytes) (sym m ∙ l)) ∙ ap (take (length bytes)) (sym p ∙ o) ∙ take-at bytes (lists.drop (length bytes) out) (length bytes) refl in
-            claimed-exactly-if .1 (h, fits, claimed-exactly-if-built (panelAfter cs .sheet) (ops cs) (rules cs) (sheet-in-force cs) row bytes .1 (r, sym made-is ∙ same))
+            claimed-exactly-if .1 (h, fits, made-exactly-if .1 (r, same))
 
   -- ---- an accepted claim
   module _ (z : answer cs claim .number ≡ accepted) where
@@ -112,15 +114,15 @@ module _ (cs : List Call) (k : ℕ) (row bytes : List ℕ) where
     unfolding putRowNumber rowNumber
     put-passes =
         let (l, fits, claimed) = claimed-exactly-if .0 z in
-        let (r, _) = claimed-exactly-if-built (panelAfter cs .sheet) (ops cs) (rules cs) (sheet-in-force cs) row bytes .0 claimed in
+        let (r, _) = made-exactly-if .0 claimed in
         rw (lt-ltb k placeCount l, sheet-in-force cs .operators) (row-accepted (ops cs) row .1 (fits, r))
 
     same-as-put : panelAfter (claim ∷ cs) ≡ panelAfter (putRow k row ∷ cs)
     unfolding panelAfter placesAfterClaim placesAfterRow
     same-as-put =
         let (_, _, claimed) = claimed-exactly-if .0 z in
-        let (_, e) = claimed-exactly-if-built (panelAfter cs .sheet) (ops cs) (rules cs) (sheet-in-force cs) row bytes .0 claimed in
-        rw (z, put-passes) (ap (λ x. withPlaces (panelAfter cs) (stored (panelAfter cs .places) k x)) (sym (made-is ∙ e)))
+        let (_, e) = made-exactly-if .0 claimed in
+        rw (z, put-passes) (ap (λ x. withPlaces (panelAfter cs) (stored (panelAfter cs .places) k x)) (sym e))
 
 pub claimed-trees : (cs : List Call) → ClaimedTrees cs
 claimed-trees cs =

@@ -17,8 +17,7 @@ use Rattle.expression.specs.Decode.{treeOf}
 use Rattle.expression.specs.Operand.{rowOf}
 use Rattle.expression.specs.Checks.{shortCheck, recordBytes, rowChecks, recordChecks}
 use Rattle.disambiguation.specs.Conflicts.{ConflictFreeTree}
-use Rattle.record.specs.Answers.{countIn}
-use Rattle.claims.specs.Claims.{pairChecks}
+use Rattle.claims.specs.Claims.{pairChecksIn}
 use Rattle.places.specs.Store.{placeCount}
 use Rattle.monitor.specs.Call.{Call, stage, stageList, switch, putRow, putRecord, putClaim, drop, ask, fetchRecord}
 use Rattle.monitor.specs.Panel.{placeCheck}
@@ -45,7 +44,7 @@ record-refused k bytes cs h = over k (recordChecks (ops (panelAfter cs)) bytes) 
 
 claim-refused : (k : ℕ) (row bytes : List ℕ) (cs : List Call) → placeCount ≤ k → isAccepted cs (putClaim k row bytes) ≡ false
 unfolding putClaimNumber
-claim-refused k row bytes cs h = over k (pairChecks (ops (panelAfter cs)) row bytes (countIn (panelAfter cs .sheet) (treeOf (class (ops (panelAfter cs))) bytes))) h
+claim-refused k row bytes cs h = over k (pairChecksIn (panelAfter cs .sheet) row bytes) h
 
 -- an entry at another place, or one that is refused, leaves the slot blank
 blank-still : (k j : ℕ) (x : Bool) (slot old : Option (List ℕ)) → (k ≡ j → x ≡ false) → old ≡ none → cond (x && eqb k j) slot old ≡ none

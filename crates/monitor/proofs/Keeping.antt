@@ -22,7 +22,7 @@ use Rattle.sheet.specs.Loading.{sheetOf}
 use Rattle.sheet.specs.InForce.{InForce}
 use Rattle.sheet.proofs.Laws.{fresh-not-loaded, loaded-made, made-in-force}
 use Rattle.parser.specs.Build.{built}
-use Rattle.claims.specs.Claims.{pairChecks, countBy, claimNumber}
+use Rattle.claims.specs.Claims.{pairChecksBy, claimNumber}
 use Rattle.places.specs.Store.{placeCount, held, stored}
 use Rattle.places.proofs.Laws.{held-stored-same, held-stored-other, length-stored}
 use Rattle.monitor.specs.Call.{Call, stage, stageList, switch, putRow, putRecord, putClaim, drop, ask}
@@ -93,7 +93,7 @@ module _ (p : Panel) (b : Book) (s : Stands p b) where
   claim-stands k row bytes =
       store-stands (putClaim k row bytes) k (some row) bytes refl refl
       (λ e.
-      let (h, f) = place-passed k (pairChecks (b .operators) row bytes (countBy (b .rules) (treeOf (class (b .operators)) bytes))) e in
+      let (h, f) = place-passed k (pairChecksBy (b .operators) (b .rules) row bytes) e in
       (h, put-claim-holds (b .operators) (b .rules) row bytes f))
 
   drop-stands : (k : ℕ) → Stands (after p (drop k)) (next b (drop k))

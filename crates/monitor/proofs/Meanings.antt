@@ -19,7 +19,8 @@ use Rattle.expression.specs.Decode.{treeOf}
 use Rattle.expression.specs.Operand.{rowOf}
 use Rattle.expression.specs.Checks.{strangeInRow, strangeInRecord, isNone, rowTokens, rowChecks, recordChecks}
 use Rattle.expression.proofs.Classes.{brackets}
-use Rattle.expression.proofs.RecordsAndTrees.{treeOf-record, record-treeOf}
+use Rattle.expression.proofs.RecordsAndTrees.{record-treeOf}
+use Rattle.expression.proofs.Numbers.{read-as}
 use Rattle.expression.proofs.RowTestDecides.{isRow-exactly-if-row}
 use Rattle.disambiguation.specs.Conflicts.{conflictCount}
 use Rattle.claims.specs.Claims.{sameBytes, claimChecks, countBy}
@@ -106,7 +107,7 @@ module _ (b : Book) where
 
   -- a record is read back as its tree, and what is read as a tree is its record
   pub reads-back : (bytes : List ℕ) (t : Tree) → Records b bytes t → treeOf (class (b .operators)) bytes ≡ some t
-  reads-back bytes t r = ap (treeOf (class (b .operators))) (sym (r .1)) ∙ treeOf-record (class (b .operators)) (brackets (b .operators)) t (r .0)
+  reads-back bytes t r = read-as (b .operators) bytes t (r .0) (r .1)
 
   read-records : (bytes : List ℕ) (t : Tree) → treeOf (class (b .operators)) bytes ≡ some t → Records b bytes t
   read-records bytes t e = let (r, h) = record-treeOf (class (b .operators)) (brackets (b .operators)) bytes t e in (h, r)

@@ -26,7 +26,7 @@ use Rattle.parser.proofs.InForceBuilds.{built-conflict-free}
 use Rattle.brackets.specs.SameMeaning.{ShortestRow}
 use Rattle.brackets.specs.Shortest.{shortestBy, shortestNumber}
 use Rattle.brackets.proofs.ShortestRows.{shortest-of-tree}
-use Rattle.claims.specs.Claims.{sameBytes, claimChecks, besideChecks, pairChecks, countBy}
+use Rattle.claims.specs.Claims.{sameBytes, claimChecks, besideChecks, pairChecksBy, countBy}
 use Rattle.places.specs.Store.{placeCount, slotBytes, held, imageOf}
 use Rattle.places.proofs.Images.{length-image}
 use Rattle.monitor.specs.Call.{Question, Call, lentBefore, stage, stageList, switch, putRow, putRecord, putClaim, drop, ask, fetchRecord, fetchRow, image, build, repair, judge, yield, operand, shortestRow}
@@ -149,7 +149,7 @@ module _ (b : Book) where
     book-means (putRow k row) = place-means (OfRow b row Accepted) k (rowChecks (b .operators) row) (λ _. row-means b Accepted row [] (λ _. refl))
     book-means (putRecord k bytes) = place-means (OfRecord b bytes Accepted) k (recordChecks (b .operators) bytes) (λ _. record-means b Accepted bytes [] (λ _ _. refl))
     book-means (putClaim k row bytes) =
-        place-means (OfRow b row (OfRecord b bytes (OfClaim b row bytes))) k (pairChecks (b .operators) row bytes count)
+        place-means (OfRow b row (OfRecord b bytes (OfClaim b row bytes))) k (pairChecksBy (b .operators) (b .rules) row bytes)
         (λ _. row-means b (OfRecord b bytes (OfClaim b row bytes)) row (besideChecks (b .operators) row bytes count)
         (λ _. record-means b (OfClaim b row bytes) bytes (claimChecks (sameBytes (rowOf (treeOf (class (b .operators)) bytes)) row) count) (claim-means b row bytes)))
       where

@@ -16,9 +16,7 @@ use Rattle.expression.specs.Tree as tree
 use Rattle.expression.specs.Decode.{treeOf}
 use Rattle.expression.specs.Operand.{rowOf, operandIn, operandRecord, operandPart}
 use Rattle.expression.specs.Checks.{shortCheck, recordBytes, rowTokens, rowChecks, recordChecks, rowNumber, recordNumber, buildNumber, repairNumber, yieldNumber}
-use Rattle.expression.proofs.Classes.{brackets}
-use Rattle.expression.proofs.RecordsAndTrees.{treeOf-record}
-use Rattle.expression.proofs.Numbers.{Numbered, record-accepted, row-numbered, record-numbered}
+use Rattle.expression.proofs.Numbers.{Numbered, read-as, record-accepted, row-numbered, record-numbered}
 use Rattle.disambiguation.specs.Conflicts.{conflictCount}
 use Rattle.sheet.proofs.Laws.{count-by-relation}
 use Rattle.record.specs.Answers.{judgement, countIn}
@@ -94,7 +92,7 @@ module _ (p : Panel) (b : Book) (s : Stands p b) where
   recorded : (bytes : List ℕ) → recordNumber (b .operators) bytes ≡ accepted → (t : Tree) × Records b bytes t × (treeOf (class (b .operators)) bytes ≡ some t)
   recorded bytes e =
       let (t, r) = record-accepted (b .operators) bytes .0 e in
-      (t, (r .over, r .recorded), ap (treeOf (class (b .operators))) (sym (r .recorded)) ∙ treeOf-record (class (b .operators)) (brackets (b .operators)) t (r .over))
+      (t, (r .over, r .recorded), read-as (b .operators) bytes t (r .over) (r .recorded))
 
   -- The bytes of each accepted answer are those that the book gives.
   pub tells : (q : Question) → askedNumber b q ≡ accepted → Told b q (told p q .answer)

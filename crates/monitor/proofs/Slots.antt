@@ -15,10 +15,9 @@ use Rattle.expression.specs.Decode.{treeOf}
 use Rattle.expression.specs.Operand.{rowOf}
 use Rattle.expression.specs.Checks.{recordBytes, rowNumber, recordNumber}
 use Rattle.expression.proofs.Classes.{brackets}
-use Rattle.expression.proofs.RecordsAndTrees.{treeOf-record}
 use Rattle.expression.proofs.RowsAndTrees.{row-exactly-if-yielded}
 use Rattle.expression.proofs.Lengths.{few-bytes, record-length}
-use Rattle.expression.proofs.Numbers.{record-accepted, row-accepted}
+use Rattle.expression.proofs.Numbers.{read-as, record-accepted, row-accepted}
 use Rattle.disambiguation.specs.Rules.{Rule}
 use Rattle.disambiguation.specs.Conflicts.{ConflictFreeTree}
 use Rattle.sheet.specs.Layout.{operatorsOf}
@@ -55,7 +54,7 @@ module _ {ops : Operators} {rules : List Rule} {row bytes : List ℕ} {t : Tree}
   bytes-fit = omega (arith, bytes-long, few-bytes row, h .tokens-fit)
 
   pub read-back : treeOf (class ops) bytes ≡ some t
-  read-back = ap (treeOf (class ops)) (h .recorded) ∙ treeOf-record (class ops) (brackets ops) t (h .tree .over)
+  read-back = read-as ops bytes t (h .tree .over) (sym (h .recorded))
 
   pub row-back : rowOf (treeOf (class ops) bytes) ≡ row
   row-back = ap rowOf read-back ∙ h .tree .yields
@@ -79,7 +78,7 @@ module _ {ops : Operators} {rules : List Rule} {row bytes : List ℕ} {t : Tree}
     over-there = over-under ops m t (h .tree .over) (ap (usesOther ops m) (sym (h .recorded)) ∙ under)
 
     row-there : rowOf (treeOf (class m) bytes) ≡ row
-    row-there = ap (λ x. rowOf (treeOf (class m) x)) (h .recorded) ∙ ap rowOf (treeOf-record (class m) (brackets m) t over-there) ∙ h .tree .yields
+    row-there = ap rowOf (read-as m bytes t over-there (sym (h .recorded))) ∙ h .tree .yields
 
     pub accepted-there : recordNumber m bytes ≡ accepted
     accepted-there =
@@ -123,7 +122,7 @@ pub put-record-holds : (s : List ℕ) (ops : Operators) (rules : List Rule) → 
     → Holds ops rules (some (rowOf (treeOf (class ops) bytes))) (rebuilt s bytes)
 put-record-holds s ops rules k bytes e =
     let (t, r) = record-accepted ops bytes .0 e in
-    let q = ap rowOf (ap (treeOf (class ops)) (sym (r .recorded)) ∙ treeOf-record (class ops) (brackets ops) t (r .over)) in
+    let q = ap rowOf (read-as ops bytes t (r .over) (r .recorded)) in
     let here = row-exactly-if-yielded ops (rowOf (treeOf (class ops) bytes)) .1 (t, r .over, sym q) in
     let (u, c, p) = built-conflict-free s ops rules k (rowOf (treeOf (class ops) bytes)) here in
     (u, record { tree = c; recorded = ap (λ o. built o (closesIn s) (rowOf (treeOf (class o) bytes))) (k .operators) ∙ p; tokens-fit = rw q (r .tokens-fit) })

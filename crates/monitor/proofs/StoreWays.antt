@@ -12,18 +12,16 @@ use borrow.Author.Needs.{needs}
 use Rattle.expression.specs.Refusal.{Check, first}
 use Rattle.expression.specs.Lent.{outputAfter, lengthAfter}
 use Rattle.expression.specs.Limits.{mostRecordBytes}
-use Rattle.expression.specs.Token.{Operators, class}
-use Rattle.expression.specs.Decode.{treeOf}
+use Rattle.expression.specs.Token.{Operators}
 use Rattle.expression.specs.Checks.{recordBytes, rowChecks, recordChecks, rowNumber, recordNumber, buildNumber}
 use Rattle.expression.proofs.Lengths.{few-bytes}
 use Rattle.expression.proofs.Numbers.{first-enough, row-numbered, row-accepted, repair-number}
 use Rattle.sheet.specs.Layout.{operatorsOf}
 use Rattle.sheet.specs.Relation.{closesIn}
-use Rattle.record.specs.Answers.{countIn}
 use Rattle.record.specs.declared.Answer.{Answer}
 use Rattle.parser.specs.Build.{built}
 use Rattle.parser.specs.Answers.{AnswersBuild, AnswersRepair}
-use Rattle.claims.specs.Claims.{pairChecks, claimNumberIn}
+use Rattle.claims.specs.Claims.{pairChecksIn, claimNumberIn}
 use Rattle.places.specs.Store.{placeCount, held, stored}
 use Rattle.monitor.specs.Call.{Call, putRow, putRecord, putClaim}
 use Rattle.monitor.specs.Panel.{panel, placeCheck, ifAccepted, rebuilt, rebuiltTo}
@@ -175,16 +173,13 @@ module _ (sheet places : List ℕ) (k : ℕ) (bytes : List ℕ) where
   put-record-done = put-done sheet places k (putRecord k bytes) (recordChecks (operatorsOf sheet) bytes) (rebuilt sheet bytes) (λ staged. refl) (λ staged. refl)
 
 module _ (sheet places : List ℕ) (k : ℕ) (row bytes : List ℕ) where
-  abbrev checks : List Check
-  checks = pairChecks (operatorsOf sheet) row bytes (countIn sheet (treeOf (class (operatorsOf sheet)) bytes))
-
   pub put-claim-over : placeCount ≤ k → Puts sheet places (putClaim k row bytes) 8 places
   unfolding putClaimNumber placesAfterClaim
-  put-claim-over = put-over sheet places k (putClaim k row bytes) checks bytes (λ staged. refl) (λ staged. refl)
+  put-claim-over = put-over sheet places k (putClaim k row bytes) (pairChecksIn sheet row bytes) bytes (λ staged. refl) (λ staged. refl)
 
   pub put-claim-done : {r : ℕ} {later : List ℕ} → k < placeCount → StoresClaim sheet places k row bytes r later → Puts sheet places (putClaim k row bytes) r later
   unfolding putClaimNumber placesAfterClaim claimNumberIn
-  put-claim-done = put-done sheet places k (putClaim k row bytes) checks bytes (λ staged. refl) (λ staged. refl)
+  put-claim-done = put-done sheet places k (putClaim k row bytes) (pairChecksIn sheet row bytes) bytes (λ staged. refl) (λ staged. refl)
 
 pub ruleset put-claim-ways = (put-claim-over, put-claim-done, needs)
 

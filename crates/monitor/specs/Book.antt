@@ -15,7 +15,7 @@ use Rattle.disambiguation.specs.Rules.{Rule}
 use Rattle.disambiguation.specs.Conflicts.{ConflictFreeTree}
 use Rattle.disambiguation.specs.SheetChecks.{rulesIn, operatorsIn, sheetNumber, listNumber}
 use Rattle.brackets.specs.Shortest.{shortestBy, shortestNumber}
-use Rattle.claims.specs.Claims.{pairChecks, countBy}
+use Rattle.claims.specs.Claims.{pairChecksBy}
 use Rattle.places.specs.Store.{slotBytes}
 use Rattle.monitor.specs.Call.{Question, Call, stage, stageList, switch, putRow, putRecord, putClaim, drop, ask, fetchRecord, fetchRow, image, build, repair, judge, yield, operand, shortestRow}
 use Rattle.monitor.specs.Panel.{placeCheck, inUseCheck, ifAccepted}
@@ -84,7 +84,7 @@ module _ (b : Book) where
   bookNumber switch = notedNumber (b .note)
   bookNumber (putRow k row) = first (placeCheck k ∷ rowChecks (b .operators) row)
   bookNumber (putRecord k bytes) = first (placeCheck k ∷ recordChecks (b .operators) bytes)
-  bookNumber (putClaim k row bytes) = first (placeCheck k ∷ pairChecks (b .operators) row bytes (countBy (b .rules) (treeOf (class (b .operators)) bytes)))
+  bookNumber (putClaim k row bytes) = first (placeCheck k ∷ pairChecksBy (b .operators) (b .rules) row bytes)
   bookNumber (drop k) = first (placeCheck k ∷ blankCheck (b .slots k) ∷ [])
   bookNumber (ask q) = askedNumber q
 

@@ -155,9 +155,9 @@ module _ (cs : List Call) where
 
   -- W8, trees from the planning tool. A row comes with the record that is claimed for it, and a place. What the numbers mean is in `Demand3.numbers`.
   pub record ClaimedTrees : Type 0 where
-    -- At a place, and with a row within the length, the pair is accepted exactly if the record is that of the row's conflict-free tree,
+    -- The pair is accepted exactly if there is such a place, the row is within the length, and the record is that of the row's conflict-free tree;
     pub accepted-exactly-if : (k : ℕ) (row bytes : List ℕ) → (answer cs (putClaim k row bytes) .number ≡ accepted) ↔ ((k < placeCount) × (length row ≤ mostTokens) × Claimed ops rules row bytes)
-    -- and that is exactly if building the row gives this record.
+    -- at a place, exactly if building the row gives this record.
     pub as-built : (k : ℕ) (row bytes out : List ℕ) → k < placeCount → mostRecordBytes ≤ length out
         → (answer cs (putClaim k row bytes) .number ≡ accepted) ↔ AnsweredBy cs (ask (build row out)) out bytes
     -- 17 is given only where the row is the record's own.

@@ -13,10 +13,10 @@ use Rattle.disambiguation.specs.SheetChecks.{kindsIn, rulesIn, sheetNumber, lis
 use Rattle.sheet.specs.Layout.{operatorsOf}
 use Rattle.sheet.specs.Relation.{closesIn}
 use Rattle.sheet.specs.Loading.{sheetOf}
-use Rattle.record.specs.Answers.{countIn, judgement}
+use Rattle.record.specs.Answers.{judgement}
 use Rattle.parser.specs.Build.{built}
 use Rattle.brackets.specs.Shortest.{shortestOf, shortestNumber}
-use Rattle.claims.specs.Claims.{pairChecks}
+use Rattle.claims.specs.Claims.{pairChecksIn}
 use Rattle.places.specs.Store.{placeCount, slotBytes, held, imageOf, stored}
 use Rattle.monitor.specs.Call.{Question, Call, lentTo, stage, stageList, switch, putRow, putRecord, putClaim, drop, ask, fetchRecord, fetchRow, image, build, repair, judge, yield, operand, shortestRow, Reply}
 use Rattle.monitor.specs.Panel.{Panel, panel, noneStaged, placeCheck, emptyCheck, inUseCheck, stagedCheck, ifAccepted, rebuilt, rebuiltTo}
@@ -49,7 +49,7 @@ module _ (p : Panel) where
   putRecordNumber k bytes = first (placeCheck k ∷ recordChecks ops bytes)
 
   unfoldable pub putClaimNumber : ℕ → List ℕ → List ℕ → ℕ
-  putClaimNumber k row bytes = first (placeCheck k ∷ pairChecks ops row bytes (countIn (p .sheet) (treeOf (class ops) bytes)))
+  putClaimNumber k row bytes = first (placeCheck k ∷ pairChecksIn (p .sheet) row bytes)
 
   unfoldable pub dropNumber : ℕ → ℕ
   dropNumber k = first (placeCheck k ∷ emptyCheck (held (p .places) k) ∷ [])

@@ -15,10 +15,9 @@ use Rattle.expression.specs.Decode.{treeOf}
 use Rattle.expression.specs.Operand.{rowOf}
 use Rattle.expression.specs.Checks.{recordBytes, rowTokens, shortCheck, recordChecks, recordNumber, repairNumber, yieldNumber}
 use Rattle.expression.proofs.Classes.{brackets}
-use Rattle.expression.proofs.RecordsAndTrees.{treeOf-record}
 use Rattle.expression.proofs.RowsAndTrees.{row-exactly-if-yielded}
 use Rattle.expression.proofs.Lengths.{record-length}
-use Rattle.expression.proofs.Numbers.{first-refused, first-short, first-roomy, first-enough, record-numbered, record-accepted}
+use Rattle.expression.proofs.Numbers.{first-refused, first-short, first-roomy, first-enough, record-numbered, read-as, record-accepted}
 use Rattle.sheet.specs.Layout.{operatorsOf}
 use Rattle.sheet.specs.Relation.{closesIn}
 use Rattle.record.specs.Answers.{Yields}
@@ -42,7 +41,7 @@ module _ (ops : Operators) (bytes : List ℕ) where
   pub accepted-record : recordNumber ops bytes ≡ accepted → Accepted
   accepted-record e =
       let (t, r) = record-accepted ops bytes .0 e in
-      let q = ap (treeOf (class ops)) (sym (r .recorded)) ∙ treeOf-record (class ops) (brackets ops) t (r .over) in
+      let q = read-as ops bytes t (r .over) (r .recorded) in
       record {
         is-row = row-exactly-if-yielded ops rowHere .1 (t, r .over, sym (ap rowOf q));
         fits = rw (ap rowOf q) (r .tokens-fit);
