@@ -10,9 +10,11 @@ pub mod Repaired
 pub mod FewOperators
 pub mod Converse
 pub mod BelowLaws
+pub mod FirstBelow
 pub mod Chains
 pub mod LeadsDecided
 pub mod TestsDecide
+pub mod Witnesses
 pub mod VerdictDecides
 pub mod SheetNumbers
 pub mod RuleBytes
@@ -27,4 +29,5 @@ pub mod Cases
 pub mod ChainCases
 pub mod PrefixCases
 pub mod PowerCases
+pub mod WitnessCases
 pub mod MachineExamples

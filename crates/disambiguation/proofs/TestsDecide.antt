@@ -1,24 +1,22 @@
--- The verdict's tests decide the conditions, for a sheet's operators, and where one fails name the operators. Assumes nothing.
+-- The verdict's tests decide the conditions, for a sheet's operators, and so do the tests of single pairs and triples. Assumes nothing.
 use Prim.Native.Nat.{ℕ, _≤_, _<_}
 use native.Mathlib.Omega.{arith}
 use mathlib.Core.Path.{_≡_, refl, ap, sym, _∙_}
 use mathlib.Core.Bool.{Bool, true, false, not, _&&_, _||_, cond, true≢false, false≢true}
 use mathlib.Core.Logic.{_⊎_, inl, inr}
 use lib.Dec.{eqb}
-use borrow.Author.Tests.{not-false}
+use borrow.Author.Tests.{not-true}
 use Rattle.expression.specs.Limits.{mostOperators}
 use Rattle.expression.specs.Token.{Infix, Prefix, prefixKind, Operators, kindOf, classOfKind, class}
 use Rattle.expression.proofs.Tests.{both-false}
 use Rattle.expression.proofs.Classes.{class-operator, by-class, operator-below}
 use Rattle.disambiguation.specs.Verdict.{comes, comers, safe, total, within, level}
+use Rattle.disambiguation.specs.Witness.{bothExclude, noneExcludes, uneven}
 use Rattle.disambiguation.proofs.Free.{is-true}
-use Rattle.disambiguation.proofs.BelowLaws.{and-true, allBelow-at, allBelow-fails, allPairs-at, allPairs-fails}
+use Rattle.disambiguation.proofs.BelowLaws.{and-true, allBelow-at, allPairs-at}
 use Rattle.disambiguation.proofs.Conditions.{waits, takes, Safe, Total, Transitive, Cotransitive}
 
 -- what a test of two or three relations says
-both : (a b : Bool) → not (a && b) ≡ false → (a ≡ true) × (b ≡ true)
-both a b e = and-true a b (not-false (a && b) e)
-
 not-both : (a b : Bool) → not (a && b) ≡ true → a ≡ true → b ≡ true → ⊥
 not-both true true e p q = false≢true e
 not-both true false e p q = false≢true q
@@ -31,10 +29,6 @@ either false b e p q = true≢false (sym e ∙ q)
 implies : (a b : Bool) → (not a || b) ≡ true → a ≡ true → b ≡ false → ⊥
 implies true b e p q = true≢false (sym e ∙ q)
 implies false b e p q = false≢true p
-
-not-implies : (a b : Bool) → (not a || b) ≡ false → (a ≡ true) × (b ≡ false)
-not-implies true b e = (refl, e)
-not-implies false b e = absurd (true≢false e)
 
 -- operators that are not level, the first way or the second
 abbrev pub Uneven : (ℕ → ℕ → Bool) → ℕ → ℕ → ℕ → Type 0
@@ -92,13 +86,6 @@ module _ (ops : Operators) where
     unfolding within
     within-at p q e c h = implies (p c) (q c) (allBelow-at (ops .count) (λ c. not (p c) || q c) e c h)
 
-    within-fails : (p q : ℕ → Bool) → within (ops .count) p q ≡ false → (c : ℕ) × (c < ops .count) × (p c ≡ true) × (q c ≡ false)
-    unfolding within
-    within-fails p q e =
-        let (c, h, g) = allBelow-fails (ops .count) (λ c. not (p c) || q c) e in
-        let (x, y) = not-implies (p c) (q c) g in
-        (c, h, x, y)
-
     pub level-transitive : level ops R ≡ true → Transitive R (class ops)
     level-transitive e a b c ha hb hc ab bc ac =
         within-at (comers ops (R b)) (R a) (rw ab at (pair-at e a b ha hb)) c (takes-below c hc) (comers-at (R b) c hc bc) ac
@@ -107,59 +94,47 @@ module _ (ops : Operators) where
     level-cotransitive e a b c ha hb hc ab bc ac =
         within-at (comers ops (R a)) (R b) (rw ab at (pair-at e a b ha hb)) c (infix-below c hc) (comers-at (R a) c (ap takes hc) ac) bc
 
-  -- Where a test fails, operators that fail it.
+  -- Operators of which the test of a fault holds have it.
   module _ (small : ops .count ≤ mostOperators) where
     operator : (a : ℕ) → a < ops .count → class ops a ≡ classOfKind (kindOf ops a)
     operator a h = class-operator ops a (omega arith) h
 
-    is-left : (a : ℕ) → a < ops .count → waits (class ops a) ≡ true
-    is-left a h = ap waits (operator a h) ∙ go (eqb (kindOf ops a) prefixKind)
+    -- an operator is prefix or infix, as `comes` tells
+    pub is-left : (a : ℕ) → a < ops .count → class ops a ≡ cond (not (comes ops a)) Prefix Infix
+    is-left a h = operator a h ∙ go (eqb (kindOf ops a) prefixKind)
       where
-        go : (b : Bool) → waits (cond b Prefix Infix) ≡ true
+        go : (b : Bool) → cond b Prefix Infix ≡ cond (not (not b)) Prefix Infix
         go true = refl
         go false = refl
 
     is-infix : (b : ℕ) → b < ops .count → comes ops b ≡ true → class ops b ≡ Infix
-    is-infix b h e = operator b h ∙ go (eqb (kindOf ops b) prefixKind) e
-      where
-        go : (x : Bool) → not x ≡ true → cond x Prefix Infix ≡ Infix
-        go true e = absurd (false≢true e)
-        go false e = refl
+    is-infix b h e = is-left b h ∙ ap (λ (x : Bool). cond (not x) Prefix Infix) e
 
-    abbrev Pair : ℕ → ℕ → Type 0
-    Pair a b = (waits (class ops a) ≡ true) × (class ops b ≡ Infix)
+    module _ (L R : ℕ → ℕ → Bool) (a b : ℕ) (hb : b < ops .count) where
+      pub both-exclude : bothExclude ops L R a b ≡ true → (class ops b ≡ Infix) × (R a b ≡ true) × (L b a ≡ true)
+      both-exclude e =
+          let (q, l) = and-true (comers ops (R a) b) (L b a) e in
+          let (r, i) = and-true (R a b) (comes ops b) q in
+          (is-infix b hb i, r, l)
 
-    pub safe-fails : (L R : ℕ → ℕ → Bool) → safe ops L R ≡ false → (a : ℕ) × (b : ℕ) × Pair a b × (R a b ≡ true) × (L b a ≡ true)
-    unfolding safe
-    safe-fails L R e =
-        let (a, b, ha, hb, f) = allPairs-fails (ops .count) (λ a b. not (comers ops (R a) b && L b a)) e in
-        let (q, l) = both (comers ops (R a) b) (L b a) f in
-        let (r, i) = and-true (R a b) (comes ops b) q in
-        (a, b, (is-left a ha, is-infix b hb i), r, l)
+      pub none-excludes : noneExcludes ops L R a b ≡ true → (class ops b ≡ Infix) × (R a b ≡ false) × (L b a ≡ false)
+      none-excludes e =
+          let (i, q) = and-true (comes ops b) (not (R a b || L b a)) e in
+          let (r, l) = both-false (R a b) (L b a) (not-true (R a b || L b a) q) in
+          (is-infix b hb i, r, l)
 
-    pub total-fails : (L R : ℕ → ℕ → Bool) → total ops L R ≡ false → (a : ℕ) × (b : ℕ) × Pair a b × (R a b ≡ false) × (L b a ≡ false)
-    unfolding total
-    total-fails L R e =
-        let (a, b, ha, hb, f) = allPairs-fails (ops .count) (λ a b. (R a b || not (comes ops b)) || L b a) e in
-        let (q, l) = both-false (R a b || not (comes ops b)) (L b a) f in
-        let (r, i) = both-false (R a b) (not (comes ops b)) q in
-        (a, b, (is-left a ha, is-infix b hb (not-false (comes ops b) i)), r, l)
-
-    pub level-fails : (R : ℕ → ℕ → Bool) → level ops R ≡ false → (a : ℕ) × (b : ℕ) × (c : ℕ) × Pair a b × (class ops c ≡ Infix) × Uneven R a b c
-    unfolding level
-    level-fails R e =
-        let (a, b, ha, hb, f) = allPairs-fails (ops .count) (levelAt R) e in
-        let (i, g) = not-implies (comes ops b) (levelPair R a b) f in
-        let (c, hc, u) = go a b (R a b) refl g in
-        (a, b, c, (is-left a ha, is-infix b hb i), hc, u)
-      where
-        go : (a b : ℕ) (x : Bool) → R a b ≡ x → cond x (within (ops .count) (comers ops (R b)) (R a)) (within (ops .count) (comers ops (R a)) (R b)) ≡ false
-            → (c : ℕ) × (class ops c ≡ Infix) × Uneven R a b c
-        go a b true h f =
-            let (c, hc, p, q) = within-fails R (comers ops (R b)) (R a) f in
-            let (r, i) = and-true (R b c) (comes ops c) p in
-            (c, is-infix c hc i, inl (h, r, q))
-        go a b false h f =
-            let (c, hc, p, q) = within-fails R (comers ops (R a)) (R b) f in
-            let (r, i) = and-true (R a c) (comes ops c) p in
-            (c, is-infix c hc i, inr (h, q, r))
+      pub is-uneven : (c : ℕ) → c < ops .count → uneven ops R a b c ≡ true → (class ops b ≡ Infix) × (class ops c ≡ Infix) × Uneven R a b c
+      is-uneven c hc e =
+          let (i, q) = and-true (comes ops b) _ e in
+          let (k, u) = go (R a b) refl q in
+          (is-infix b hb i, k, u)
+        where
+          go : (x : Bool) → R a b ≡ x → cond x (comers ops (R b) c && not (R a c)) (comers ops (R a) c && not (R b c)) ≡ true → (class ops c ≡ Infix) × Uneven R a b c
+          go true h f =
+              let (p, q) = and-true (comers ops (R b) c) (not (R a c)) f in
+              let (r, i) = and-true (R b c) (comes ops c) p in
+              (is-infix c hc i, inl (h, r, not-true (R a c) q))
+          go false h f =
+              let (p, q) = and-true (comers ops (R a) c) (not (R b c)) f in
+              let (r, i) = and-true (R a c) (comes ops c) p in
+              (is-infix c hc i, inr (h, not-true (R b c) q, r))

@@ -2,38 +2,37 @@
 use Prim.Native.Nat.{ℕ, _≤_}
 use native.Mathlib.Omega.{arith}
 use mathlib.Core.Path.{_≡_, refl, sym, _∙_}
-use mathlib.Core.Bool.{Bool, true, false, not, _&&_, cond}
-use mathlib.Core.Logic.{_↔_, _⊎_, inl, inr}
+use mathlib.Core.Bool.{true}
+use mathlib.Core.Logic.{_↔_}
 use mathlib.Core.List.{List}
 use Rattle.expression.specs.Limits.{mostOperators}
-use Rattle.expression.specs.Refusal.{accepted, dead, double}
-use Rattle.expression.specs.Token.{Infix, Reading, Operators, class}
+use Rattle.expression.specs.Refusal.{first, accepted, dead, double}
+use Rattle.expression.specs.Token.{Operators, class}
 use Rattle.expression.specs.Tree.{Tree, yield, Over}
 use Rattle.expression.specs.Grammar.{Row}
-use Rattle.expression.proofs.Classes.{brackets, class-reading}
+use Rattle.expression.proofs.Classes.{brackets}
 use Rattle.expression.proofs.RowsAndTrees.{row-exactly-if-yielded}
 use Rattle.disambiguation.specs.Rules.{Rule, L, R}
 use Rattle.disambiguation.specs.Conflicts.{ConflictFreeTree}
-use Rattle.disambiguation.specs.ExactlyOne.{SomeRowHasNone, EveryRowHasOne, SomeRowHasTwo, EveryRowHasExactlyOne}
-use Rattle.disambiguation.specs.Verdict.{safe, total, level, verdict}
-use Rattle.disambiguation.proofs.BelowLaws.{and-true, and-false}
-use Rattle.disambiguation.proofs.Conditions.{waits}
+use Rattle.disambiguation.specs.ExactlyOne.{HasNone, HasTwo, SomeRowHasNone, EveryRowHasOne, SomeRowHasTwo, EveryRowHasExactlyOne}
+use Rattle.disambiguation.specs.Verdict.{safe, total, level, ruleChecks, verdict}
+use Rattle.disambiguation.specs.Witness.{Witness, sound, noTree, twoTrees, witnessOf}
+use Rattle.disambiguation.proofs.BelowLaws.{and-true}
 use Rattle.disambiguation.proofs.SafeMakes.{makes-safe}
 use Rattle.disambiguation.proofs.Unique.{unique}
-use Rattle.disambiguation.proofs.Converse.{Twins, not-safe, not-total, not-transitive, not-cotransitive}
-use Rattle.disambiguation.proofs.TestsDecide.{safe-safe, total-total, level-transitive, level-cotransitive, safe-fails, total-fails, Uneven, level-fails}
+use Rattle.disambiguation.proofs.Converse.{NoneLike, Twins}
+use Rattle.disambiguation.proofs.TestsDecide.{safe-safe, total-total, level-transitive, level-cotransitive}
+use Rattle.disambiguation.proofs.Witnesses.{Shows, shows}
 
 module _ (ops : Operators) (rules : List Rule) where
-  -- a reading, for the rows that show a fault
-  reading-80 : class ops 0x80 ≡ Reading
-  reading-80 = class-reading ops 0x80 (omega arith) (omega arith)
-
   row-of : (t : Tree) → Over (class ops) t → Row ops (yield t)
   row-of t h = row-exactly-if-yielded ops (yield t) .1 (t, h, refl)
 
-  two-trees : (t : Tree) (u : Tree) → Twins (L rules) (R rules) (class ops) t u → SomeRowHasTwo ops rules
-  two-trees t u w = (
-    yield t,
+  pub none-of-row : (t : Tree) → NoneLike (L rules) (R rules) (class ops) t → Row ops (yield t) × HasNone ops rules (yield t)
+  none-of-row t (h, none) = (row-of t h, λ u c. none u (c .over) (c .yields) (c .free))
+
+  pub two-of-row : (t u : Tree) → Twins (L rules) (R rules) (class ops) t u → Row ops (yield t) × HasTwo ops rules (yield t)
+  two-of-row t u w = (
     row-of t (w .first-over),
     (
       t,
@@ -57,31 +56,6 @@ module _ (ops : Operators) (rules : List Rule) where
       t u (a .over) (b .over) (a .free) (b .free) (a .yields ∙ sym (b .yields))
 
   module _ (small : ops .count ≤ mostOperators) where
-    unsafe-has-none : safe ops (L rules) (R rules) ≡ false → SomeRowHasNone ops rules
-    unsafe-has-none e =
-        let (a, b, (ha, hb), r, l) = safe-fails ops small (L rules) (R rules) e in
-        let (u, (h, none)) = not-safe (L rules) (R rules) (class ops) (brackets ops) 0x80 reading-80 a b ha hb r l in
-        (yield u, row-of u h, λ t c. none t (c .over) (c .yields) (c .free))
-
-    untotal-has-two : total ops (L rules) (R rules) ≡ false → SomeRowHasTwo ops rules
-    untotal-has-two e =
-        let (a, b, (ha, hb), r, l) = total-fails ops small (L rules) (R rules) e in
-        let (t, u, w) = not-total (L rules) (R rules) (class ops) (brackets ops) 0x80 reading-80 a b ha hb r l in
-        two-trees t u w
-
-    uneven-has-two : safe ops (L rules) (R rules) ≡ true → level ops (R rules) ≡ false → SomeRowHasTwo ops rules
-    uneven-has-two s e =
-        let (a, b, c, (ha, hb), hc, uneven) = level-fails ops small (R rules) e in
-        go a b c ha hb hc uneven
-      where
-        go : (a b c : ℕ) → waits (class ops a) ≡ true → class ops b ≡ Infix → class ops c ≡ Infix → Uneven (R rules) a b c → SomeRowHasTwo ops rules
-        go a b c ha hb hc (inl (p, q, r)) =
-            let (t, u, w) = not-transitive (L rules) (R rules) (class ops) (brackets ops) 0x80 reading-80 (safe-safe ops (L rules) (R rules) s) a b c ha hb hc p q r in
-            two-trees t u w
-        go a b c ha hb hc (inr (p, q, r)) =
-            let (t, u, w) = not-cotransitive (L rules) (R rules) (class ops) (brackets ops) 0x80 reading-80 (safe-safe ops (L rules) (R rules) s) a b c ha hb hc p q r in
-            two-trees t u w
-
     -- One of three outcomes.
     data Outcome (number : ℕ) : Type 0 where
       is-dead : number ≡ dead → SomeRowHasNone ops rules → Outcome number
@@ -90,19 +64,14 @@ module _ (ops : Operators) (rules : List Rule) where
 
     outcome : Outcome (verdict ops rules)
     unfolding verdict
-    outcome = go (safe ops (L rules) (R rules)) refl (total ops (L rules) (R rules) && level ops (R rules)) refl
+    outcome = go (witnessOf ops rules) (shows ops (L rules) (R rules) small)
       where
-        two : safe ops (L rules) (R rules) ≡ true → (total ops (L rules) (R rules) ≡ false) ⊎ (level ops (R rules) ≡ false) → SomeRowHasTwo ops rules
-        two s (inl e) = untotal-has-two e
-        two s (inr e) = uneven-has-two s e
-
-        go : (a : Bool) → safe ops (L rules) (R rules) ≡ a → (b : Bool) → (total ops (L rules) (R rules) && level ops (R rules)) ≡ b
-            → Outcome (cond (not a) dead (cond (not b) double accepted))
-        go false s b e = is-dead refl (unsafe-has-none s)
-        go true s false e = is-double refl (safe-has-one s) (two s (and-false (total ops (L rules) (R rules)) (level ops (R rules)) e))
-        go true s true e =
+        go : (w : Witness) → Shows ops (L rules) (R rules) small w → Outcome (first (ruleChecks ops (L rules) (R rules)))
+        go sound (s, e) =
             let (p, q) = and-true (total ops (L rules) (R rules)) (level ops (R rules)) e in
-            is-accepted refl (λ row r. let (t, h) = safe-has-one s row r in (t, h, λ u g. tests-unique p q row u t g h))
+            rw (s, e) (is-accepted refl (λ row r. let (t, h) = safe-has-one s row r in (t, h, λ u g. tests-unique p q row u t g h)))
+        go (noTree t) (s, like) = rw s (let (r, h) = none-of-row t like in is-dead refl (yield t, r, h))
+        go (twoTrees t u) (s, e, twins) = rw (s, e) (let (r, h) = two-of-row t u twins in is-double refl (safe-has-one s) (yield t, r, h))
 
     -- the three are of different sheets
     none-or-one : SomeRowHasNone ops rules → EveryRowHasOne ops rules → ⊥

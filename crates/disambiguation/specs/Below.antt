@@ -1,6 +1,7 @@
 -- Tests over the numbers below n, counted from 0 up. Assumes nothing.
 use Prim.Native.Nat.{ℕ, zero, suc, _+_}
-use mathlib.Core.Bool.{Bool, true, _&&_}
+use mathlib.Core.Bool.{Bool, true, _&&_, cond}
+use lib.Dec.{ltb}
 use Rattle.expression.specs.Lists.{oneIf}
 
 -- the test holds of every number below n
@@ -16,3 +17,12 @@ allPairs n p = allBelow n (λ a. allBelow n (p a))
 unfoldable pub countBelow : ℕ → (ℕ → Bool) → ℕ
 countBelow zero p = 0
 countBelow (suc n) p = countBelow n p + oneIf (p n)
+
+-- the first number below n of which it holds; n, where it holds of none
+unfoldable pub firstBelow : ℕ → (ℕ → Bool) → ℕ
+firstBelow zero p = 0
+firstBelow (suc n) p = cond (ltb (firstBelow n p) n) (firstBelow n p) (cond (p n) n (suc n))
+
+-- it holds of some number below n
+abbrev pub someBelow : ℕ → (ℕ → Bool) → Bool
+someBelow n p = ltb (firstBelow n p) n

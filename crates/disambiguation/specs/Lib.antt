@@ -9,6 +9,7 @@ pub mod Verdict
 pub mod Powers
 pub mod ByPowers
 pub mod SheetChecks
+pub mod Witness
 pub mod LeftToRight
 pub mod Repair
 pub mod Cases
@@ -16,3 +17,4 @@ pub mod ChainCases
 pub mod PrefixCases
 pub mod PowerCases
 pub mod Misreadings
+pub mod WitnessCases

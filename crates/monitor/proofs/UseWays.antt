@@ -17,7 +17,8 @@ use Rattle.disambiguation.specs.Below.{allBelow}
 use Rattle.sheet.specs.Layout.{operatorsOf}
 use Rattle.sheet.specs.Relation.{bitOf}
 use Rattle.sheet.specs.Kinds.{kindChanges}
-use Rattle.sheet.proofs.Below.{all-none, all-more, all-fails, all-done, all-same}
+use Rattle.disambiguation.proofs.BelowLaws.{all-same}
+use Rattle.sheet.proofs.Below.{all-none, all-more, all-fails, all-done}
 use Rattle.sheet.proofs.Bits.{bit-zero}
 use Rattle.sheet.proofs.PrefixWord.{where-bit}
 use Rattle.places.specs.Store.{placeCount, held}

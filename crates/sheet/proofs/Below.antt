@@ -3,7 +3,7 @@ use mathlib.Core.Path.{_≡_, refl, sym, ap, _∙_}
 use mathlib.Core.Bool.{Bool, true, false, and-false}
 use mathlib.Core.Logic.{⊎-elim}
 use Prim.Native.Nat.{ℕ, zero, suc, _+_, _<_, _≤_}
-use native.Mathlib.Nat.{not-suc-le-zero, le-of-suc-le-suc, eq-or-lt-of-le, lt-suc-self, le-step, le-antisymm}
+use native.Mathlib.Nat.{not-suc-le-zero, le-of-suc-le-suc, eq-or-lt-of-le, le-antisymm}
 use native.Mathlib.Numerals.{add-one}
 use Rattle.disambiguation.specs.Below.{allBelow}
 
@@ -28,9 +28,3 @@ all-fails f (suc n) a l e =
 -- past the last number
 pub all-done : (f : ℕ → Bool) (n a : ℕ) → allBelow a f ≡ true → a ≤ n → n ≤ a → allBelow n f ≡ true
 all-done f n a p l k = rw (le-antisymm k l) p
-
--- tests that agree below n
-pub all-same : (f g : ℕ → Bool) (n : ℕ) → ((a : ℕ) → a < n → f a ≡ g a) → allBelow n f ≡ allBelow n g
-unfolding allBelow
-all-same f g zero h = refl
-all-same f g (suc n) h = rw (all-same f g n (λ a l. h a (le-step l)), h n (lt-suc-self n))

@@ -1,16 +1,16 @@
 -- What callers know of a sheet: its operators, and its relation by the excluded patterns, never by words. Assumes nothing.
 use mathlib.Core.Path.{_≡_, refl, sym, ap, ap₂, _∙_}
-use mathlib.Core.Bool.{Bool, true, false, not, _||_, cond, false≢true}
+use mathlib.Core.Bool.{true, false, not, false≢true}
 use mathlib.Core.List.{List, []}
 use Prim.Native.Nat.{ℕ, _%_, _<_, _≤_}
 use native.Mathlib.Omega.{arith}
-use borrow.Author.Tests.{ltb-false}
-use lib.Dec.{eqb, ltb}
-use lib.ListN.{length, set, drop, length-set}
-use lib.Seq.{length-take-le, getD-set-same, getD-set-other}
+use lib.Dec.{eqb}
+use lib.ListN.{length, set, length-set}
+use lib.Seq.{getD-set-same, getD-set-other}
 use Rattle.expression.specs.Lists.{anyHolds}
-use Rattle.expression.specs.Limits.{mostOperators, mostRuleBytes, bytesOfRule}
-use Rattle.expression.specs.Refusal.{accepted, oversize, torn, stranger}
+use Rattle.expression.specs.Limits.{mostOperators}
+use Rattle.expression.specs.Refusal.{accepted}
+use Rattle.expression.proofs.Numbers.{given-after}
 use Rattle.expression.specs.Token.{Infix, Operators, operators, class}
 use Rattle.expression.specs.Tree.{Tree, Over}
 use Rattle.disambiguation.specs.Rules.{Rule, left, L, R}
@@ -20,8 +20,8 @@ use Rattle.disambiguation.proofs.VerdictDecides.{accepted-exactly-if}
 use Rattle.disambiguation.proofs.Accepted.{accepted-passes, opposite, count-by-closes}
 use Rattle.disambiguation.specs.Conflicts.{conflicts, conflictCount}
 use Rattle.disambiguation.specs.Below.{allBelow}
-use Rattle.disambiguation.specs.Verdict.{safe, total, level, verdict}
-use Rattle.disambiguation.specs.SheetChecks.{strangeRule, strangeKind, kindsIn, rulesIn, operatorsIn, sheetNumber}
+use Rattle.disambiguation.specs.Verdict.{safe, total, level, ruleChecks, verdict}
+use Rattle.disambiguation.specs.SheetChecks.{strangeRule, strangeKind, kindsIn, rulesIn, operatorsIn, orderChecks, sheetNumber}
 use Rattle.sheet.specs.Layout.{countWord, prefixWordAt, loadedWord, sheetWords, operatorsBy, operatorsOf, isLoaded, fresh}
 use Rattle.sheet.specs.Kinds.{prefixWord}
 use Rattle.sheet.specs.Relation.{bitOf, closesIn}
@@ -30,6 +30,7 @@ use Rattle.sheet.specs.Chaining.{related}
 use Rattle.sheet.specs.Loading.{sheetOf}
 use Rattle.sheet.specs.InForce.{InForce}
 use Rattle.sheet.proofs.PrefixWord.{operators-back}
+use Rattle.sheet.proofs.Ordered.{Ordered, ordered}
 use Rattle.sheet.proofs.Chaining.{length-related, related-is-R}
 use Rattle.sheet.proofs.Orderly.{R-below}
 use Rattle.sheet.proofs.WordTests.{closes-bit, closes-everywhere, closes-blank}
@@ -82,35 +83,11 @@ module _ (n : ℕ) (few : n ≤ mostOperators) (kinds : List ℕ) (rules : List 
   loaded-made = ap (λ w. not (eqb w 0)) (getD-set-same typed loadedWord 1 0 (omega (arith, length-set counted prefixWordAt (prefixWord kinds n), length-set relationOf countWord n, long)))
 
 -- what number 0 says of n and the bytes
-pub record Accepted (n : ℕ) (bytes : List ℕ) : Type 0 where
-  pub few : n ≤ mostOperators
-  pub as-many : length (kindsIn n bytes) ≡ n
-  pub known-kinds : anyHolds strangeKind (kindsIn n bytes) ≡ false
-  pub plain : anyHolds (strangeRule n) (rulesIn n bytes) ≡ false
-  pub accepts : verdict (operatorsIn n bytes) (rulesIn n bytes) ≡ accepted
-
-pub accepted-by : (n : ℕ) (bytes : List ℕ) → sheetNumber n bytes ≡ accepted → Accepted n bytes
+pub accepted-by : (n : ℕ) (bytes : List ℕ) → sheetNumber n bytes ≡ accepted → Ordered n bytes × (verdict (operatorsIn n bytes) (rulesIn n bytes) ≡ accepted)
 unfolding sheetNumber verdict
 accepted-by n bytes e =
-    go (ltb mostOperators n) (ltb mostRuleBytes (length (drop n bytes))) (ltb (length bytes) n) (not (eqb (length (drop n bytes) % bytesOfRule) 0))
-    (anyHolds strangeKind (kindsIn n bytes)) (anyHolds (strangeRule n) (rulesIn n bytes)) _ refl refl refl refl refl e
-  where
-    go : (p q f t k s : Bool) (v : ℕ) → ltb mostOperators n ≡ p → ltb (length bytes) n ≡ f → anyHolds strangeKind (kindsIn n bytes) ≡ k
-        → anyHolds (strangeRule n) (rulesIn n bytes) ≡ s → verdict (operatorsIn n bytes) (rulesIn n bytes) ≡ v
-        → cond (p || q) oversize (cond (f || t) torn (cond (k || s) stranger v)) ≡ accepted → Accepted n bytes
-    go true q f t k s v a b c d g z = absurd (omega arith)
-    go false true f t k s v a b c d g z = absurd (omega arith)
-    go false false true t k s v a b c d g z = absurd (omega arith)
-    go false false false true k s v a b c d g z = absurd (omega arith)
-    go false false false false true s v a b c d g z = absurd (omega arith)
-    go false false false false false true v a b c d g z = absurd (omega arith)
-    go false false false false false false v a b c d g z = record {
-      few = ltb-false mostOperators n a;
-      as-many = length-take-le n bytes (ltb-false (length bytes) n b);
-      known-kinds = c;
-      plain = d;
-      accepts = g ∙ z;
-    }
+    let (passed, accepts) = given-after accepted (orderChecks n bytes) (ruleChecks (operatorsIn n bytes) (L (rulesIn n bytes)) (R (rulesIn n bytes))) refl e in
+    (ordered n bytes passed, accepts)
 
 -- ---- the sheet in force
 -- made of accepted bytes
@@ -119,13 +96,16 @@ made-in-force n bytes z =
     record {
       few = k .few;
       operators = operators-made n (k .few) kinds rules (k .as-many) (k .known-kinds);
-      accepts = k .accepts;
+      accepts = accepts;
       right = closes-everywhere (sheetOf n kinds rules) (R rules) below (closes-made n (k .few) kinds rules (k .plain));
       left = opposed;
     }
   where
-    k : Accepted n bytes
-    k = accepted-by n bytes z
+    k : Ordered n bytes
+    k = accepted-by n bytes z .0
+
+    accepts : verdict (operatorsIn n bytes) (rulesIn n bytes) ≡ accepted
+    accepts = accepted-by n bytes z .1
 
     kinds : List ℕ
     kinds = kindsIn n bytes
@@ -138,7 +118,7 @@ made-in-force n bytes z =
 
     opposed : (a b : ℕ) → a < n → class (operatorsIn n bytes) b ≡ Infix → L rules b a ≡ not (closesIn (sheetOf n kinds rules) a b)
     opposed a b ha hb =
-        opposite (operatorsIn n bytes) rules (accepted-passes (operatorsIn n bytes) rules (k .accepts)) a b ha hb
+        opposite (operatorsIn n bytes) rules (accepted-passes (operatorsIn n bytes) rules accepts) a b ha hb
         ∙ ap not (sym (closes-made n (k .few) kinds rules (k .plain) a b (omega (arith, k .few)) (omega (arith, k .few, infix-below (operatorsIn n bytes) b hb))))
 
 -- the fresh sheet was not loaded

@@ -11,6 +11,7 @@ pub mod ChainWays
 pub mod Reading
 pub mod Testing
 pub mod Verdicts
+pub mod Ordered
 pub mod RelateWays
 pub mod Loading
 pub mod PowerWords

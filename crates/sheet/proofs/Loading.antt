@@ -1,6 +1,6 @@
--- What each way through loading a sheet gives, from what is known on it. Assumes nothing.
+-- What each way through reading a sheet and loading it gives, from what is known on it. Assumes nothing.
 use mathlib.Core.Path.{_≡_, refl, sym, ap, ap₂, _∙_}
-use mathlib.Core.Bool.{Bool, true, false, not, _||_, cond, false≢true}
+use mathlib.Core.Bool.{Bool, true, false, not, _||_, cond}
 use mathlib.Core.List.{List}
 use Prim.Native.Nat.{ℕ, _-_, _%_, _<_, _≤_}
 use native.Mathlib.Nat.{sub-zero}
@@ -14,13 +14,17 @@ use lib.ListN.{length, set, take, drop, length-drop}
 use lib.Seq.{length-take-le, take-all}
 use Rattle.expression.specs.Lists.{anyHolds}
 use Rattle.expression.specs.Limits.{mostOperators, mostRuleBytes, bytesOfRule}
-use Rattle.expression.specs.Refusal.{accepted, oversize, torn, stranger}
+use Rattle.expression.specs.Refusal.{first, accepted, oversize, torn, stranger}
+use Rattle.expression.proofs.Numbers.{first-append, first-refused, passed-first}
 use Rattle.disambiguation.specs.Rules.{L, R}
-use Rattle.disambiguation.specs.SheetChecks.{strangeRule, strangeKind, kindsIn, rulesIn, operatorsIn, sheetNumber}
+use Rattle.disambiguation.specs.Verdict.{ruleChecks}
+use Rattle.disambiguation.specs.SheetChecks.{strangeRule, strangeKind, kindsIn, rulesIn, operatorsIn, orderChecks, InOrder, sheetNumber}
 use Rattle.sheet.specs.Layout.{countWord, prefixWordAt, loadedWord, operatorsBy}
 use Rattle.sheet.specs.Kinds.{prefixWord}
-use Rattle.sheet.specs.Loading.{sizeNumber, rulesNumber, Relates, sheetOf, Loads}
-use Rattle.sheet.proofs.PrefixWord.{operators-back}
+use Rattle.sheet.specs.Relation.{closesIn, turned}
+use Rattle.sheet.specs.Loading.{sizeNumber, rulesNumber, closesWords, yieldsWords, Relates, ReadsSheet, sheetOf, Loads}
+use Rattle.sheet.proofs.Ordered.{Ordered, ordered, operators-read, closes-read, yields-read}
+use Rattle.sheet.proofs.Verdicts.{number-same}
 
 -- ---- size_number
 module _ (n size : ℕ) where
@@ -46,7 +50,7 @@ module _ (n size : ℕ) where
 
 pub ruleset size-ways = (many-operators, few-kinds, many-bytes, torn-bytes, size-right, needs)
 
--- ---- load
+-- ---- read
 sized : (n size : ℕ) → sizeNumber n size ≡ 0 → (n ≤ mostOperators) × (n ≤ size)
 unfolding sizeNumber
 sized n size e = go (ltb mostOperators n) (ltb mostRuleBytes (size - n)) (ltb size n) (not (eqb ((size - n) % bytesOfRule) 0)) refl refl e
@@ -81,9 +85,6 @@ rules-end : (n : ℕ) (bytes : List ℕ) → take (length bytes - n) (drop n byt
 rules-end n bytes = take-all (length bytes - n) (drop n bytes) (omega (arith, length-drop n bytes))
 
 module _ (n : ℕ) (bytes : List ℕ) where
-  sizes : length (drop n bytes) ≡ length bytes - n
-  sizes = length-drop n bytes
-
   abbrev manyOf : Bool
   manyOf = ltb mostOperators n || ltb mostRuleBytes (length bytes - n)
 
@@ -94,12 +95,10 @@ module _ (n : ℕ) (bytes : List ℕ) where
   strangeOf = anyHolds strangeKind (kindsIn n bytes) || anyHolds (strangeRule n) (rulesIn n bytes)
 
   -- the number by its parts
-  parts : sheetNumber n bytes
-      ≡ cond manyOf oversize (cond tornOf torn (rulesNumber strangeOf (operatorsIn n bytes) (L (rulesIn n bytes)) (R (rulesIn n bytes))))
-  unfolding sheetNumber rulesNumber
-  parts = rw sizes
+  parts : first (orderChecks n bytes) ≡ cond manyOf oversize (cond tornOf torn (cond strangeOf stranger accepted))
+  parts = rw (length-drop n bytes)
 
-  by-size : (sizeNumber n (length bytes) ≡ 0 → ⊥) → sizeNumber n (length bytes) ≡ sheetNumber n bytes
+  by-size : (sizeNumber n (length bytes) ≡ 0 → ⊥) → sizeNumber n (length bytes) ≡ first (orderChecks n bytes)
   unfolding sizeNumber
   by-size h = go manyOf tornOf _ h ∙ sym parts
     where
@@ -108,66 +107,97 @@ module _ (n : ℕ) (bytes : List ℕ) where
       go false true rest k = refl
       go false false rest k = absurd (k refl)
 
-  by-rules : sizeNumber n (length bytes) ≡ 0 → rulesNumber strangeOf (operatorsIn n bytes) (L (rulesIn n bytes)) (R (rulesIn n bytes)) ≡ sheetNumber n bytes
+  by-strangers : sizeNumber n (length bytes) ≡ 0 → cond strangeOf stranger accepted ≡ first (orderChecks n bytes)
   unfolding sizeNumber
-  by-rules h = go manyOf tornOf _ h ∙ sym parts
+  by-strangers h = go manyOf tornOf _ h ∙ sym parts
     where
       go : (p t : Bool) (rest : ℕ) → cond p oversize (cond t torn accepted) ≡ accepted → rest ≡ cond p oversize (cond t torn rest)
       go true t rest k = absurd (omega arith)
       go false true rest k = absurd (omega arith)
       go false false rest k = refl
 
-  refused : {number : ℕ} (before : List ℕ) → number ≡ sheetNumber n bytes → (number ≡ 0 → ⊥) → Loads before n bytes number before
-  refused before e h = record { number = e; stands = rw (ne-eqb (sheetNumber n bytes) accepted (λ z. h (e ∙ z))) }
+  -- refused by a number that is not 0
+  module _ {r word : ℕ} {t u : List ℕ} where
+    unread : r ≡ first (orderChecks n bytes) → (r ≡ 0 → ⊥) → ReadsSheet n bytes r word t u
+    unread e h = record { number = e; word-is = λ z. absurd (h z); closes-is = λ z. absurd (h z); yields-is = λ z. absurd (h z) }
 
-  pub load-size : {size : ℕ} (before : List ℕ) → size ≡ sizeNumber n (length bytes) → (size ≡ 0 → ⊥) → Loads before n bytes size before
-  load-size before e h = refused before (e ∙ by-size (λ z. h (e ∙ z))) h
+    pub read-size : {size : ℕ} → size ≡ sizeNumber n (length bytes) → (size ≡ 0 → ⊥) → r ≡ size → ReadsSheet n bytes r word t u
+    read-size e h q = unread (q ∙ e ∙ by-size (λ z. h (e ∙ z))) (λ z. h (sym q ∙ z))
 
-  pub load-kinds : {size : ℕ} {odd : Bool} (before : List ℕ) → size ≡ sizeNumber n (length bytes) → size ≡ 0 → odd ≡ anyHolds strangeKind (take (n - 0) (drop 0 bytes)) → odd ≡ true
-      → Loads before n bytes 3 before
-  unfolding rulesNumber
-  load-kinds before e z o t = refused before (by-odd (anyHolds strangeKind (kindsIn n bytes)) (ap (anyHolds strangeKind) (sym (kinds-front n bytes)) ∙ sym o ∙ t) _ _ ∙ by-rules (sym e ∙ z)) (λ q. omega arith)
-    where
-      by-odd : (odd : Bool) → odd ≡ true → (other : Bool) (rest : ℕ) → 3 ≡ cond (odd || other) stranger rest
-      by-odd true t other rest = refl
-      by-odd false t other rest = absurd (false≢true t)
+    read-strange : sizeNumber n (length bytes) ≡ 0 → strangeOf ≡ true → r ≡ 3 → ReadsSheet n bytes r word t u
+    read-strange z o q = unread (q ∙ sym (ap (λ s. cond s stranger accepted) o) ∙ by-strangers z) (λ z. omega arith)
 
-module _ {size number word : ℕ} {odd : Bool} (before : List ℕ) (n : ℕ) (bytes t : List ℕ) (size-is : size ≡ sizeNumber n (length bytes)) (small : size ≡ 0)
+    pub read-kinds : {size : ℕ} {odd : Bool} → size ≡ sizeNumber n (length bytes) → size ≡ 0 → odd ≡ anyHolds strangeKind (take (n - 0) (drop 0 bytes)) → odd ≡ true
+        → r ≡ 3 → ReadsSheet n bytes r word t u
+    read-kinds e z o y =
+        read-strange (sym e ∙ z) (ap (λ b. b || anyHolds (strangeRule n) (rulesIn n bytes)) (ap (anyHolds strangeKind) (sym (kinds-front n bytes)) ∙ sym o ∙ y))
+
+module _ {size word : ℕ} {odd strange : Bool} (n : ℕ) (bytes t u : List ℕ) (size-is : size ≡ sizeNumber n (length bytes)) (small : size ≡ 0)
     (odd-of : odd ≡ anyHolds strangeKind (take (n - 0) (drop 0 bytes))) (none-odd : odd ≡ false)
-    (word-of : word ≡ prefixWord (take (n - 0) (drop 0 bytes)) (length (take (n - 0) (drop 0 bytes)))) (relates : Relates n word (take (length bytes - n) (drop n bytes)) number t) where
-  odd-is : odd ≡ anyHolds strangeKind (kindsIn n bytes)
-  odd-is = odd-of ∙ ap (anyHolds strangeKind) (kinds-front n bytes)
-
-  as-many : length (kindsIn n bytes) ≡ n
-  as-many = length-take-le n bytes (kinds-there n (length bytes) size-is small)
-
-  -- the word is that of the n kinds, and they are read back from it
-  word-here : word ≡ prefixWord (kindsIn n bytes) n
-  word-here = word-of ∙ ap (λ (ks : List ℕ). prefixWord ks (length ks)) (kinds-front n bytes) ∙ ap (prefixWord (kindsIn n bytes)) as-many
-
-  kinds-here : operatorsBy n word ≡ operatorsIn n bytes
-  kinds-here = ap (operatorsBy n) word-here ∙ operators-back n (kindsIn n bytes) as-many (sym odd-is ∙ none-odd)
-
-  relates-here : Relates n word (drop n bytes) number t
+    (word-of : word ≡ prefixWord (take (n - 0) (drop 0 bytes)) (length (take (n - 0) (drop 0 bytes)))) (relates : Relates n (take (length bytes - n) (drop n bytes)) strange t u) where
+  relates-here : Relates n (drop n bytes) strange t u
   relates-here = rw (rules-end n bytes) at relates
 
-  sheet-number : number ≡ sheetNumber n bytes
-  sheet-number =
-      relates-here .number
-      ∙ ap₂ (λ s o. rulesNumber (s || anyHolds (strangeRule n) (rulesIn n bytes)) o (L (rulesIn n bytes)) (R (rulesIn n bytes))) (sym none-odd ∙ odd-is) kinds-here
-      ∙ by-rules n bytes (sym size-is ∙ small)
+  strange-is : strangeOf n bytes ≡ strange
+  strange-is = ap₂ _||_ (sym (odd-of ∙ ap (anyHolds strangeKind) (kinds-front n bytes)) ∙ none-odd) (sym (relates-here .strange-is))
 
-  pub load-rules : (number ≡ 0 → ⊥) → Loads before n bytes number before
-  load-rules h = refused n bytes before sheet-number h
+  pub read-rules : {r word′ : ℕ} → strange ≡ true → r ≡ 3 → ReadsSheet n bytes r word′ t u
+  read-rules y = read-strange n bytes (sym size-is ∙ small) (strange-is ∙ y)
 
-  pub load-accepted : number ≡ 0 → Loads before n bytes 0 (set (set (set t countWord n) prefixWordAt word) loadedWord 1)
-  unfolding sheetOf
-  load-accepted z =
-      record {
-        number = sym z ∙ sheet-number;
-        stands =
-            rw (eq-eqb (sheetNumber n bytes) accepted (sym sheet-number ∙ z))
-            (ap₂ (λ (w : List ℕ) (x : ℕ). set (set (set w countWord n) prefixWordAt x) loadedWord 1) (relates-here .relation z) word-here);
-      }
+  pub read-whole : strange ≡ false → ReadsSheet n bytes 0 word t u
+  read-whole y = record {
+    number = sym (ap (λ s. cond s stranger accepted) (strange-is ∙ y)) ∙ by-strangers n bytes (sym size-is ∙ small);
+    -- the word is that of the n kinds
+    word-is = λ _.
+        word-of ∙ ap (λ (ks : List ℕ). prefixWord ks (length ks)) (kinds-front n bytes)
+        ∙ ap (prefixWord (kindsIn n bytes)) (length-take-le n bytes (kinds-there n (length bytes) size-is small));
+    closes-is = λ _. relates-here .closes-is y;
+    yields-is = λ _. relates-here .yields-is y;
+  }
 
-pub ruleset load-ways = (few-operators, few-byte, kinds-there, kinds-few, load-size, load-kinds, load-rules, load-accepted, needs)
+pub ruleset read-ways = (few-operators, few-byte, kinds-there, kinds-few, read-size, read-kinds, read-rules, read-whole, needs)
+
+-- ---- load
+module _ {r word : ℕ} (before : List ℕ) (n : ℕ) (bytes t u : List ℕ) (reads : ReadsSheet n bytes r word t u) where
+  refused : {number : ℕ} → number ≡ sheetNumber n bytes → (number ≡ 0 → ⊥) → Loads before n bytes number before
+  refused e h = record { number = e; stands = rw (ne-eqb (sheetNumber n bytes) accepted (λ z. h (e ∙ z))) }
+
+  pub load-order : (r ≡ 0 → ⊥) → Loads before n bytes r before
+  unfolding sheetNumber
+  load-order h = refused (reads .number ∙ sym (first-refused (orderChecks n bytes) (ruleChecks (operatorsIn n bytes) (L (rulesIn n bytes)) (R (rulesIn n bytes))) (λ z. h (reads .number ∙ z)))) h
+
+  module _ (z : r ≡ 0) where
+    in-order : InOrder n bytes
+    in-order = passed-first (orderChecks n bytes) ((λ e. omega arith), ((λ e. omega arith), ((λ e. omega arith), tt))) (sym (reads .number) ∙ z)
+
+    known : Ordered n bytes
+    known = ordered n bytes in-order
+
+    pub load-few : n ≤ mostOperators
+    load-few = known .few
+
+    module _ {number : ℕ} (number-is : number ≡ rulesNumber (operatorsBy n word) (turned (closesIn u)) (closesIn t)) where
+      sheet-number : number ≡ sheetNumber n bytes
+      unfolding sheetNumber rulesNumber
+      sheet-number =
+          number-is
+          ∙ ap₂ (λ (v x : List ℕ). rulesNumber (operatorsBy n word) (turned (closesIn v)) (closesIn x)) (reads .yields-is z) (reads .closes-is z)
+          ∙ number-same (operatorsBy n word) (turned (closesIn (yieldsWords n (rulesIn n bytes)))) (L (rulesIn n bytes)) (closesIn (closesWords n (rulesIn n bytes))) (R (rulesIn n bytes))
+          (yields-read n bytes known) (closes-read n bytes known)
+          ∙ ap (λ ops. rulesNumber ops (L (rulesIn n bytes)) (R (rulesIn n bytes))) (ap (operatorsBy n) (reads .word-is z) ∙ operators-read n bytes known)
+          ∙ sym (first-append (orderChecks n bytes) (ruleChecks (operatorsIn n bytes) (L (rulesIn n bytes)) (R (rulesIn n bytes))) in-order)
+
+      pub load-rules : (number ≡ 0 → ⊥) → Loads before n bytes number before
+      load-rules h = refused sheet-number h
+
+      pub load-accepted : number ≡ 0 → Loads before n bytes 0 (set (set (set t countWord n) prefixWordAt word) loadedWord 1)
+      unfolding sheetOf
+      load-accepted y =
+          record {
+            number = sym y ∙ sheet-number;
+            stands =
+                rw (eq-eqb (sheetNumber n bytes) accepted (sym sheet-number ∙ y))
+                (ap₂ (λ (w : List ℕ) (x : ℕ). set (set (set w countWord n) prefixWordAt x) loadedWord 1) (reads .closes-is z) (reads .word-is z));
+          }
+
+pub ruleset load-ways = (load-few, load-order, load-rules, load-accepted, needs)

@@ -214,27 +214,22 @@ pub ruleset row-ways = (all-none, row-more, row-fails, row-done, not-true, not-f
 pub ruleset level-ways = (all-none, level-more, level-fails, level-done, not-true, not-false, needs)
 
 -- ---- rules_number
-module _ (ops : Operators) (L R : ℕ → ℕ → Bool) {s : Bool} where
-  pub number-strange : s ≡ true → 3 ≡ rulesNumber s ops L R
+module _ (ops : Operators) (L R : ℕ → ℕ → Bool) {p : Bool} (safe-is : p ≡ safe ops L R) where
+  pub number-dead : p ≡ false → 4 ≡ rulesNumber ops L R
   unfolding rulesNumber
-  number-strange z = rw z
+  number-dead y = rw (sym safe-is ∙ y)
 
-module _ (ops : Operators) (L R : ℕ → ℕ → Bool) {s p : Bool} (z : s ≡ false) (safe-is : p ≡ safe ops L R) where
-  pub number-dead : p ≡ false → 4 ≡ rulesNumber s ops L R
+module _ (ops : Operators) (L R : ℕ → ℕ → Bool) {p q : Bool} (safe-is : p ≡ safe ops L R) (y : p ≡ true) (total-is : q ≡ total ops L R) where
+  pub number-open : q ≡ false → 5 ≡ rulesNumber ops L R
   unfolding rulesNumber
-  number-dead y = rw (z, sym safe-is ∙ y)
+  number-open x = rw (sym safe-is ∙ y, sym total-is ∙ x)
 
-module _ (ops : Operators) (L R : ℕ → ℕ → Bool) {s p q : Bool} (z : s ≡ false) (safe-is : p ≡ safe ops L R) (y : p ≡ true) (total-is : q ≡ total ops L R) where
-  pub number-open : q ≡ false → 5 ≡ rulesNumber s ops L R
+  pub number-uneven : {l : Bool} → q ≡ true → l ≡ level ops R → l ≡ false → 5 ≡ rulesNumber ops L R
   unfolding rulesNumber
-  number-open x = rw (z, sym safe-is ∙ y, sym total-is ∙ x)
+  number-uneven x level-is v = rw (sym safe-is ∙ y, sym total-is ∙ x, sym level-is ∙ v)
 
-  pub number-uneven : {l : Bool} → q ≡ true → l ≡ level ops R → l ≡ false → 5 ≡ rulesNumber s ops L R
+  pub number-none : {l : Bool} → q ≡ true → l ≡ level ops R → l ≡ true → 0 ≡ rulesNumber ops L R
   unfolding rulesNumber
-  number-uneven x level-is v = rw (z, sym safe-is ∙ y, sym total-is ∙ x, sym level-is ∙ v)
+  number-none x level-is v = rw (sym safe-is ∙ y, sym total-is ∙ x, sym level-is ∙ v)
 
-  pub number-none : {l : Bool} → q ≡ true → l ≡ level ops R → l ≡ true → 0 ≡ rulesNumber s ops L R
-  unfolding rulesNumber
-  number-none x level-is v = rw (z, sym safe-is ∙ y, sym total-is ∙ x, sym level-is ∙ v)
-
-pub ruleset number-ways = (number-strange, number-dead, number-open, number-uneven, number-none, not-true, not-false, needs)
+pub ruleset number-ways = (number-dead, number-open, number-uneven, number-none, not-true, not-false, needs)

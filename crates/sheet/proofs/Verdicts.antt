@@ -4,8 +4,8 @@ use mathlib.Core.Bool.{Bool, not, _&&_, _||_, cond}
 use Prim.Native.Nat.{ℕ, _<_}
 use Rattle.expression.specs.Token.{Operators}
 use Rattle.disambiguation.specs.Verdict.{comes, comers, safe, total, within, level}
+use Rattle.disambiguation.proofs.BelowLaws.{all-same}
 use Rattle.sheet.specs.Loading.{rulesNumber}
-use Rattle.sheet.proofs.Below.{all-same}
 
 -- Relations that agree on the operators.
 module _ (ops : Operators) (L L′ R R′ : ℕ → ℕ → Bool) (same-L : (a b : ℕ) → a < ops .count → b < ops .count → L a b ≡ L′ a b)
@@ -33,6 +33,6 @@ module _ (ops : Operators) (L L′ R R′ : ℕ → ℕ → Bool) (same-L : (a b
       (λ b hb. ap (λ (p : Bool). not (comes ops b) || cond p (within n (comers ops (R b)) (R a)) (within n (comers ops (R a)) (R b))) (same-R a b ha hb)
       ∙ ap₂ (λ (p q : Bool). not (comes ops b) || cond (R′ a b) p q) (within-same b a hb ha) (within-same a b ha hb)))
 
-  pub number-same : (strange : Bool) → rulesNumber strange ops L R ≡ rulesNumber strange ops L′ R′
+  pub number-same : rulesNumber ops L R ≡ rulesNumber ops L′ R′
   unfolding rulesNumber
-  number-same strange = rw (safe-same, total-same, level-same)
+  number-same = rw (safe-same, total-same, level-same)

@@ -12,12 +12,11 @@ use lib.Dec.{eqb, ltb}
 use lib.ListN.{getD, getD-replicate}
 use Rattle.expression.specs.Limits.{mostOperators}
 use Rattle.disambiguation.specs.Verdict.{comers, within}
-use Rattle.disambiguation.proofs.BelowLaws.{and-true}
+use Rattle.disambiguation.proofs.BelowLaws.{and-true, all-same}
 use Rattle.sheet.specs.Layout.{sheetWords, operatorsBy, fresh}
 use Rattle.sheet.specs.Kinds.{without}
 use Rattle.sheet.specs.Relation.{bitOf, closesIn, turned}
 use Rattle.sheet.specs.Tests.{noneInBoth, eachInOne, safeFor, totalFor}
-use Rattle.sheet.proofs.Below.{all-same}
 use Rattle.sheet.proofs.PrefixWord.{comes-by, bit-without}
 use Rattle.sheet.proofs.Bits.{bit-and, bit-or, bit-not, bit-zero, masked-clear}
 

@@ -8,7 +8,7 @@ ghost use mathlib.Core.Bool.{_&&_};
 ghost use lib.Dec.{ltb};
 ghost use Rattle.sheet.specs.Relation.{bitOf, closesIn};
 ghost use Rattle.sheet.specs.Kinds.{kindChanges};
-ghost use Rattle.sheet.specs.Loading.{Loads, Relates, sizeNumber};
+ghost use Rattle.sheet.specs.Loading.{Loads, ReadsSheet, Relates, sizeNumber};
 use expression::limits;
 use expression::refusal;
 use layout::SHEET_WORDS;
@@ -19,7 +19,7 @@ pub mod layout;
 pub mod powers;
 mod rules;
 mod verdict;
-mod words;
+pub mod words;
 
 // The count of the sheet's operators, n.
 pub fn operator_count(sheet: &[u32; SHEET_WORDS]) -> u8
@@ -102,36 +102,82 @@ fn size_number(n: u32, length: usize) -> u8
     refusal::ACCEPTED
 }
 
-// The numbers 3, 4 and 5, or 0, of n operators and the rules. In an empty sheet, their relation.
-fn relate_rules(n: u8, prefixes: u32, rules: &[u8], made: &mut [u32; SHEET_WORDS]) -> u8
-    requires { ⌜ (n ≤ mostOperators) × (now made ≡ fresh) ⌝ }
-    ensures { λ r. ⌜ Relates n prefixes (now (rules .entry)) r (now (made .exit)) ⌝ }
+// The rules read, and in two empty tables their relations: what closes before what, and what yields to what. Some rule is strange: then the tables
+// say nothing.
+fn relate(
+    n: u8,
+    rules: &[u8],
+    closes: &mut [u32; SHEET_WORDS],
+    yields: &mut [u32; SHEET_WORDS],
+) -> bool
+    requires { ⌜ (n ≤ mostOperators) × (now closes ≡ fresh) × (now yields ≡ fresh) ⌝ }
+    ensures { λ r. ⌜ Relates n (now (rules .entry)) r (now (closes .exit)) (now (yields .exit)) ⌝ }
 {
     let mut ahead = [0u32; rules::MARK_WORDS];
     let mut back = [0u32; rules::MARK_WORDS];
     let strange = rules::read(n, rules, &mut ahead, &mut back);
-    let mut yields = [0u32; SHEET_WORDS];
-    chains::relate(n as usize, rules::LEFT, &ahead, made);
-    chains::relate(n as usize, rules::RIGHT, &back, &mut yields);
-    verdict::rules_number(strange, n as usize, prefixes, made, &yields)
+    chains::relate(n as usize, rules::LEFT, &ahead, closes);
+    chains::relate(n as usize, rules::RIGHT, &back, yields);
+    strange
+}
+
+// What is read of a sheet: its number, which is 1, 2, 3 or 0, and the set of its prefix operators.
+pub struct Found {
+    pub number: u8,
+    pub prefixes: u32,
+}
+
+fn unread(number: u8) -> Found
+    ensures { λ r. ⌜ (r .number ≡ number) × (r .prefixes ≡ 0) ⌝ }
+{
+    Found {
+        number: number,
+        prefixes: 0,
+    }
+}
+
+// The sheet of n operators with their kinds and the rules, read, and its relations made in two empty tables.
+pub fn read(
+    n: u32,
+    bytes: &[u8],
+    closes: &mut [u32; SHEET_WORDS],
+    yields: &mut [u32; SHEET_WORDS],
+) -> Found
+    requires { ⌜ (now closes ≡ fresh) × (now yields ≡ fresh) ⌝ }
+    ensures { λ r. ⌜ ReadsSheet n (now (bytes .entry)) (r .number) (r .prefixes) (now (closes .exit)) (now (yields .exit)) ⌝ }
+{
+    let size = size_number(n, bytes.len());
+    if size != refusal::ACCEPTED {
+        return unread(size);
+    }
+    let count = n as usize;
+    let kinds = &bytes[0..count];
+    if kinds::any_strange(kinds) {
+        return unread(refusal::STRANGER);
+    }
+    let prefixes = kinds::prefixes(kinds);
+    if relate(n as u8, &bytes[count..bytes.len()], closes, yields) {
+        return unread(refusal::STRANGER);
+    }
+    Found {
+        number: refusal::ACCEPTED,
+        prefixes: prefixes,
+    }
 }
 
 // The sheet of n operators with their kinds and the rules: its number. The lent sheet is written only where it is accepted.
 pub fn load(sheet: &mut [u32; SHEET_WORDS], n: u32, bytes: &[u8]) -> u8
     ensures { λ r. ⌜ Loads (now (sheet .entry)) n (now (bytes .entry)) r (now (sheet .exit)) ⌝ }
 {
-    let size = size_number(n, bytes.len());
-    if size != refusal::ACCEPTED {
-        return size;
-    }
-    let count = n as usize;
-    let kinds = &bytes[0..count];
-    if kinds::any_strange(kinds) {
-        return refusal::STRANGER;
-    }
-    let prefixes = kinds::prefixes(kinds);
     let mut made = [0u32; SHEET_WORDS];
-    let number = relate_rules(n as u8, prefixes, &bytes[count..bytes.len()], &mut made);
+    let mut yields = [0u32; SHEET_WORDS];
+    let found = read(n, bytes, &mut made, &mut yields);
+    let order = found.number;
+    if order != refusal::ACCEPTED {
+        return order;
+    }
+    let prefixes = found.prefixes;
+    let number = verdict::rules_number(n as usize, prefixes, &made, &yields);
     if number != refusal::ACCEPTED {
         return number;
     }

@@ -95,20 +95,16 @@ fn is_level(n: usize, prefixes: u32, relation: &[u32; SHEET_WORDS]) -> bool
     true
 }
 
-// Numbers 3, 4 and 5, or 0.
+// Numbers 4 and 5, or 0.
 pub fn rules_number(
-    strange: bool,
     n: usize,
     prefixes: u32,
     closes: &[u32; SHEET_WORDS],
     yields: &[u32; SHEET_WORDS],
 ) -> u8
     requires { ⌜ n ≤ mostOperators ⌝ }
-    ensures { λ r. ⌜ r ≡ rulesNumber strange (operatorsBy n prefixes) (turned (closesIn (now (yields .entry)))) (closesIn (now (closes .entry))) ⌝ }
+    ensures { λ r. ⌜ r ≡ rulesNumber (operatorsBy n prefixes) (turned (closesIn (now (yields .entry)))) (closesIn (now (closes .entry))) ⌝ }
 {
-    if strange {
-        return refusal::STRANGER;
-    }
     if !is_safe(n, prefixes, closes, yields) {
         return refusal::DEAD;
     }

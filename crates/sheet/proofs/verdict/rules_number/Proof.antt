@@ -7,11 +7,10 @@ pub rules-number-spec : {M : Type 1} → statement M
 rules-number-spec =
     tie.close
     (tie.spec
+    (λ c κs. search number-ways)
     (λ c. search number-ways)
+    (λ c κs. search number-ways)
     (λ c. search number-ways)
-    (λ c. search number-ways)
-    (λ c. search number-ways)
-    (λ c. search number-ways)
-    (λ c. search number-ways)
+    (λ c κs. search number-ways)
     (λ c. search number-ways)
     (λ c. search number-ways))
