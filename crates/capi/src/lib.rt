@@ -2,6 +2,7 @@
 ghost use mathlib.Core.Path.{_≡_};
 ghost use Rattle.sheet.specs.Layout.{operatorsOf};
 ghost use Rattle.sheet.specs.BindingPowers.{powersIn};
+ghost use Rattle.witness.specs.Explaining.{Explains};
 ghost use Rattle.monitor.specs.Call.{stage, switch, putRow, putRecord, putClaim, fetchRecord, fetchRow, image, build, repair, yield, shortestRow};
 ghost use Rattle.monitor.specs.Panel.{panel};
 ghost use Rattle.monitor.specs.Contracts.{Changes, Stages, Puts, Drops, AnswersOn, AnswersUnder, AnswersFrom, Judges, NumbersOperand, PlacesOperand};
@@ -173,6 +174,14 @@ pub extern "C" fn tihvomen_operand(sheet: &[u32; SHEET_WORDS], bytes: &[u8], rig
     ensures { λ r. ⌜ PlacesOperand (now (sheet .entry)) right (now (bytes .entry)) r ⌝ }
 {
     monitor::operand_part(sheet, bytes, right)
+}
+
+// Why the sheet of n operators, with the kinds and rules of the bytes, is refused.
+#[no_mangle]
+pub extern "C" fn tihvomen_explain(n: u32, bytes: &[u8], out: &mut [u8]) -> Answer
+    ensures { λ r. ⌜ Explains n (now (bytes .entry)) (now (out .entry)) (now (out .exit)) r ⌝ }
+{
+    witness::explain(n, bytes, out)
 }
 
 // The binding powers of an operator.

@@ -3,7 +3,7 @@ use Prim.Native.Nat.{ℕ, zero, suc, _<_}
 use native.Mathlib.Omega.{arith}
 use native.Mathlib.Decide.{ℕ-discrete}
 use mathlib.Core.Path.{_≡_, refl}
-use mathlib.Core.Bool.{Bool, true, false, _&&_, _||_, false≢true}
+use mathlib.Core.Bool.{Bool, true, false, _&&_, _||_, true≢false, false≢true}
 use mathlib.Core.Logic.{_⊎_, inl, inr}
 use Rattle.disambiguation.specs.Below.{allBelow, allPairs}
 
@@ -27,6 +27,15 @@ allBelow-at (suc n) p e a h = go (ℕ-discrete a n) (allBelow-at n p ((and-true 
     go : Dec (a ≡ n) → ((b : ℕ) → b < n → p b ≡ true) → p a ≡ true
     go (yes q) f = rw q ((and-true (allBelow n p) (p n) e) .1)
     go (no q) f = f a (omega arith)
+
+pub allBelow-fails : (n : ℕ) (p : ℕ → Bool) → allBelow n p ≡ false → (a : ℕ) × (a < n) × (p a ≡ false)
+unfolding allBelow
+allBelow-fails zero p e = absurd (true≢false e)
+allBelow-fails (suc n) p e = go (and-false (allBelow n p) (p n) e) (allBelow-fails n p)
+  where
+    go : (allBelow n p ≡ false) ⊎ (p n ≡ false) → (allBelow n p ≡ false → (a : ℕ) × (a < n) × (p a ≡ false)) → (a : ℕ) × (a < suc n) × (p a ≡ false)
+    go (inl q) f = let (a, h, g) = f q in (a, omega arith, g)
+    go (inr q) f = (n, omega arith, q)
 
 pub allBelow-of : (n : ℕ) (p : ℕ → Bool) → ((a : ℕ) → a < n → p a ≡ true) → allBelow n p ≡ true
 unfolding allBelow

@@ -9,7 +9,7 @@ use Rattle.expression.specs.Token.{Infix, Operators, class}
 use Rattle.expression.proofs.Classes.{brackets, class-reading}
 use Rattle.disambiguation.specs.Below.{allBelow, someBelow}
 use Rattle.disambiguation.specs.Verdict.{comes, comers, safe, total, within, level}
-use Rattle.disambiguation.specs.Witness.{Witness, sound, noTree, twoTrees, bothExclude, noneExcludes, uneven, unevenPair, firstLeft, firstRight, shownBy, firstOverTriple, lastOverTriple, firstThird, noneOf, twoOf, twoOfUneven, witness}
+use Rattle.disambiguation.specs.Witness.{Witness, sound, noTree, twoTrees, bothExclude, noneExcludes, uneven, unevenPair, firstLeft, firstRight, shownBy, firstOverTriple, lastOverTriple, firstThird, noneOf, twoOf, twoOfUneven, ofTriples, witness}
 use Rattle.disambiguation.proofs.BelowLaws.{allBelow-of, all-same}
 use Rattle.disambiguation.proofs.FirstBelow.{first-below, first-holds, none-below}
 use Rattle.disambiguation.proofs.Converse.{NoneLike, Twins, not-safe, not-total, not-transitive, not-cotransitive}
@@ -71,7 +71,7 @@ module _ (ops : Operators) (L R : ℕ → ℕ → Bool) where
 
       -- what holds of each pair in the test holds of it
       at-first : someOf ≡ true → (P : ℕ → ℕ → Type 0) → ((a b : ℕ) → a < ops .count → b < ops .count → test a b ≡ true → P a b) → P left right
-      at-first some P f = 
+      at-first some P f =
           f left right (first-below (ops .count) (λ a. someBelow (ops .count) (test a)) some) (first-below (ops .count) (test left) has-right) (first-holds (ops .count) (test left) has-right)
         where
           has-right : someBelow (ops .count) (test left) ≡ true
@@ -105,7 +105,7 @@ module _ (ops : Operators) (L R : ℕ → ℕ → Bool) where
           at c hc t = let (i, k, u) = is-uneven ops small L R a b hb c hc t in go c (R a b) refl i k u
 
     pub shows : Shows (witness ops L R)
-    unfolding witness
+    unfolding witness ofTriples
     shows = by-both (someOf (bothExclude ops L R)) refl
       where
         by-uneven : safe ops L R ≡ true → total ops L R ≡ true → (x : Bool) → someOf (unevenPair ops R) ≡ x
@@ -115,11 +115,11 @@ module _ (ops : Operators) (L R : ℕ → ℕ → Bool) where
         by-uneven s t false e = (s, rw (t, level-is, e))
 
         by-none : safe ops L R ≡ true → (x : Bool) → someOf (noneExcludes ops L R) ≡ x
-            → Shows (cond x (twoOf ops (left (noneExcludes ops L R)) (right (noneExcludes ops L R))) (shownBy ops (unevenPair ops R) (twoOfUneven ops R) sound))
+            → Shows (cond x (twoOf ops (left (noneExcludes ops L R)) (right (noneExcludes ops L R))) (ofTriples ops R))
         by-none s true e = at-first (noneExcludes ops L R) e (λ a b. Shows (twoOf ops a b)) (two-of s (rw (total-is, e)))
         by-none s false e = by-uneven s (total-is ∙ ap not e) (someOf (unevenPair ops R)) refl
 
         by-both : (x : Bool) → someOf (bothExclude ops L R) ≡ x
-            → Shows (cond x (noneOf ops (left (bothExclude ops L R)) (right (bothExclude ops L R))) (shownBy ops (noneExcludes ops L R) (twoOf ops) (shownBy ops (unevenPair ops R) (twoOfUneven ops R) sound)))
+            → Shows (cond x (noneOf ops (left (bothExclude ops L R)) (right (bothExclude ops L R))) (shownBy ops (noneExcludes ops L R) (twoOf ops) (ofTriples ops R)))
         by-both true e = at-first (bothExclude ops L R) e (λ a b. Shows (noneOf ops a b)) (λ a b ha hb t. none-of a b ha hb t (safe-is ∙ ap not e))
         by-both false e = by-none (safe-is ∙ ap not e) (someOf (noneExcludes ops L R)) refl

@@ -91,6 +91,10 @@ module _ (ops : Operators) where
     abbrev pub twoOfUneven : ℕ → ℕ → Witness
     twoOfUneven a b = twoOfThree a b (firstThird a b)
 
+    -- what triples show
+    unfoldable pub ofTriples : Witness
+    ofTriples = shownBy unevenPair twoOfUneven sound
+
   module _ (L R : ℕ → ℕ → Bool) where
     -- each of a and b excludes that the other stands below it
     abbrev pub bothExclude : ℕ → ℕ → Bool
@@ -101,7 +105,7 @@ module _ (ops : Operators) where
     noneExcludes a b = comes ops b && not (R a b || L b a)
 
     unfoldable pub witness : Witness
-    witness = shownBy bothExclude noneOf (shownBy noneExcludes twoOf (shownBy (unevenPair R) (twoOfUneven R) sound))
+    witness = shownBy bothExclude noneOf (shownBy noneExcludes twoOf (ofTriples R))
 
 -- What is shown of a sheet's rules.
 abbrev pub witnessOf : Operators → List Rule → Witness

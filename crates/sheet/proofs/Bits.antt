@@ -64,11 +64,11 @@ pub one-shifted : (b w : ℕ) → b < w → (1 * 2 ^ b) % 2 ^ w ≡ 2 ^ b
 one-shifted b w h = ap (λ (x : ℕ). x % 2 ^ w) (one-mul (2 ^ b)) ∙ mod-eq-of-lt (pow-lt h)
 
 -- the lowest bit, and the bits above it
-bit-lowest : (x : ℕ) → bitOf x 0 ≡ eqb (x % 2) 1
+pub bit-lowest : (x : ℕ) → bitOf x 0 ≡ eqb (x % 2) 1
 unfolding bitOf
 bit-lowest x = rw div-one
 
-bit-above : (x c : ℕ) → bitOf x (suc c) ≡ bitOf (x / 2) c
+pub bit-above : (x c : ℕ) → bitOf x (suc c) ≡ bitOf (x / 2) c
 unfolding bitOf
 bit-above x c = rw (← one-add c, ← shr-shr x 1 c)
 

@@ -23,7 +23,7 @@ use Rattle.sheet.specs.Layout.{countWord, prefixWordAt, loadedWord, oper
 use Rattle.sheet.specs.Kinds.{prefixWord}
 use Rattle.sheet.specs.Relation.{closesIn, turned}
 use Rattle.sheet.specs.Loading.{sizeNumber, rulesNumber, closesWords, yieldsWords, Relates, ReadsSheet, sheetOf, Loads}
-use Rattle.sheet.proofs.Ordered.{Ordered, ordered, operators-read, closes-read, yields-read}
+use Rattle.sheet.proofs.Ordered.{Ordered, order-numbered, ordered, operators-read, closes-read, yields-read}
 use Rattle.sheet.proofs.Verdicts.{number-same}
 
 -- ---- size_number
@@ -158,6 +158,16 @@ module _ {size word : ℕ} {odd strange : Bool} (n : ℕ) (bytes t u : List ℕ)
 pub ruleset read-ways = (few-operators, few-byte, kinds-there, kinds-few, read-size, read-kinds, read-rules, read-whole, needs)
 
 -- ---- load
+module _ {r word : ℕ} (n : ℕ) (bytes t u : List ℕ) (reads : ReadsSheet n bytes r word t u) (z : r ≡ 0) where
+  in-order : InOrder n bytes
+  in-order = passed-first (orderChecks n bytes) (order-numbered n bytes) (sym (reads .number) ∙ z)
+
+  pub known : Ordered n bytes
+  known = ordered n bytes in-order
+
+  pub load-few : n ≤ mostOperators
+  load-few = known .few
+
 module _ {r word : ℕ} (before : List ℕ) (n : ℕ) (bytes t u : List ℕ) (reads : ReadsSheet n bytes r word t u) where
   refused : {number : ℕ} → number ≡ sheetNumber n bytes → (number ≡ 0 → ⊥) → Loads before n bytes number before
   refused e h = record { number = e; stands = rw (ne-eqb (sheetNumber n bytes) accepted (λ z. h (e ∙ z))) }
@@ -167,15 +177,6 @@ module _ {r word : ℕ} (before : List ℕ) (n : ℕ) (bytes t u : List ℕ) (re
   load-order h = refused (reads .number ∙ sym (first-refused (orderChecks n bytes) (ruleChecks (operatorsIn n bytes) (L (rulesIn n bytes)) (R (rulesIn n bytes))) (λ z. h (reads .number ∙ z)))) h
 
   module _ (z : r ≡ 0) where
-    in-order : InOrder n bytes
-    in-order = passed-first (orderChecks n bytes) ((λ e. omega arith), ((λ e. omega arith), ((λ e. omega arith), tt))) (sym (reads .number) ∙ z)
-
-    known : Ordered n bytes
-    known = ordered n bytes in-order
-
-    pub load-few : n ≤ mostOperators
-    load-few = known .few
-
     module _ {number : ℕ} (number-is : number ≡ rulesNumber (operatorsBy n word) (turned (closesIn u)) (closesIn t)) where
       sheet-number : number ≡ sheetNumber n bytes
       unfolding sheetNumber rulesNumber
@@ -183,9 +184,9 @@ module _ {r word : ℕ} (before : List ℕ) (n : ℕ) (bytes t u : List ℕ) (re
           number-is
           ∙ ap₂ (λ (v x : List ℕ). rulesNumber (operatorsBy n word) (turned (closesIn v)) (closesIn x)) (reads .yields-is z) (reads .closes-is z)
           ∙ number-same (operatorsBy n word) (turned (closesIn (yieldsWords n (rulesIn n bytes)))) (L (rulesIn n bytes)) (closesIn (closesWords n (rulesIn n bytes))) (R (rulesIn n bytes))
-          (yields-read n bytes known) (closes-read n bytes known)
-          ∙ ap (λ ops. rulesNumber ops (L (rulesIn n bytes)) (R (rulesIn n bytes))) (ap (operatorsBy n) (reads .word-is z) ∙ operators-read n bytes known)
-          ∙ sym (first-append (orderChecks n bytes) (ruleChecks (operatorsIn n bytes) (L (rulesIn n bytes)) (R (rulesIn n bytes))) in-order)
+          (yields-read n bytes (known n bytes t u reads z)) (closes-read n bytes (known n bytes t u reads z))
+          ∙ ap (λ ops. rulesNumber ops (L (rulesIn n bytes)) (R (rulesIn n bytes))) (ap (operatorsBy n) (reads .word-is z) ∙ operators-read n bytes (known n bytes t u reads z))
+          ∙ sym (first-append (orderChecks n bytes) (ruleChecks (operatorsIn n bytes) (L (rulesIn n bytes)) (R (rulesIn n bytes))) (in-order n bytes t u reads z))
 
       pub load-rules : (number ≡ 0 → ⊥) → Loads before n bytes number before
       load-rules h = refused sheet-number h

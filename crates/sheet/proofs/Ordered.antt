@@ -1,18 +1,20 @@
 -- What is known of n and the bytes after it where 1, 2 and 3 do not apply, and what their rules' relations are in words. Assumes nothing.
-use mathlib.Core.Path.{_≡_, refl, ap, _∙_}
-use mathlib.Core.Bool.{Bool, false}
+use mathlib.Core.Path.{_≡_}
+use mathlib.Core.Bool.{false}
 use mathlib.Core.List.{List}
 use Prim.Native.Nat.{ℕ, _<_, _≤_}
 use native.Mathlib.Nat.{lt-of-lt-of-le}
+use native.Mathlib.Omega.{arith}
 use borrow.Author.Tests.{ltb-false}
 use lib.ListN.{length, drop}
-use lib.Dec.{ltb, eqb}
+use lib.Dec.{ltb}
 use lib.Seq.{length-take-le}
 use Rattle.expression.specs.Lists.{anyHolds}
 use Rattle.expression.specs.Limits.{mostOperators, mostRuleBytes}
+use Rattle.expression.proofs.Numbers.{Numbered}
 use Rattle.expression.proofs.Tests.{both-false}
 use Rattle.disambiguation.specs.Rules.{L, R}
-use Rattle.disambiguation.specs.SheetChecks.{strangeRule, strangeKind, kindsIn, rulesIn, operatorsIn, InOrder}
+use Rattle.disambiguation.specs.SheetChecks.{strangeRule, strangeKind, kindsIn, rulesIn, operatorsIn, orderChecks, InOrder}
 use Rattle.sheet.specs.Layout.{operatorsBy}
 use Rattle.sheet.specs.Kinds.{prefixWord}
 use Rattle.sheet.specs.Relation.{closesIn, turned}
@@ -25,6 +27,10 @@ pub record Ordered (n : ℕ) (bytes : List ℕ) : Type 0 where
   pub as-many : length (kindsIn n bytes) ≡ n
   pub known-kinds : anyHolds strangeKind (kindsIn n bytes) ≡ false
   pub plain : anyHolds (strangeRule n) (rulesIn n bytes) ≡ false
+
+-- none of the checks of order has the number 0
+pub order-numbered : (n : ℕ) (bytes : List ℕ) → Numbered (orderChecks n bytes)
+order-numbered n bytes = ((λ e. omega arith), ((λ e. omega arith), ((λ e. omega arith), tt)))
 
 pub ordered : (n : ℕ) (bytes : List ℕ) → InOrder n bytes → Ordered n bytes
 ordered n bytes (size, (pieces, (strangers, _))) =

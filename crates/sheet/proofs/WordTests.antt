@@ -86,11 +86,11 @@ closes-blank x y hx hy =
 
 -- The tests of a relation, of the words of one operator or two. The word w has the prefix operators.
 module _ (n w : ℕ) (few : n ≤ mostOperators) (small : w < 2 ^ 32) where
-  bits : (t : List ℕ) (a b : ℕ) → a < n → b < n → bitOf (getD t a 0) b ≡ closesIn t a b
+  pub bits : (t : List ℕ) (a b : ℕ) → a < n → b < n → bitOf (getD t a 0) b ≡ closesIn t a b
   bits t a b h l = sym (closes-bit t a b (lt-of-lt-of-le h few) (lt-of-lt-of-le l few))
 
   -- a row without the prefix operators
-  bits-without : (t : List ℕ) (a b : ℕ) → a < n → b < n → bitOf (without (getD t a 0) w) b ≡ comers (operatorsBy n w) (closesIn t a) b
+  pub bits-without : (t : List ℕ) (a b : ℕ) → a < n → b < n → bitOf (without (getD t a 0) w) b ≡ comers (operatorsBy n w) (closesIn t a) b
   bits-without t a b h l = bit-without (getD t a 0) w b small (lt-of-lt-of-le l few) ∙ ap₂ _&&_ (bits t a b h l) (sym (comes-by n w b l))
 
   module _ (t u : List ℕ) (a : ℕ) (h : a < n) where

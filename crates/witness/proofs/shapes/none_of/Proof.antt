@@ -1,0 +1,13 @@
+-- `witness::shapes::none_of` meets its contract. Assumes nothing.
+use Rattle.witness.proofs.ShapeWays.{told-ways}
+use Rattle.witness.proofs.shapes.none_of.Statement.{statement}
+use Rattle.witness.proofs.shapes.none_of.Tie as tie
+
+pub none-of-spec : {M : Type 1} → statement M
+none-of-spec =
+    tie.close
+    (tie.spec
+    (λ c. search told-ways)
+    (λ c κs. search told-ways)
+    (λ c. search told-ways)
+    (λ c. search told-ways))

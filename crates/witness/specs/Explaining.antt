@@ -1,0 +1,37 @@
+-- Why a sheet is refused: the number and the answer of the question (docs/REFERENCE.md, section 10). Assumes nothing.
+use Prim.Native.Nat.{ℕ}
+use mathlib.Core.Path.{_≡_}
+use mathlib.Core.List.{List, [], _∷_, _++_}
+use lib.ListN.{length}
+use Rattle.expression.specs.Checks.{shortCheck}
+use Rattle.expression.specs.Lent.{outputAfter, lengthAfter}
+use Rattle.expression.specs.Refusal.{Check, first}
+use Rattle.expression.specs.Token.{operators}
+use Rattle.disambiguation.specs.Rules.{Rule}
+use Rattle.disambiguation.specs.SheetChecks.{rulesIn, operatorsIn, orderChecks, listOrderChecks}
+use Rattle.disambiguation.specs.Witness.{witnessOf, told}
+use Rattle.record.specs.declared.Answer.{Answer}
+
+-- The checks of a sheet that say that it is in order, 1, 2 and 3, then 10.
+abbrev pub explainChecks : List Check → List ℕ → ℕ → List Check
+explainChecks order answer room = order ++ (shortCheck (length answer) room ∷ [])
+
+-- The call with these checks and this answer gave r, and the lent output was `before` and became `after`.
+pub record AnswersWith (order : List Check) (answer before after : List ℕ) (r : Answer) : Type 0 where
+  pub numbered : r .number ≡ first (explainChecks order answer (length before))
+  pub measured : r .length ≡ lengthAfter (r .number) answer
+  pub output : after ≡ outputAfter (r .number) answer before
+
+-- The answer of a sheet: of n and the bytes after it,
+unfoldable pub explained : ℕ → List ℕ → List ℕ
+explained n bytes = told (witnessOf (operatorsIn n bytes) (rulesIn n bytes))
+
+abbrev pub Explains : ℕ → List ℕ → List ℕ → List ℕ → Answer → Type 0
+Explains n bytes = AnswersWith (orderChecks n bytes) (explained n bytes)
+
+-- and with its kinds and rules as lists.
+unfoldable pub explainedList : ℕ → List ℕ → List Rule → List ℕ
+explainedList n kinds rules = told (witnessOf (operators n kinds) rules)
+
+abbrev pub ExplainsList : ℕ → List ℕ → List Rule → List ℕ → List ℕ → Answer → Type 0
+ExplainsList n kinds rules = AnswersWith (listOrderChecks n kinds rules) (explainedList n kinds rules)
