@@ -1,8 +1,9 @@
 // The calls for C and Rust, under names of their own. They take numbers and addresses alone: a list is an address and a length.
 ghost use mathlib.Core.Path.{_≡_};
+ghost use Rattle.disambiguation.specs.SheetChecks.{rulesOf};
 ghost use Rattle.sheet.specs.Layout.{operatorsOf};
 ghost use Rattle.sheet.specs.BindingPowers.{powersIn};
-ghost use Rattle.witness.specs.Explaining.{Explains};
+ghost use Rattle.witness.specs.Explaining.{Explains, ExplainsList};
 ghost use Rattle.monitor.specs.Call.{stage, switch, putRow, putRecord, putClaim, fetchRecord, fetchRow, image, build, repair, yield, shortestRow};
 ghost use Rattle.monitor.specs.Panel.{panel};
 ghost use Rattle.monitor.specs.Contracts.{Changes, Stages, Puts, Drops, AnswersOn, AnswersUnder, AnswersFrom, Judges, NumbersOperand, PlacesOperand};
@@ -15,6 +16,7 @@ use record::operands::Part;
 use sheet::layout::SHEET_WORDS;
 use sheet::powers;
 use sheet::powers::Powers;
+use witness::lists;
 
 // The count of operators of the sheet in force, n.
 #[no_mangle]
@@ -182,6 +184,19 @@ pub extern "C" fn tihvomen_explain(n: u32, bytes: &[u8], out: &mut [u8]) -> Answ
     ensures { λ r. ⌜ Explains n (now (bytes .entry)) (now (out .entry)) (now (out .exit)) r ⌝ }
 {
     witness::explain(n, bytes, out)
+}
+
+// The same with the kinds and the rules as two lists: of the rules the bytes, three a rule.
+#[no_mangle]
+pub extern "C" fn tihvomen_explain_rules(
+    n: u32,
+    kinds: &[u8],
+    rules: &[u8],
+    out: &mut [u8],
+) -> Answer
+    ensures { λ r. ⌜ ExplainsList n (now (kinds .entry)) (rulesOf (now (rules .entry))) (now (out .entry)) (now (out .exit)) r ⌝ }
+{
+    lists::explain_list(n, kinds, rules, out)
 }
 
 // The binding powers of an operator.

@@ -16,6 +16,7 @@ pub mod LeadsDecided
 pub mod TestsDecide
 pub mod Witnesses
 pub mod VerdictDecides
+pub mod Shown
 pub mod SheetNumbers
 pub mod RuleBytes
 pub mod Agreement

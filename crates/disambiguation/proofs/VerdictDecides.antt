@@ -31,17 +31,15 @@ module _ (ops : Operators) (rules : List Rule) where
   pub none-of-row : (t : Tree) → NoneLike (L rules) (R rules) (class ops) t → Row ops (yield t) × HasNone ops rules (yield t)
   none-of-row t (h, none) = (row-of t h, λ u c. none u (c .over) (c .yields) (c .free))
 
-  pub two-of-row : (t u : Tree) → Twins (L rules) (R rules) (class ops) t u → Row ops (yield t) × HasTwo ops rules (yield t)
-  two-of-row t u w = (
+  pub twin-trees : (t u : Tree) → Twins (L rules) (R rules) (class ops) t u → Row ops (yield t) × ConflictFreeTree ops rules (yield t) t × ConflictFreeTree ops rules (yield t) u
+  twin-trees t u w = (
     row-of t (w .first-over),
-    (
-      t,
-      u,
-      record { over = w .first-over; yields = refl; free = w .first-free },
-      record { over = w .second-over; yields = w .one-row; free = w .second-free },
-      w .different,
-    ),
+    record { over = w .first-over; yields = refl; free = w .first-free },
+    record { over = w .second-over; yields = w .one-row; free = w .second-free },
   )
+
+  two-of-row : (t u : Tree) → Twins (L rules) (R rules) (class ops) t u → Row ops (yield t) × HasTwo ops rules (yield t)
+  two-of-row t u w = let (r, ht, hu) = twin-trees t u w in (r, (t, u, ht, hu, w .different))
 
   pub safe-has-one : safe ops (L rules) (R rules) ≡ true → EveryRowHasOne ops rules
   safe-has-one e row r =

@@ -10,6 +10,7 @@ pub mod Powers
 pub mod ByPowers
 pub mod SheetChecks
 pub mod Witness
+pub mod Shown
 pub mod LeftToRight
 pub mod Repair
 pub mod Cases

@@ -20,8 +20,8 @@ use Rattle.sheet.specs.Relation.{closesIn, turned}
 use Rattle.sheet.specs.Loading.{closesWords, yieldsWords, ReadsSheet}
 use Rattle.sheet.proofs.Ordered.{Ordered, order-numbered, operators-read, closes-read, yields-read}
 use Rattle.sheet.proofs.Loading.{known}
-use Rattle.witness.specs.Shapes.{mostExplained, Tells}
-use Rattle.witness.specs.Explaining.{explained, Explains}
+use Rattle.witness.specs.Shapes.{Tells}
+use Rattle.witness.specs.Explaining.{mostExplained, explained, Explains}
 use Rattle.witness.proofs.SameWitness.{witness-same}
 
 module _ {r word : ℕ} (n : ℕ) (bytes t u out : List ℕ) (reads : ReadsSheet n bytes r word t u) where

@@ -4,3 +4,4 @@ pub mod ShapeWays
 pub mod TellWays
 pub mod SameWitness
 pub mod ExplainWays
+pub mod ListWays

@@ -16,7 +16,8 @@ use Rattle.expression.specs.Token.{firstReading}
 use Rattle.expression.specs.Tree.{yield, recordOf}
 use Rattle.disambiguation.specs.Witness.{Witness, sound, noTree, twoTrees, firstOverPair, lastOverPair, firstOverTriple, lastOverTriple, told}
 use Rattle.disambiguation.proofs.BelowLaws.{and-true}
-use Rattle.witness.specs.Shapes.{mostExplained, isThere, moved, fitted, Puts, Fits, Tells}
+use Rattle.witness.specs.Explaining.{mostExplained}
+use Rattle.witness.specs.Shapes.{isThere, moved, fitted, Puts, Fits, Tells}
 
 -- ---- moved
 module _ (p : Bool) (c : ℕ) where

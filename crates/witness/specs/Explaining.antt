@@ -1,16 +1,23 @@
 -- Why a sheet is refused: the number and the answer of the question (docs/REFERENCE.md, section 10). Assumes nothing.
-use Prim.Native.Nat.{ℕ}
+use Prim.Native.Nat.{ℕ, _+_}
 use mathlib.Core.Path.{_≡_}
+use mathlib.Core.Bool.{not, _||_}
 use mathlib.Core.List.{List, [], _∷_, _++_}
-use lib.ListN.{length}
+use lib.Dec.{eqb, ltb}
+use lib.ListN.{length, take}
 use Rattle.expression.specs.Checks.{shortCheck}
 use Rattle.expression.specs.Lent.{outputAfter, lengthAfter}
-use Rattle.expression.specs.Refusal.{Check, first}
+use Rattle.expression.specs.Limits.{mostOperators, mostRules}
+use Rattle.expression.specs.Refusal.{Check, first, oversize, torn}
 use Rattle.expression.specs.Token.{operators}
 use Rattle.disambiguation.specs.Rules.{Rule}
 use Rattle.disambiguation.specs.SheetChecks.{rulesIn, operatorsIn, orderChecks, listOrderChecks}
 use Rattle.disambiguation.specs.Witness.{witnessOf, told}
 use Rattle.record.specs.declared.Answer.{Answer}
+
+-- the bytes of the longest answer: the verdict, a row of seven tokens, two records of seven bytes
+abbrev pub mostExplained : ℕ
+mostExplained = 22
 
 -- The checks of a sheet that say that it is in order, 1, 2 and 3, then 10.
 abbrev pub explainChecks : List Check → List ℕ → ℕ → List Check
@@ -35,3 +42,12 @@ explainedList n kinds rules = told (witnessOf (operators n kinds) rules)
 
 abbrev pub ExplainsList : ℕ → List ℕ → List Rule → List ℕ → List ℕ → Answer → Type 0
 ExplainsList n kinds rules = AnswersWith (listOrderChecks n kinds rules) (explainedList n kinds rules)
+
+-- ---- inside the call with lists
+-- 1 and 2: the checks of n, of the number of kinds and of the number of rules
+unfoldable pub listSizeNumber : ℕ → ℕ → ℕ → ℕ
+listSizeNumber n kinds rules = first ((ltb mostOperators n || ltb mostRules rules, oversize) ∷ (not (eqb kinds n), torn) ∷ [])
+
+-- the bytes begin with the kinds and the rules' bytes
+abbrev pub LaidOut : List ℕ → List ℕ → List ℕ → Type 0
+LaidOut kinds rules bytes = take (length kinds + length rules) bytes ≡ kinds ++ rules

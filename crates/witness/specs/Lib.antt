@@ -1,3 +1,3 @@
+pub mod Explaining
 pub mod Faults
 pub mod Shapes
-pub mod Explaining

@@ -7,10 +7,7 @@ use lib.Dec.{eqb, ltb}
 use lib.ListN.{length, take}
 use Rattle.expression.specs.Token.{firstReading}
 use Rattle.disambiguation.specs.Witness.{Witness, told}
-
--- the bytes of the longest witness: the verdict, a row of seven tokens, two records of seven bytes
-abbrev pub mostExplained : ℕ
-mostExplained = 22
+use Rattle.witness.specs.Explaining.{mostExplained}
 
 -- a byte of a shape is there, unless it is the operand before a prefix operator
 abbrev pub isThere : Bool → ℕ → Bool

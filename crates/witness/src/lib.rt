@@ -6,8 +6,8 @@ ghost use Rattle.expression.specs.Limits.{mostOperators};
 ghost use Rattle.disambiguation.specs.Witness.{ofTriples, witness};
 ghost use Rattle.sheet.specs.Layout.{operatorsBy};
 ghost use Rattle.sheet.specs.Relation.{closesIn, turned};
-ghost use Rattle.witness.specs.Shapes.{mostExplained, Tells};
-ghost use Rattle.witness.specs.Explaining.{Explains};
+ghost use Rattle.witness.specs.Shapes.{Tells};
+ghost use Rattle.witness.specs.Explaining.{mostExplained, Explains};
 use expression::refusal;
 use record::Answer;
 use shapes::MOST_EXPLAINED;
@@ -15,6 +15,7 @@ use sheet::layout::SHEET_WORDS;
 use sheet::words;
 
 mod faults;
+pub mod lists;
 pub mod shapes;
 
 // Puts what triples show at the front of the text; its length.

@@ -6,7 +6,8 @@ ghost use mathlib.Core.Bool.{true, false};
 ghost use lib.ListN.{length};
 ghost use Rattle.expression.specs.Limits.{mostOperators};
 ghost use Rattle.disambiguation.specs.Witness.{sound, noTree, twoTrees, firstOverPair, lastOverPair, firstOverTriple, lastOverTriple};
-ghost use Rattle.witness.specs.Shapes.{mostExplained, moved, Puts, Fits, Tells};
+ghost use Rattle.witness.specs.Explaining.{mostExplained};
+ghost use Rattle.witness.specs.Shapes.{moved, Puts, Fits, Tells};
 use expression::refusal;
 use expression::token::FIRST_READING;
 
