@@ -22,6 +22,7 @@ pub mod ChainedPatterns
 pub mod StageThenSwitch
 pub mod BindingPowers
 pub mod ClaimedTrees
+pub mod Explanations
 pub mod AnswerWays
 pub mod StoreWays
 pub mod UseWays

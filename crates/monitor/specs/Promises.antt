@@ -18,11 +18,16 @@ use Rattle.disambiguation.specs.Patterns.{Patterns}
 use Rattle.disambiguation.specs.Conflicts.{conflictCount, ConflictFreeTree}
 use Rattle.disambiguation.specs.ExactlyOne.{SomeRowHasNone, SomeRowHasTwo, EveryRowHasExactlyOne}
 use Rattle.disambiguation.specs.LeftToRight.{finish}
+use Rattle.disambiguation.specs.Verdict.{verdict}
+use Rattle.disambiguation.specs.Witness.{Witness, told}
+use Rattle.disambiguation.specs.Shown.{Shown, AsLong}
 use Rattle.disambiguation.specs.Powers.{leftPower, rightPower, Ladder}
 use Rattle.disambiguation.specs.ByPowers.{readByPowers}
 use Rattle.disambiguation.specs.SheetChecks.{rulesIn, operatorsIn, InOrder, ListInOrder}
 use Rattle.sheet.specs.InForce.{InForce}
 use Rattle.sheet.specs.BindingPowers.{given, notInfix, powersIn}
+use Rattle.record.specs.declared.Answer.{Answer}
+use Rattle.witness.specs.Explaining.{mostExplained, AnswersBy, Explains, ExplainsList}
 use Rattle.parser.specs.FromTheLeft.{state, FromTheLeft}
 use Rattle.brackets.specs.SameMeaning.{OfInfix, ShortestRow}
 use Rattle.claims.specs.Claims.{Claimed}
@@ -167,6 +172,22 @@ module _ (cs : List Call) where
         → AnsweredBy (putClaim k row bytes ∷ cs) (ask (fetchRecord k out)) out bytes
     -- and the call counts as a put of the row there: the panel after it is the same.
     pub as-put : (k : ℕ) (row bytes : List ℕ) → answer cs (putClaim k row bytes) .number ≡ accepted → panelAfter (putClaim k row bytes ∷ cs) ≡ panelAfter (putRow k row ∷ cs)
+
+  -- Why a sheet is refused: a question that looks at no place. It was asked of a sheet in bytes, or with kinds and rules as lists; it answered r, and the lent output became `later`.
+  pub record Explanations : Type 0 where
+    -- A sheet that is not in order is refused by the number of its staging.
+    pub refused-alike : (m : ℕ) (bytes out later : List ℕ) (r : Answer) → Explains m bytes out later r → (InOrder m bytes → ⊥) → r .number ≡ answer cs (stage m bytes) .number
+    pub refused-alike-list : (m : ℕ) (kinds : List ℕ) (given : List Rule) (out later : List ℕ) (r : Answer) → ExplainsList m kinds given out later r
+        → (ListInOrder m kinds given → ⊥) → r .number ≡ answer cs (stageList m kinds given) .number
+    -- Of one in order, with room for 22 bytes, it answers a witness in bytes, 22 at most, with both records as long as the row. The witness shows that the verdict is 0; or that it is
+    -- 4, by a row over the operators that has no conflict-free tree; or that it is 5, by a row and the different records of two conflict-free trees of it.
+    pub explained : (m : ℕ) (bytes out later : List ℕ) (r : Answer) → Explains m bytes out later r → InOrder m bytes → mostExplained ≤ length out
+        → (w : Witness) × Shown (operatorsIn m bytes) (rulesIn m bytes) w × AsLong w × (length (told w) ≤ mostExplained) × AnswersBy (told w) out later r
+    pub explained-list : (m : ℕ) (kinds : List ℕ) (given : List Rule) (out later : List ℕ) (r : Answer) → ExplainsList m kinds given out later r → ListInOrder m kinds given → mostExplained ≤ length out
+        → (w : Witness) × Shown (operators m kinds) given w × AsLong w × (length (told w) ≤ mostExplained) × AnswersBy (told w) out later r
+    -- This verdict is the number of the staging.
+    pub as-staged : (m : ℕ) (bytes : List ℕ) → InOrder m bytes → answer cs (stage m bytes) .number ≡ verdict (operatorsIn m bytes) (rulesIn m bytes)
+    pub as-staged-list : (m : ℕ) (kinds : List ℕ) (given : List Rule) → ListInOrder m kinds given → answer cs (stageList m kinds given) .number ≡ verdict (operators m kinds) given
 
 -- W4, chains of priority. Of any rules, which patterns they exclude: both where one or more priority rules lead from the one operator to the other, whatever their kinds, and else
 -- by left and right as written. With W5, what an operator sees of an operand is said in `Edges`. Demands 2 and 3 and the requests above speak of conflicts by these patterns.

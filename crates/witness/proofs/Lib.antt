@@ -5,3 +5,5 @@ pub mod TellWays
 pub mod SameWitness
 pub mod ExplainWays
 pub mod ListWays
+pub mod Brief
+pub mod Promised

@@ -4,11 +4,11 @@ use mathlib.Core.Path.{_≡_}
 use mathlib.Core.Bool.{not, _||_}
 use mathlib.Core.List.{List, [], _∷_, _++_}
 use lib.Dec.{eqb, ltb}
-use lib.ListN.{length, take}
+use lib.ListN.{length, take, drop}
 use Rattle.expression.specs.Checks.{shortCheck}
 use Rattle.expression.specs.Lent.{outputAfter, lengthAfter}
 use Rattle.expression.specs.Limits.{mostOperators, mostRules}
-use Rattle.expression.specs.Refusal.{Check, first, oversize, torn}
+use Rattle.expression.specs.Refusal.{Check, first, accepted, oversize, torn}
 use Rattle.expression.specs.Token.{operators}
 use Rattle.disambiguation.specs.Rules.{Rule}
 use Rattle.disambiguation.specs.SheetChecks.{rulesIn, operatorsIn, orderChecks, listOrderChecks}
@@ -28,6 +28,10 @@ pub record AnswersWith (order : List Check) (answer before after : List ℕ) (r 
   pub numbered : r .number ≡ first (explainChecks order answer (length before))
   pub measured : r .length ≡ lengthAfter (r .number) answer
   pub output : after ≡ outputAfter (r .number) answer before
+
+-- It is accepted, and this is its answer.
+abbrev pub AnswersBy : List ℕ → List ℕ → List ℕ → Answer → Type 0
+AnswersBy answer before after r = (r .number ≡ accepted) × (r .length ≡ length answer) × (after ≡ answer ++ drop (length answer) before)
 
 -- The answer of a sheet: of n and the bytes after it,
 unfoldable pub explained : ℕ → List ℕ → List ℕ
