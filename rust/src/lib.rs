@@ -30,6 +30,7 @@
 extern crate alloc;
 
 mod evaluate;
+mod explain;
 mod line;
 mod linked;
 #[cfg(feature = "alloc")]
@@ -41,12 +42,13 @@ mod refusal;
 mod rule;
 mod sizes;
 
+pub use explain::{explain, explain_into, explain_rules, explain_rules_into, Explanation};
 pub use panel::Panel;
 pub use powers::Powers;
 pub use record::Side;
 pub use refusal::{Refusal, UnknownNumber};
 pub use rule::Rule;
 pub use sizes::{
-    CLOSING, FIRST_READING, IMAGE_BYTES, INFIX, MOST_LINE, MOST_OPERATORS, MOST_REPLY, MOST_RULES, MOST_TOKENS,
-    OPENING, PLACES, PREFIX,
+    CLOSING, FIRST_READING, IMAGE_BYTES, INFIX, MOST_EXPLAINED, MOST_LINE, MOST_OPERATORS, MOST_REPLY, MOST_RULES,
+    MOST_TOKENS, OPENING, PLACES, PREFIX,
 };

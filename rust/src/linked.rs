@@ -64,6 +64,28 @@ pub fn stage_rules(stage: &mut Sheet, n: u8, kinds: &[u8], rules: &[Rule]) -> u8
 }
 
 #[inline]
+pub fn explain(n: u8, bytes: &[u8], out: &mut [u8]) -> Answer {
+    // SAFETY: `bytes` is read and `out` written within their lengths; they do not overlap.
+    unsafe { exports::tihvomen_explain(n.into(), bytes.as_ptr(), bytes.len(), out.as_mut_ptr(), out.len()) }
+}
+
+#[inline]
+pub fn explain_rules(n: u8, kinds: &[u8], rules: &[Rule], out: &mut [u8]) -> Answer {
+    // SAFETY: `kinds` and `rules` are read and `out` is written within their lengths; `out` does not overlap the others.
+    unsafe {
+        exports::tihvomen_explain_rules(
+            n.into(),
+            kinds.as_ptr(),
+            kinds.len(),
+            rules.as_ptr(),
+            rules.len(),
+            out.as_mut_ptr(),
+            out.len(),
+        )
+    }
+}
+
+#[inline]
 pub fn switch(sheet: &mut Sheet, stage: &mut Sheet, places: &mut Places) -> u8 {
     // SAFETY: `sheet`, `stage` and `places` are ours alone meanwhile.
     unsafe { exports::tihvomen_switch(sheet, stage, places) }

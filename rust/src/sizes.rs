@@ -18,6 +18,9 @@ pub const MOST_RULES: usize = 2048;
 /// Room for every row and every record.
 pub const MOST_TOKENS: usize = 255;
 
+/// Room for every explanation of a sheet: the verdict, a row of seven tokens and two records of it.
+pub const MOST_EXPLAINED: usize = 1 + 3 * 7;
+
 /// The length of an image: a record's length and the record.
 pub const IMAGE_BYTES: usize = 1 + MOST_TOKENS;
 

@@ -14,6 +14,16 @@ extern "C" {
         rules: *const Rule,
         count: usize,
     ) -> u8;
+    pub fn tihvomen_explain(n: u32, bytes: *const u8, length: usize, out: *mut u8, room: usize) -> Answer;
+    pub fn tihvomen_explain_rules(
+        n: u32,
+        kinds: *const u8,
+        kind_count: usize,
+        rules: *const Rule,
+        count: usize,
+        out: *mut u8,
+        room: usize,
+    ) -> Answer;
     pub fn tihvomen_switch(sheet: &mut Sheet, stage: &mut Sheet, places: &mut Places) -> u8;
     pub fn tihvomen_put_row(sheet: &Sheet, places: &mut Places, place: u32, row: *const u8, length: usize) -> u8;
     pub fn tihvomen_put_record(sheet: &Sheet, places: &mut Places, place: u32, record: *const u8, length: usize) -> u8;
