@@ -20,7 +20,8 @@ fn held(random: &mut Random) -> (Panel, Vec<u8>) {
     (panel, staging.kinds)
 }
 
-fn listed(bytes: &[u8]) -> Vec<Rule> {
+/// Rules of three bytes as a list.
+pub fn listed(bytes: &[u8]) -> Vec<Rule> {
     bytes.chunks_exact(3).map(|rule| Rule { kind: rule[0], first: rule[1], second: rule[2] }).collect()
 }
 

@@ -9,6 +9,7 @@ mod calls;
 mod chains;
 mod claims;
 mod evaluate;
+mod explain;
 mod expression;
 mod forms;
 mod frames;
