@@ -1,8 +1,9 @@
 /*
- * Every call of panel.h and panel_evaluate.h once or more, against the cases of docs/REFERENCE.md, section 11; lengths of
- * 0 with NULL. Silent if all is well.
+ * Every call of panel.h, panel_evaluate.h and panel_explain.h once or more, against the cases of docs/REFERENCE.md,
+ * section 11; lengths of 0 with NULL. Silent if all is well.
  */
 #include "check.h"
+#include "explanations.h"
 #include "lent_output.h"
 #include "panel_evaluate.h"
 
@@ -227,14 +228,13 @@ int main(void) {
     uint8_t out[300];
     memset(out, 0xEE, sizeof out);
     panel_fresh(&p);
-    CHECK(panel_stage(&p, 33, NULL, 0) == PANEL_OVERSIZE);
-    CHECK(panel_stage(&p, 1, NULL, 0) == PANEL_TORN);
-    CHECK(panel_stage(&p, 2, sheet_a, 10) == PANEL_TORN);
-    CHECK(panel_stage(&p, 1, sheet_a, sizeof sheet_a) == PANEL_TORN);
+    CHECK(panel_stage(&p, 33, NULL, 0) == PANEL_OVERSIZE && panel_stage(&p, 1, NULL, 0) == PANEL_TORN);
+    CHECK(panel_stage(&p, 2, sheet_a, 10) == PANEL_TORN && panel_stage(&p, 1, sheet_a, sizeof sheet_a) == PANEL_TORN);
     CHECK(panel_stage(&p, 1, sheet_a + 1, sizeof sheet_a - 1) == PANEL_STRANGER);
     CHECK(panel_switch(&p) == PANEL_NOTHING_STAGED);
     check_rules(&p);
     check_stage(&p, out);
+    check_explanations(out);
     check_lines();
     check_trees(&p, out);
     check_operands(&p);

@@ -1,8 +1,8 @@
 /*
- * The functions of libtihvomen.a, as the archive has them. panel.h has a call for each that takes the panel apart; use
- * those. A list is two arguments, address and length, and the address is never NULL here. `sheet` and `stage` are
- * PANEL_SHEET_WORDS words each, `places` PANEL_STORE_BYTES bytes, the output of a reply PANEL_MOST_REPLY bytes. A refused
- * call leaves them as they were.
+ * The functions of libtihvomen.a, as the archive has them. panel.h and panel_explain.h have a call for each, which takes
+ * the panel apart; use those. A list is two arguments, address and length, and the address is never NULL here. `sheet` and
+ * `stage` are PANEL_SHEET_WORDS words each, `places` PANEL_STORE_BYTES bytes, the output of a reply PANEL_MOST_REPLY
+ * bytes. A refused call leaves them as they were.
  */
 #ifndef TIHVOMEN_PANEL_EXPORTS_H
 #define TIHVOMEN_PANEL_EXPORTS_H
@@ -47,6 +47,9 @@ uint8_t tihvomen_operators(const uint32_t *sheet);
 uint8_t tihvomen_stage(uint32_t *stage, uint32_t n, const uint8_t *kinds_and_rules, size_t);
 uint8_t tihvomen_stage_rules(
     uint32_t *stage, uint32_t n, const uint8_t *kinds, size_t, const struct panel_rule *rules, size_t);
+struct panel_raw_answer tihvomen_explain(uint32_t n, const uint8_t *kinds_and_rules, size_t, uint8_t *out, size_t);
+struct panel_raw_answer tihvomen_explain_rules(
+    uint32_t n, const uint8_t *kinds, size_t, const struct panel_rule *rules, size_t, uint8_t *out, size_t);
 uint8_t tihvomen_switch(uint32_t *sheet, uint32_t *stage, uint8_t *places);
 uint8_t tihvomen_put_row(const uint32_t *sheet, uint8_t *places, uint32_t place, const uint8_t *row, size_t);
 uint8_t tihvomen_put_record(const uint32_t *sheet, uint8_t *places, uint32_t place, const uint8_t *record, size_t);

@@ -19,6 +19,7 @@ enum {
     PANEL_MOST_OPERATORS = 32,                             /* operators of a sheet */
     PANEL_MOST_RULES = 2048,                               /* rules of a sheet */
     PANEL_MOST_TOKENS = 255,                               /* room for every row and every record */
+    PANEL_MOST_EXPLAINED = 1 + 3 * 7,                      /* room for every explanation: the verdict, a row, two records */
     /* characters of a line: 12,356, for the longest sheet */
     PANEL_MOST_LINE = 2 * (2 + PANEL_MOST_OPERATORS + 3 * PANEL_MOST_RULES),
     PANEL_IMAGE_BYTES = 1 + PANEL_MOST_TOKENS,             /* the length of an image: a record's length and the record */

@@ -79,8 +79,11 @@ static void damage(struct list *list) {
         list->length -= below((uint32_t)list->length + 1);
 }
 
-/* Kinds of sheets for make_sheet. */
-enum { ALL_LEFT, ALL_RIGHT, CHAIN, BOTH_WAYS, ANY_RULES, SHEETS };
+/*
+ * Kinds of sheets for make_sheet. The first three are good. UNEVEN is ALL_LEFT but for 00 with 01: a row of three
+ * operators has two trees, and none of two has.
+ */
+enum { ALL_LEFT, ALL_RIGHT, CHAIN, BOTH_WAYS, ANY_RULES, ONE_PAIR, UNEVEN, SHEETS };
 
 /* The kinds of 32 operators and so many rules; the good sheets say some of theirs again. */
 static void make_sheet(struct list *list, int sheet, size_t count) {
@@ -101,6 +104,12 @@ static void make_sheet(struct list *list, int sheet, size_t count) {
             kind = (uint8_t)(1 + below(3));
             first = (uint8_t)below(32);
             second = (uint8_t)below(32);
+        } else if (sheet == ONE_PAIR) {
+            first = second = 0;
+        } else if (sheet == UNEVEN && first == 0 && second == 1) {
+            kind = PANEL_RIGHT;
+            first = 1;
+            second = 0;
         }
         add(list, kind);
         add(list, first);

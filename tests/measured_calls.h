@@ -4,6 +4,7 @@
 
 #include "deep_lists.h"
 #include "panel_evaluate.h"
+#include "panel_explain.h"
 #include "panel_stack.h"
 
 /* What the calls are lent. */
@@ -42,6 +43,16 @@ static void do_stage_rules(void) {
     answer = panel_stage_rules(&p, PANEL_MOST_OPERATORS, staged.bytes, PANEL_MOST_OPERATORS, rule_list, count);
 }
 
+static void do_explain(void) {
+    answer = panel_explain(PANEL_MOST_OPERATORS, staged.bytes, staged.length, out, sizeof out).length;
+}
+
+static void do_explain_rules(void) {
+    size_t count = (staged.length - PANEL_MOST_OPERATORS) / 3;
+    answer = panel_explain_rules(
+        PANEL_MOST_OPERATORS, staged.bytes, PANEL_MOST_OPERATORS, rule_list, count, out, sizeof out).length;
+}
+
 static void do_put_claim(void) {
     answer = panel_put_claim(&p, place, claimed_row.bytes, claimed_row.length, claimed.bytes, claimed.length);
 }
@@ -66,6 +77,8 @@ static struct call {
     {"operators", do_operators, NOTHING, PANEL_STACK_OPERATORS, 0},
     {"stage", do_stage, RULES, PANEL_STACK_STAGE, 0},
     {"stage_rules", do_stage_rules, RULES, PANEL_STACK_STAGE_RULES, 0},
+    {"explain", do_explain, RULES, PANEL_STACK_EXPLAIN, 0},
+    {"explain_rules", do_explain_rules, RULES, PANEL_STACK_EXPLAIN_RULES, 0},
     {"switch", do_switch, STAGE, PANEL_STACK_SWITCH, 0},
     {"put_row", do_put_row, LIST, PANEL_STACK_PUT_ROW, 0},
     {"put_record", do_put_record, LIST, PANEL_STACK_PUT_RECORD, 0},

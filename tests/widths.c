@@ -5,6 +5,7 @@
 #include "check.h"
 #include "lent_output.h"
 #include "panel_evaluate.h"
+#include "panel_explain.h"
 
 #include <limits.h>
 #include <string.h>
@@ -55,10 +56,16 @@ static void check_counts(void) {
         CHECK(panel_stage(&p, counts[i], NULL, 0) == PANEL_OVERSIZE);
         CHECK(panel_stage_rules(&p, counts[i], sheet_a, 2, rules, 3) == PANEL_OVERSIZE);
         CHECK(panel_stage_rules(&p, counts[i], NULL, 0, NULL, 0) == PANEL_OVERSIZE);
+        CHECK(untouched(panel_explain(counts[i], sheet_a, sizeof sheet_a, out, sizeof out), PANEL_OVERSIZE, out, sizeof out));
+        CHECK(untouched(panel_explain(counts[i], NULL, 0, NULL, 0), PANEL_OVERSIZE, out, sizeof out));
+        CHECK(untouched(
+            panel_explain_rules(counts[i], sheet_a, 2, rules, 3, out, sizeof out), PANEL_OVERSIZE, out, sizeof out));
+        CHECK(untouched(panel_explain_rules(counts[i], NULL, 0, NULL, 0, NULL, 0), PANEL_OVERSIZE, out, sizeof out));
     }
     CHECK(panel_stage(&p, PANEL_MOST_OPERATORS, kinds, PANEL_MOST_OPERATORS) == PANEL_DOUBLE);
     CHECK(panel_stage(&p, PANEL_MOST_OPERATORS, NULL, 0) == PANEL_TORN);
     CHECK(panel_stage(&p, PANEL_MOST_OPERATORS + 1, NULL, 0) == PANEL_OVERSIZE);
+    CHECK(panel_explain(PANEL_MOST_OPERATORS, NULL, 0, out, sizeof out).number == PANEL_TORN);
     CHECK(memcmp(&p, &before, sizeof p) == 0);
 }
 

@@ -1,5 +1,7 @@
 //! Places over 15 and more than 32 operators: refused for every value that the argument can have, before all else.
-use tihvomen::{Panel, Refusal, Rule, IMAGE_BYTES, INFIX, MOST_OPERATORS, MOST_RULES, PLACES, PREFIX};
+use tihvomen::{
+    explain, explain_rules, Panel, Refusal, Rule, IMAGE_BYTES, INFIX, MOST_OPERATORS, MOST_RULES, PLACES, PREFIX,
+};
 
 /// Two infix operators: 01 over 00, each left with itself; a tree at every place.
 fn filled() -> Panel {
@@ -72,13 +74,16 @@ fn more_than_32_operators() {
             let kinds = vec![INFIX; n.into()];
             // No rule, one that is right, torn bytes, a kind that does not exist; with kind bytes and without.
             for rules in [&[][..], &[2, 0, 0], &[2, 0], &[9, 0, 0]] {
-                assert_eq!(panel.stage(n, &[&kinds, rules].concat()), Err(Refusal::Oversize));
-                assert_eq!(panel.stage(n, rules), Err(Refusal::Oversize));
+                for sheet in [&[&kinds, rules].concat()[..], rules] {
+                    assert_eq!(panel.stage(n, sheet), Err(Refusal::Oversize));
+                    assert_eq!(explain(n, sheet), Err(Refusal::Oversize));
+                }
             }
             for rule in [Rule::left(0, 0), Rule { kind: 9, first: 0, second: 0 }] {
-                assert_eq!(panel.stage_rules(n, &kinds, &[]), Err(Refusal::Oversize));
-                assert_eq!(panel.stage_rules(n, &kinds, &[rule]), Err(Refusal::Oversize));
-                assert_eq!(panel.stage_rules(n, &[], &[rule]), Err(Refusal::Oversize));
+                for (kinds, rules) in [(&kinds[..], &[][..]), (&kinds, &[rule]), (&[], &[rule])] {
+                    assert_eq!(panel.stage_rules(n, kinds, rules), Err(Refusal::Oversize));
+                    assert_eq!(explain_rules(n, kinds, rules), Err(Refusal::Oversize));
+                }
             }
         }
         assert_eq!(panel, before);
@@ -92,6 +97,7 @@ fn up_to_32_operators_and_2048_rules() {
         for kind in [INFIX, PREFIX] {
             let mut panel = Panel::new();
             assert_eq!(panel.stage_rules(n, &vec![kind; n.into()], &rules), Ok(()));
+            assert!(explain_rules(n, &vec![kind; n.into()], &rules).is_ok_and(|it| it.verdict().is_ok()));
             assert_eq!((panel.operators(), panel.switch(), panel.operators()), (0, Ok(()), n));
         }
     }
