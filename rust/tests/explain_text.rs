@@ -9,7 +9,7 @@ fn explained(n: u8, sheet: &str) -> Explanation {
     explain(n, &bytes(sheet)).unwrap()
 }
 
-/// Each operator closes before the next, and the last before the first.
+/// Each operator closes before the next, and the last before the first. README.md shows it, four columns further in.
 #[test]
 fn a_circle() {
     let circle = "00 00 00 02 00 00 02 01 01 02 02 02 02 00 01 03 00 01 02 01 02 03 01 02 02 02 00 03 02 00";
@@ -33,6 +33,8 @@ tree 02 01 00 80 81 82 83
       /  \
     80    81";
     assert_eq!(explained(3, circle).to_string(), text);
+    let indented: String = text.lines().map(|line| format!("    {line}\n")).collect();
+    assert!(include_str!("../../README.md").contains(&indented));
 }
 
 #[test]
