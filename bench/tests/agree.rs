@@ -48,12 +48,14 @@ fn stage(random: &mut Random, proved: &mut tihvomen::Panel, fast: &mut fast::Pan
         let n = kinds.in_force.len() as u8;
         staging = Staging { n, kinds: kinds.in_force.clone(), rules: stagings::good_rules(random, n) };
     }
-    let accepted = fast.stage(staging.n, &staging.bytes());
-    assert_eq!(proved.stage(staging.n, &staging.bytes()).map_err(|refusal| refusal.number()), accepted);
+    let (n, bytes) = (staging.n, staging.bytes());
+    let accepted = fast.stage(n, &bytes);
+    assert_eq!(proved.stage(n, &bytes).map_err(|refusal| refusal.number()), accepted);
     if accepted.is_ok() {
         // In the byte form the kinds are the first n bytes.
-        kinds.staged = staging.bytes()[..usize::from(staging.n)].to_vec();
+        kinds.staged = bytes[..usize::from(n)].to_vec();
     }
+    written(random, |out| tihvomen::explain_into(n, &bytes, out), |out| fast::explain(n, &bytes, out));
 }
 
 /// A switch of both.
@@ -166,6 +168,8 @@ fn small_sheets_agree() {
                 let bytes = [kinds, rules.clone()].concat();
                 let proved = tihvomen::Panel::new().stage(n, &bytes).map_err(|refusal| refusal.number());
                 assert_eq!(proved, fast::Panel::default().stage(n, &bytes), "{n} {bytes:02x?}");
+                let random = &mut Random::new(code as u64);
+                written(random, |out| tihvomen::explain_into(n, &bytes, out), |out| fast::explain(n, &bytes, out));
             }
         }
     }

@@ -49,6 +49,12 @@ fn stage(both: &mut Both, name: &str, prefixed: bool, groups: u8) {
     line(name, &[sheet(prefixed, groups)], |sheet| proved.stage(32, sheet), |sheet| fast.stage(32, sheet));
 }
 
+/// Why the same sheet is refused: it is not, so all rows of two and three operators are looked at.
+fn explain(name: &str, prefixed: bool, groups: u8) {
+    let proved = |sheet: &[u8], out: &mut [u8]| tihvomen::explain_into(32, sheet, out);
+    written(name, &[sheet(prefixed, groups)], proved, |sheet, out| fast::explain(32, sheet, out));
+}
+
 /// The switch to the sheet that is staged. A switch empties the stage, so each is made on a copy; the copying is timed too.
 fn switch(both: &Both, name: &str) {
     let Both { proved, fast } = both;
@@ -150,6 +156,8 @@ fn main() {
     let mut both = fresh();
     stage(&mut both, "stage, 32 operators, 1,024 rules", false, 1);
     stage(&mut both, "stage, 32 operators, 576 rules", false, 8);
+    explain("explain, 32 operators, 1,024 rules", false, 1);
+    explain("explain, 32 operators, 576 rules", false, 8);
     put_in_force(&mut both, false);
     powers(&both, "powers, 32 operators");
     for tokens in TOKENS {
@@ -162,6 +170,7 @@ fn main() {
     }
     both = fresh();
     stage(&mut both, "stage, 32 operators, 8 of them prefix, 576 rules", true, 8);
+    explain("explain, 32 operators, 8 of them prefix, 576 rules", true, 8);
     put_in_force(&mut both, true);
     powers(&both, "powers, 32 operators, 8 of them prefix");
     for tokens in [63, 255] {

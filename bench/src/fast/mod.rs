@@ -2,11 +2,13 @@
 
 mod claim;
 mod evaluate;
+mod explain;
 mod prefixed;
 mod record;
 mod row;
 mod sheet;
 
+pub use explain::explain;
 use sheet::Sheet;
 
 pub type Answer = Result<usize, u8>;

@@ -41,13 +41,19 @@ impl Sheet {
     /// The left and the right power of an infix operator; or 3.
     #[inline]
     pub fn powers(&self, operator: u8) -> Result<(u8, u8), u8> {
-        if operator > 31 || (self.all & !self.prefixes) >> operator & 1 == 0 {
+        if operator > 31 || self.infix() >> operator & 1 == 0 {
             return Err(3);
         }
         let row = self.closes[usize::from(operator)];
         let below = |c: usize| row >> c & !(self.closes[c] >> operator) & 1;
         let left = 2 + 2 * (0..32).map(below).sum::<u32>() as u8;
         Ok((left, left - (row >> operator & 1 ^ 1) as u8))
+    }
+
+    /// The infix operators.
+    #[inline]
+    pub fn infix(&self) -> u32 {
+        self.all & !self.prefixes
     }
 
     #[inline]
@@ -68,8 +74,9 @@ const CLASSES: [u8; 256] = {
     class
 };
 
-/// The sheet of n operators, n kind bytes and rules; or 1, 2, 3, 4 or 5.
-pub fn judge(n: u8, bytes: &[u8]) -> Result<Sheet, u8> {
+/// The sheet of n operators, n kind bytes and rules, which are not judged; or 1, 2 or 3.
+#[inline]
+pub fn read(n: u8, bytes: &[u8]) -> Result<Sheet, u8> {
     let rules = bytes.get(usize::from(n)..).unwrap_or(&[]);
     if n > 32 || rules.len() > 6144 {
         return Err(1);
@@ -95,13 +102,19 @@ pub fn judge(n: u8, bytes: &[u8]) -> Result<Sheet, u8> {
     }
     chain(&mut ahead[1][..usize::from(n)]);
     chain(&mut back[1][..usize::from(n)]);
-    let all = ((1u64 << n) - 1) as u32;
-    let infix = all & !prefixes;
-    let mut sheet = Sheet { all, prefixes, ..Sheet::fresh() };
+    let mut sheet = Sheet { all: ((1u64 << n) - 1) as u32, prefixes, ..Sheet::fresh() };
+    let infix = sheet.infix();
     for a in 0..32 {
         sheet.closes[a] = (ahead[1][a] | ahead[2][a]) & infix;
         sheet.open[a] = (back[1][a] | back[3][a]) & infix;
     }
+    Ok(sheet)
+}
+
+/// The same, if it is accepted; or 1, 2, 3, 4 or 5.
+pub fn judge(n: u8, bytes: &[u8]) -> Result<Sheet, u8> {
+    let mut sheet = read(n, bytes)?;
+    let infix = sheet.infix();
     let (closes, open) = (&sheet.closes[..usize::from(n)], &sheet.open[..usize::from(n)]);
     let mut both = 0;
     let mut either = infix;
