@@ -112,7 +112,7 @@ PANEL_NODISCARD static inline unsigned panel_operators(const struct panel *p) {
 /*
  * Stages the sheet of n operators, in place of one staged earlier: it is kept beside the sheet in force until a switch. The
  * bytes are n kinds of operators, then the rules, three bytes each. A sheet is accepted only if each row over its
- * operators, however long, has one conflict-free tree and no second. Numbers: 1, 2, 3, 4, 5.
+ * operators, however long, has one conflict-free tree and no second; panel_explain.h tells why not. Numbers: 1, 2, 3, 4, 5.
  */
 PANEL_NODISCARD static inline enum panel_number panel_stage(
     struct panel *p, unsigned n, const uint8_t *kinds_and_rules, size_t length) {

@@ -20,6 +20,8 @@
 //! # Ok::<(), Refusal>(())
 //! ```
 //!
+//! [`explain()`] tells why a sheet is refused: a row that shows it, and the trees that the row has.
+//!
 //! The crate needs `core` alone. The feature `alloc`, on by default, adds the calls that give a `Vec` or a `String`;
 //! each has a form that writes into a lent output and is there without it.
 #![no_std]

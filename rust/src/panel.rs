@@ -28,7 +28,8 @@ impl Panel {
 
     /// Stages the sheet of `n` operators, in place of one staged earlier: it is kept beside the sheet in force until a
     /// switch. The bytes are those of a sheet frame after n: a kind byte for each operator, [`INFIX`](crate::INFIX) or
-    /// [`PREFIX`](crate::PREFIX), then the rules, three bytes each.
+    /// [`PREFIX`](crate::PREFIX), then the rules, three bytes each. [`explain`](crate::explain()) tells why a sheet is dead or
+    /// double.
     ///
     /// ```
     /// let mut panel = tihvomen::Panel::new();
