@@ -1,6 +1,7 @@
 //! Every call with arrays of fixed length alone: what the library gives without its feature `alloc`.
 use tihvomen::{
-    Panel, Refusal, Rule, Side, UnknownNumber, IMAGE_BYTES, INFIX, MOST_REPLY, MOST_TOKENS, PLACES, PREFIX,
+    explain, explain_into, explain_rules, explain_rules_into, Panel, Refusal, Rule, Side, UnknownNumber, IMAGE_BYTES,
+    INFIX, MOST_REPLY, MOST_TOKENS, PLACES, PREFIX,
 };
 
 /// Two infix operators: 01 over 00, each left with itself.
@@ -104,6 +105,21 @@ fn values() {
     assert_eq!(panel.evaluate(3, &meanings[..1], &[1, 2, 3]), Err(Refusal::NoMeaning));
     assert_eq!(panel.evaluate(3, &meanings, &[1, 2]), Err(Refusal::NoReading));
     assert_eq!(panel.evaluate(4, &meanings, &[1, 2, 3]), Err(Refusal::Empty));
+}
+
+/// Under the first sheet all is well; the second has a rule too many, the third none.
+#[test]
+fn explanations() {
+    let both_ways = [Rule::left(0, 0), Rule::right(0, 0)];
+    writes(&[0], |out| explain_into(2, &SHEET_A, out));
+    writes(&[4, 0x80, 0, 0x81, 0, 0x82], |out| explain_rules_into(1, &[INFIX], &both_ways, out));
+    let double = [5, 0x80, 0, 0x81, 0, 0x82, 0, 0x80, 0, 0x81, 0x82, 0, 0, 0x80, 0x81, 0x82];
+    writes(&double, |out| explain_into(1, &[INFIX], out));
+    let explanation = explain(1, &[INFIX]).unwrap();
+    assert_eq!((explanation.verdict(), explanation.row()), (Err(Refusal::Double), &double[1..6]));
+    assert_eq!(explanation.records(), Some([&double[6..11], &double[11..]]));
+    assert_eq!(explain_rules(1, &[INFIX], &[]), Ok(explanation));
+    assert_eq!(explain(1, &[INFIX, 2]), Err(Refusal::Torn));
 }
 
 /// The reply stands at the front of the output, which is otherwise as it was.
