@@ -48,8 +48,9 @@ uint8_t tihvomen_stage(uint32_t *stage, uint32_t n, const uint8_t *kinds_and_rul
 uint8_t tihvomen_stage_rules(
     uint32_t *stage, uint32_t n, const uint8_t *kinds, size_t, const struct panel_rule *rules, size_t);
 struct panel_raw_answer tihvomen_explain(uint32_t n, const uint8_t *kinds_and_rules, size_t, uint8_t *out, size_t);
+/* Unlike a staging it takes the rules as their bytes, three each, and the number of these. */
 struct panel_raw_answer tihvomen_explain_rules(
-    uint32_t n, const uint8_t *kinds, size_t, const struct panel_rule *rules, size_t, uint8_t *out, size_t);
+    uint32_t n, const uint8_t *kinds, size_t, const uint8_t *rules, size_t, uint8_t *out, size_t);
 uint8_t tihvomen_switch(uint32_t *sheet, uint32_t *stage, uint8_t *places);
 uint8_t tihvomen_put_row(const uint32_t *sheet, uint8_t *places, uint32_t place, const uint8_t *row, size_t);
 uint8_t tihvomen_put_record(const uint32_t *sheet, uint8_t *places, uint32_t place, const uint8_t *record, size_t);

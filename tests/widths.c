@@ -106,6 +106,11 @@ static void check_lines(void) {
     CHECK(panel_reply(&p, line, PANEL_MOST_LINE + 1, reply) == 2 && memcmp(reply, "01", 2) == 0);
 }
 
+/* A list of rules is lent as the bytes of its rules. */
+static void check_rules(void) {
+    CHECK(sizeof(struct panel_rule) == 3);
+}
+
 static void check_version(void) {
     char text[32];
     snprintf(text, sizeof text, "%d.%d.%d", PANEL_VERSION_MAJOR, PANEL_VERSION_MINOR, PANEL_VERSION_PATCH);
@@ -119,6 +124,7 @@ int main(void) {
     check_operators();
     check_sides();
     check_lines();
+    check_rules();
     check_version();
     return failures != 0;
 }

@@ -7,6 +7,7 @@ mod exports;
 
 use crate::rule::Rule;
 use crate::sizes::{MOST_REPLY, SHEET_WORDS, STORE_BYTES};
+use core::mem::size_of_val;
 
 /// A sheet, in force or staged. All zero is the fresh panel's; what the words mean is known to the library alone.
 pub type Sheet = [u32; SHEET_WORDS];
@@ -71,14 +72,15 @@ pub fn explain(n: u8, bytes: &[u8], out: &mut [u8]) -> Answer {
 
 #[inline]
 pub fn explain_rules(n: u8, kinds: &[u8], rules: &[Rule], out: &mut [u8]) -> Answer {
-    // SAFETY: `kinds` and `rules` are read and `out` is written within their lengths; `out` does not overlap the others.
+    // SAFETY: a rule is laid out as its three bytes. `kinds` and the bytes of `rules` are read and `out` is written within their
+    // lengths; `out` does not overlap the others.
     unsafe {
         exports::tihvomen_explain_rules(
             n.into(),
             kinds.as_ptr(),
             kinds.len(),
-            rules.as_ptr(),
-            rules.len(),
+            rules.as_ptr().cast(),
+            size_of_val(rules),
             out.as_mut_ptr(),
             out.len(),
         )

@@ -19,8 +19,8 @@ extern "C" {
         n: u32,
         kinds: *const u8,
         kind_count: usize,
-        rules: *const Rule,
-        count: usize,
+        rule_bytes: *const u8,
+        rule_length: usize,
         out: *mut u8,
         room: usize,
     ) -> Answer;
