@@ -98,14 +98,14 @@ module _ (line room : List ℕ) {after : List ℕ} {d : Decoded} (reads : Decode
   answered : d ≡ answerOf (isText line) (bytesOf line)
   answered = reads .answer ∙ ap (answerOf (isText line)) within
 
-  unread : not (d .ok) ≡ true → bytesOf line ≡ none
+  pub unread : not (d .ok) ≡ true → bytesOf line ≡ none
   unread n = go (bytesOf line) answered
     where
       go : (o : Option (List ℕ)) → d ≡ answerOf (isText line) o → o ≡ none
       go none e = refl
       go (some bytes) e = absurd (true≢false (sym n ∙ ap (λ (x : Decoded). not (x .ok)) e))
 
-  read : not (d .ok) ≡ false → bytesOf line ≡ some (take (d .length - 0) after)
+  pub read : not (d .ok) ≡ false → bytesOf line ≡ some (take (d .length - 0) after)
   read n = go (bytesOf line) answered (reads .output ∙ ap (λ o. outputOf o room) within)
     where
       go : (o : Option (List ℕ)) → d ≡ answerOf (isText line) o → after ≡ outputOf o room → o ≡ some (take (d .length - 0) after)

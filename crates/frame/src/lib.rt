@@ -16,7 +16,7 @@ mod kinds;
 pub mod limits;
 
 // A number and an answer as text, at the front of the output; the length of the text.
-fn write_reply(number: u8, answer: &[u8], out: &mut [u8]) -> usize
+pub fn write_reply(number: u8, answer: &[u8], out: &mut [u8]) -> usize
     requires { ⌜ (mostReply ≤ length (now out)) × (length (now answer) ≤ mostAnswer) ⌝ }
     ensures { λ r. ⌜ Writes number (now (answer .entry)) (now (out .entry)) (now (out .exit)) r ⌝ }
 {
@@ -29,7 +29,7 @@ fn write_reply(number: u8, answer: &[u8], out: &mut [u8]) -> usize
 }
 
 // A number alone.
-fn write_number(number: u8, out: &mut [u8]) -> usize
+pub fn write_number(number: u8, out: &mut [u8]) -> usize
     requires { ⌜ mostReply ≤ length (now out) ⌝ }
     ensures { λ r. ⌜ Writes number [] (now (out .entry)) (now (out .exit)) r ⌝ }
 {
