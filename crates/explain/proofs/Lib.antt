@@ -1,0 +1,5 @@
+pub mod Longest
+pub mod ReplyWays
+pub mod LineWays
+pub mod ReadWays
+pub mod Laws
