@@ -32,7 +32,8 @@ PANEL_NODISCARD static inline struct panel_answer panel_explain_rules(
     unsigned n, const uint8_t *kinds, size_t kind_count, const struct panel_rule *rules, size_t rule_count, uint8_t *out,
     size_t room) {
     uint8_t spare = 0;
-    size_t rule_bytes = rule_count * sizeof *rules;
+    /* Too many rules are refused before any is read, whatever their number. */
+    size_t rule_bytes = (rule_count > PANEL_MOST_RULES ? PANEL_MOST_RULES + 1 : rule_count) * sizeof *rules;
     const uint8_t *from = panel_from((const uint8_t *)rules, rule_bytes);
     return panel_answered(tihvomen_explain_rules(
         n, panel_from(kinds, kind_count), kind_count, from, rule_bytes, panel_into(out, room, &spare), room));

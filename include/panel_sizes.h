@@ -4,8 +4,8 @@
 
 #define PANEL_VERSION_MAJOR 0
 #define PANEL_VERSION_MINOR 2
-#define PANEL_VERSION_PATCH 2
-#define PANEL_VERSION "0.2.2"
+#define PANEL_VERSION_PATCH 3
+#define PANEL_VERSION "0.2.3"
 
 /* Tokens. The operators are 00 to 1F, the readings PANEL_FIRST_READING to FF. */
 enum {

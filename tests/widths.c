@@ -106,9 +106,14 @@ static void check_lines(void) {
     CHECK(panel_reply(&p, line, PANEL_MOST_LINE + 1, reply) == 2 && memcmp(reply, "01", 2) == 0);
 }
 
-/* A list of rules is lent as the bytes of its rules. */
+/* A list of rules is lent as the bytes of its rules. A number of rules that their bytes would overflow is too many. */
 static void check_rules(void) {
+    static const struct panel_rule rule = {PANEL_LEFT, 0, 0};
+    static const uint8_t kind = PANEL_INFIX;
     CHECK(sizeof(struct panel_rule) == 3);
+    CHECK(untouched(panel_explain_rules(1, &kind, 1, &rule, PANEL_MOST_RULES + 1, out, sizeof out), PANEL_OVERSIZE, out, sizeof out));
+    CHECK(untouched(panel_explain_rules(1, &kind, 1, &rule, SIZE_MAX / 3 + 2, out, sizeof out), PANEL_OVERSIZE, out, sizeof out));
+    CHECK(untouched(panel_explain_rules(1, &kind, 1, &rule, SIZE_MAX, out, sizeof out), PANEL_OVERSIZE, out, sizeof out));
 }
 
 static void check_version(void) {
