@@ -46,14 +46,13 @@ module _ (n : ℕ) (bytes out later : List ℕ) (r : Answer) (k : Explains n byt
       → (w : Witness) × Shown (operatorsIn n bytes) (rulesIn n bytes) w × AsLong w × (length (told w) ≤ mostExplained) × AnswersBy (told w) out later r
   unfolding explained
   explains-witness order room =
-      let (short, long) = witness-brief (operatorsIn n bytes) (L (rulesIn n bytes)) (R (rulesIn n bytes)) in
-      (
+      let (short, long) = witness-brief (operatorsIn n bytes) (L (rulesIn n bytes)) (R (rulesIn n bytes)) in (
         witnessOf (operatorsIn n bytes) (rulesIn n bytes),
         witness-shown (operatorsIn n bytes) (rulesIn n bytes) (ordered n bytes order .few),
         long,
         short,
         given (orderChecks n bytes) (witnessOf (operatorsIn n bytes) (rulesIn n bytes)) out later r order (order-numbered n bytes)
-        (witness-brief (operatorsIn n bytes) (L (rulesIn n bytes)) (R (rulesIn n bytes))) room k,
+            (witness-brief (operatorsIn n bytes) (L (rulesIn n bytes)) (R (rulesIn n bytes))) room k,
       )
 
 -- as lists
@@ -68,8 +67,7 @@ module _ (n : ℕ) (kinds : List ℕ) (rules : List Rule) (out later : List ℕ)
       → (w : Witness) × Shown (operators n kinds) rules w × AsLong w × (length (told w) ≤ mostExplained) × AnswersBy (told w) out later r
   unfolding explainedList
   list-explains-witness order room =
-      let (short, long) = witness-brief (operators n kinds) (L rules) (R rules) in
-      (
+      let (short, long) = witness-brief (operators n kinds) (L rules) (R rules) in (
         witnessOf (operators n kinds) rules,
         witness-shown (operators n kinds) rules (few order),
         long,
