@@ -9,10 +9,9 @@ use Rattle.expression.specs.Tree.{Tree, yield, Over}
 use Rattle.expression.proofs.Classes.{Brackets}
 use Rattle.disambiguation.specs.Conflicts.{conflicts}
 use Rattle.disambiguation.specs.Witness.{firstOverPair, lastOverPair, firstOverTriple, lastOverTriple}
-use Rattle.disambiguation.proofs.Free.{is-false, Free, free-of-count, count-of-free}
+use Rattle.disambiguation.proofs.Free.{is-false, is-true, Free, free-of-count, count-of-free}
 use Rattle.disambiguation.proofs.Conditions.{waits, takes, Safe}
-use Rattle.disambiguation.proofs.Follows.{Follows}
-use Rattle.disambiguation.proofs.FewOperators.{operators, always, one-of-two}
+use Rattle.disambiguation.proofs.FewOperators.{one-of-two}
 
 module _ (L R : ℕ → ℕ → Bool) (k : ℕ → Class) where
   -- a tree of whose row no tree is conflict-free
@@ -39,16 +38,6 @@ module _ (L R : ℕ → ℕ → Bool) (k : ℕ → Class) where
         different = λ q. let z = d q in omega arith;
       }
 
-  -- Of a row with two operators at most there are no other trees than the two that show a conflict.
-  none-like : Brackets k → (u v : Tree) → Over k u → Over k v → yield u ≡ yield v → operators u < 3 → Follows (always false) u → Follows (always true) v
-      → (Free L R u → ⊥) → (Free L R v → ⊥) → NoneLike u
-  none-like brackets u v hu hv e few fu fv nu nv =
-      (hu, λ t ht q c. go t (free-of-count L R t c) (one-of-two k brackets u v hu hv e few fu fv t ht q))
-    where
-      go : (t : Tree) → Free L R t → (t ≡ u) ⊎ (t ≡ v) → ⊥
-      go t f (inl e) = nu (rw e at f)
-      go t f (inr e) = nv (rw e at f)
-
   -- The bytes of readings are readings; a is prefix, or infix, as told.
   module _ (reads : (c : ℕ) → firstReading ≤ c → c ≤ lastReading → k c ≡ Reading) where
     x : k 0x80 ≡ Reading
@@ -63,23 +52,86 @@ module _ (L R : ℕ → ℕ → Bool) (k : ℕ → Class) where
     w : k 0x83 ≡ Reading
     w = reads 0x83 (omega arith) (omega arith)
 
-    -- x a y b z, where each of a and b excludes the other below it. Nothing stands before a prefix operator.
-    pub not-safe : Brackets k → (p : Bool) (a b : ℕ) → k a ≡ cond p Prefix Infix → k b ≡ Infix → R a b ≡ true → L b a ≡ true → NoneLike (firstOverPair p a b)
-    not-safe brackets false a b ha hb r l =
-        none-like brackets (firstOverPair false a b) (lastOverPair false a b) (ha, x, (hb, y, z)) (hb, (ha, x, y), z) refl (omega arith)
-        (tt, (refl, tt), tt, (tt, tt, tt, tt)) ((refl, tt), tt, (tt, tt, tt, tt), tt) (λ f. true≢false (sym r ∙ f .1 .0)) (λ f. true≢false (sym l ∙ f .0 .0))
-    not-safe brackets true a b ha hb r l =
-        none-like brackets (firstOverPair true a b) (lastOverPair true a b) (ha, (hb, x, y)) (hb, (ha, x), y) refl (omega arith)
-        ((refl, tt), (tt, tt, tt, tt)) ((refl, tt), tt, (tt, tt), tt) (λ f. true≢false (sym r ∙ f .0 .0)) (λ f. true≢false (sym l ∙ f .0 .0))
+    -- x a y b z: its two trees. Nothing stands before a prefix operator.
+    module _ (a b : ℕ) (hb : k b ≡ Infix) where
+      pub first-over : (p : Bool) → k a ≡ cond p Prefix Infix → Over k (firstOverPair p a b)
+      first-over false ha = (ha, x, (hb, y, z))
+      first-over true ha = (ha, (hb, x, y))
 
-    -- the same row, where neither does
-    pub not-total : (p : Bool) (a b : ℕ) → k a ≡ cond p Prefix Infix → k b ≡ Infix → R a b ≡ false → L b a ≡ false → Twins (firstOverPair p a b) (lastOverPair p a b)
-    not-total false a b ha hb r l =
-        twins (firstOverPair false a b) (lastOverPair false a b) (ha, x, (hb, y, z)) (hb, (ha, x, y), z) refl
-        (tt, (r, tt), tt, (tt, tt, tt, tt)) ((l, tt), tt, (tt, tt, tt, tt), tt) (λ e. cc)
-    not-total true a b ha hb r l =
-        twins (firstOverPair true a b) (lastOverPair true a b) (ha, (hb, x, y)) (hb, (ha, x), y) refl
-        ((r, tt), (tt, tt, tt, tt)) ((l, tt), tt, (tt, tt), tt) (λ e. cc)
+      last-over : (p : Bool) → k a ≡ cond p Prefix Infix → Over k (lastOverPair p a b)
+      last-over false ha = (hb, (ha, x, y), z)
+      last-over true ha = (hb, (ha, x), y)
+
+      one-row : (p : Bool) → yield (lastOverPair p a b) ≡ yield (firstOverPair p a b)
+      one-row false = refl
+      one-row true = refl
+
+      -- the first is conflict-free exactly if a does not exclude b below it, the last if b does not exclude a
+      first-free : (p : Bool) → R a b ≡ false → Free L R (firstOverPair p a b)
+      first-free false r = (tt, (r, tt), tt, (tt, tt, tt, tt))
+      first-free true r = ((r, tt), (tt, tt, tt, tt))
+
+      first-allows : (p : Bool) → Free L R (firstOverPair p a b) → R a b ≡ false
+      first-allows false f = f .1 .0
+      first-allows true f = f .0 .0
+
+      last-free : (p : Bool) → L b a ≡ false → Free L R (lastOverPair p a b)
+      last-free false l = ((l, tt), tt, (tt, tt, tt, tt), tt)
+      last-free true l = ((l, tt), tt, (tt, tt), tt)
+
+      last-allows : (p : Bool) → Free L R (lastOverPair p a b) → L b a ≡ false
+      last-allows false f = f .0 .0
+      last-allows true f = f .0 .0
+
+      -- and the row has no third
+      no-third : Brackets k → (p : Bool) → k a ≡ cond p Prefix Infix → (t : Tree) → Over k t → yield t ≡ yield (firstOverPair p a b)
+          → (t ≡ firstOverPair p a b) ⊎ (t ≡ lastOverPair p a b)
+      no-third brackets false ha =
+          one-of-two k brackets (firstOverPair false a b) (lastOverPair false a b) (first-over false ha) (last-over false ha) refl (omega arith)
+          (tt, (refl, tt), tt, (tt, tt, tt, tt)) ((refl, tt), tt, (tt, tt, tt, tt), tt)
+      no-third brackets true ha =
+          one-of-two k brackets (firstOverPair true a b) (lastOverPair true a b) (first-over true ha) (last-over true ha) refl (omega arith)
+          ((refl, tt), (tt, tt, tt, tt)) ((refl, tt), tt, (tt, tt), tt)
+
+      -- where each of a and b excludes the other below it, none is conflict-free
+      pub not-safe : Brackets k → (p : Bool) → k a ≡ cond p Prefix Infix → R a b ≡ true → L b a ≡ true → NoneLike (firstOverPair p a b)
+      not-safe brackets p ha r l = (first-over p ha, λ t ht q c. go t (free-of-count L R t c) (no-third brackets p ha t ht q))
+        where
+          go : (t : Tree) → Free L R t → (t ≡ firstOverPair p a b) ⊎ (t ≡ lastOverPair p a b) → ⊥
+          go t f (inl e) = true≢false (sym r ∙ first-allows p (rw e at f))
+          go t f (inr e) = true≢false (sym l ∙ last-allows p (rw e at f))
+
+      -- where neither does, both are
+      pub not-total : (p : Bool) → k a ≡ cond p Prefix Infix → R a b ≡ false → L b a ≡ false → Twins (firstOverPair p a b) (lastOverPair p a b)
+      not-total p ha r l =
+          twins (firstOverPair p a b) (lastOverPair p a b) (first-over p ha) (last-over p ha) (one-row p) (first-free p r) (last-free p l) (differ p)
+        where
+          differ : (p : Bool) → firstOverPair p a b ≡ lastOverPair p a b → _≡_ {A = ℕ} 0 1
+          differ false e = cc
+          differ true e = cc
+
+      -- and only then
+      pub only-unsafe : Brackets k → (p : Bool) → k a ≡ cond p Prefix Infix → NoneLike (firstOverPair p a b) → (R a b ≡ true) × (L b a ≡ true)
+      only-unsafe brackets p ha (_, none) = (
+        is-true (R a b) (λ r. none (firstOverPair p a b) (first-over p ha) refl (count-of-free L R (firstOverPair p a b) (first-free p r))),
+        is-true (L b a) (λ l. none (lastOverPair p a b) (last-over p ha) (one-row p) (count-of-free L R (lastOverPair p a b) (last-free p l))),
+      )
+
+      pub only-untotal : Brackets k → (p : Bool) → k a ≡ cond p Prefix Infix → (t u : Tree) → Over k t → Over k u → yield t ≡ yield (firstOverPair p a b)
+          → yield u ≡ yield (firstOverPair p a b) → conflicts L R t ≡ 0 → conflicts L R u ≡ 0 → (t ≡ u → ⊥) → (R a b ≡ false) × (L b a ≡ false)
+      only-untotal brackets p ha t u ht hu q s c d n =
+          go (free-of-count L R t c) (free-of-count L R u d) (no-third brackets p ha t ht q) (no-third brackets p ha u hu s)
+        where
+          go : Free L R t → Free L R u → (t ≡ firstOverPair p a b) ⊎ (t ≡ lastOverPair p a b) → (u ≡ firstOverPair p a b) ⊎ (u ≡ lastOverPair p a b)
+              → (R a b ≡ false) × (L b a ≡ false)
+          go f g (inl e) (inl h) = absurd (n (e ∙ sym h))
+          go f g (inl e) (inr h) = (first-allows p (rw e at f), last-allows p (rw h at g))
+          go f g (inr e) (inl h) = (first-allows p (rw h at g), last-allows p (rw e at f))
+          go f g (inr e) (inr h) = absurd (n (e ∙ sym h))
+
+    pub three-over : (a b c : ℕ) → k b ≡ Infix → k c ≡ Infix → (p : Bool) → k a ≡ cond p Prefix Infix → Over k (firstOverTriple p a true b c)
+    three-over a b c hb hc false ha = (ha, x, (hc, (hb, y, z), w))
+    three-over a b c hb hc true ha = (ha, (hc, (hb, x, y), z))
 
     module _ (safe : Safe L R k) (a b c : ℕ) (hb : k b ≡ Infix) (hc : k c ≡ Infix) where
       keeps : (a b : ℕ) → waits (k a) ≡ true → k b ≡ Infix → R a b ≡ true → L b a ≡ false

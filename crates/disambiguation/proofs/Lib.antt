@@ -2,6 +2,7 @@ pub mod Free
 pub mod Conditions
 pub mod LeftToRight
 pub mod Follows
+pub mod InTurn
 pub mod Unique
 pub mod MachineInvariant
 pub mod MakesTree
@@ -17,6 +18,7 @@ pub mod TestsDecide
 pub mod Witnesses
 pub mod VerdictDecides
 pub mod Shown
+pub mod RowsDecided
 pub mod SheetNumbers
 pub mod RuleBytes
 pub mod Agreement

@@ -80,29 +80,30 @@ module _ (ops : Operators) (L R : ℕ → ℕ → Bool) where
     none-of : (a b : ℕ) → a < ops .count → b < ops .count → bothExclude ops L R a b ≡ true → safe ops L R ≡ false → Shows (noneOf ops a b)
     none-of a b ha hb e s =
         let (i, r, l) = both-exclude ops small L R a b hb e in
-        (s, not-safe L R (class ops) (class-reading ops) (brackets ops) (not (comes ops a)) a b (is-left ops small a ha) i r l)
+        (s, not-safe L R (class ops) (class-reading ops) a b i (brackets ops) (not (comes ops a)) (is-left ops small a ha) r l)
+
+    pub uneven-twins : safe ops L R ≡ true → (a b c : ℕ) → a < ops .count → class ops b ≡ Infix → class ops c ≡ Infix → Uneven R a b c
+        → Twins L R (class ops) (firstOverTriple (not (comes ops a)) a (R a b) b c) (lastOverTriple (not (comes ops a)) a (R a b) b c)
+    uneven-twins s a b c ha i k u = go (R a b) refl u
+      where
+        go : (x : Bool) → R a b ≡ x → Uneven R a b c → Twins L R (class ops) (firstOverTriple (not (comes ops a)) a x b c) (lastOverTriple (not (comes ops a)) a x b c)
+        go true h (inl (p, q, r)) =
+            not-transitive L R (class ops) (class-reading ops) (safe-safe ops L R s) a b c i k (not (comes ops a)) (is-left ops small a ha) p q r
+        go true h (inr (p, q, r)) = absurd (true≢false (sym h ∙ p))
+        go false h (inl (p, q, r)) = absurd (true≢false (sym p ∙ h))
+        go false h (inr (p, q, r)) =
+            not-cotransitive L R (class ops) (class-reading ops) (safe-safe ops L R s) a b c i k (not (comes ops a)) (is-left ops small a ha) p q r
 
     module _ (s : safe ops L R ≡ true) (f : (total ops L R && level ops R) ≡ false) where
       two-of : (a b : ℕ) → a < ops .count → b < ops .count → noneExcludes ops L R a b ≡ true → Shows (twoOf ops a b)
       two-of a b ha hb e =
           let (i, r, l) = none-excludes ops small L R a b hb e in
-          (s, f, not-total L R (class ops) (class-reading ops) (not (comes ops a)) a b (is-left ops small a ha) i r l)
+          (s, f, not-total L R (class ops) (class-reading ops) a b i (not (comes ops a)) (is-left ops small a ha) r l)
 
       two-of-three : (a b : ℕ) → a < ops .count → b < ops .count → unevenPair ops R a b ≡ true → Shows (twoOfUneven ops R a b)
-      two-of-three a b ha hb e = (s, f, at (firstThird ops R a b) (first-below (ops .count) (uneven ops R a b) e) (first-holds (ops .count) (uneven ops R a b) e))
-        where
-          go : (c : ℕ) (x : Bool) → R a b ≡ x → class ops b ≡ Infix → class ops c ≡ Infix → Uneven R a b c
-              → Twins L R (class ops) (firstOverTriple (not (comes ops a)) a x b c) (lastOverTriple (not (comes ops a)) a x b c)
-          go c true h i k (inl (p, q, r)) =
-              not-transitive L R (class ops) (class-reading ops) (safe-safe ops L R s) a b c i k (not (comes ops a)) (is-left ops small a ha) p q r
-          go c true h i k (inr (p, q, r)) = absurd (true≢false (sym h ∙ p))
-          go c false h i k (inl (p, q, r)) = absurd (true≢false (sym p ∙ h))
-          go c false h i k (inr (p, q, r)) =
-              not-cotransitive L R (class ops) (class-reading ops) (safe-safe ops L R s) a b c i k (not (comes ops a)) (is-left ops small a ha) p q r
-
-          at : (c : ℕ) → c < ops .count → uneven ops R a b c ≡ true
-              → Twins L R (class ops) (firstOverTriple (not (comes ops a)) a (R a b) b c) (lastOverTriple (not (comes ops a)) a (R a b) b c)
-          at c hc t = let (i, k, u) = is-uneven ops small L R a b hb c hc t in go c (R a b) refl i k u
+      two-of-three a b ha hb e =
+          let (i, k, u) = is-uneven ops small L R a b hb (firstThird ops R a b) (first-below (ops .count) (uneven ops R a b) e) (first-holds (ops .count) (uneven ops R a b) e) in
+          (s, f, uneven-twins s a b (firstThird ops R a b) ha i k u)
 
     pub shows : Shows (witness ops L R)
     unfolding witness ofTriples

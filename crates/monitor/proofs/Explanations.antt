@@ -8,8 +8,9 @@ use Rattle.expression.proofs.Numbers.{passed-first, first-append, first-refused
 use Rattle.disambiguation.specs.Rules.{Rule, L, R}
 use Rattle.disambiguation.specs.Verdict.{ruleChecks, verdict}
 use Rattle.disambiguation.specs.SheetChecks.{rulesIn, operatorsIn, orderChecks, InOrder, sheetNumber, listOrderChecks, ListInOrder, listNumber}
-use Rattle.sheet.proofs.Ordered.{order-numbered}
-use Rattle.witness.proofs.Promised.{explains-refused, explains-witness, list-numbered, list-explains-refused, list-explains-witness}
+use Rattle.disambiguation.proofs.RowsDecided.{rows-decided}
+use Rattle.sheet.proofs.Ordered.{order-numbered, ordered}
+use Rattle.witness.proofs.Promised.{explains-refused, explains-witness, list-numbered, list-few, list-explains-refused, list-explains-witness}
 use Rattle.monitor.specs.Call.{Call}
 use Rattle.monitor.specs.Promises.{Explanations}
 
@@ -40,6 +41,8 @@ explanations cs =
       refused-alike-list = λ m kinds given out later r k h. list-explains-refused m kinds given out later r k h ∙ sym (list-by-order m kinds given h);
       explained = explains-witness;
       explained-list = list-explains-witness;
+      first-row = λ m bytes h. rows-decided (operatorsIn m bytes) (rulesIn m bytes) (ordered m bytes h .few);
+      first-row-list = λ m kinds given h. rows-decided (operators m kinds) given (list-few m kinds given h);
       as-staged = by-verdict;
       as-staged-list = list-by-verdict;
     }

@@ -20,7 +20,7 @@ use Rattle.disambiguation.specs.ExactlyOne.{SomeRowHasNone, SomeRowHasTwo, Ever
 use Rattle.disambiguation.specs.LeftToRight.{finish}
 use Rattle.disambiguation.specs.Verdict.{verdict}
 use Rattle.disambiguation.specs.Witness.{Witness, told}
-use Rattle.disambiguation.specs.Shown.{Shown, AsLong}
+use Rattle.disambiguation.specs.Shown.{Shown, AsLong, RowsDecided}
 use Rattle.disambiguation.specs.Powers.{leftPower, rightPower, Ladder}
 use Rattle.disambiguation.specs.ByPowers.{readByPowers}
 use Rattle.disambiguation.specs.SheetChecks.{rulesIn, operatorsIn, InOrder, ListInOrder}
@@ -185,6 +185,9 @@ module _ (cs : List Call) where
         → (w : Witness) × Shown (operatorsIn m bytes) (rulesIn m bytes) w × AsLong w × (length (told w) ≤ mostExplained) × AnswersBy (told w) out later r
     pub explained-list : (m : ℕ) (kinds : List ℕ) (given : List Rule) (out later : List ℕ) (r : Answer) → ExplainsList m kinds given out later r → ListInOrder m kinds given → mostExplained ≤ length out
         → (w : Witness) × Shown (operators m kinds) given w × AsLong w × (length (told w) ≤ mostExplained) × AnswersBy (told w) out later r
+    -- The witness is that of the first operators of a test, and the tests hold of those whose rows have no conflict-free tree, or two: so it is the first row that has.
+    pub first-row : (m : ℕ) (bytes : List ℕ) → InOrder m bytes → RowsDecided (operatorsIn m bytes) (rulesIn m bytes)
+    pub first-row-list : (m : ℕ) (kinds : List ℕ) (given : List Rule) → ListInOrder m kinds given → RowsDecided (operators m kinds) given
     -- This verdict is the number of the staging.
     pub as-staged : (m : ℕ) (bytes : List ℕ) → InOrder m bytes → answer cs (stage m bytes) .number ≡ verdict (operatorsIn m bytes) (rulesIn m bytes)
     pub as-staged-list : (m : ℕ) (kinds : List ℕ) (given : List Rule) → ListInOrder m kinds given → answer cs (stageList m kinds given) .number ≡ verdict (operators m kinds) given

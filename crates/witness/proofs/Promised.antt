@@ -59,6 +59,9 @@ module _ (n : ℕ) (bytes out later : List ℕ) (r : Answer) (k : Explains n byt
 pub list-numbered : (n : ℕ) (kinds : List ℕ) (rules : List Rule) → Numbered (listOrderChecks n kinds rules)
 list-numbered n kinds rules = ((λ e. omega arith), ((λ e. omega arith), ((λ e. omega arith), tt)))
 
+pub list-few : (n : ℕ) (kinds : List ℕ) (rules : List Rule) → ListInOrder n kinds rules → n ≤ mostOperators
+list-few n kinds rules (size, _) = ltb-false mostOperators n (both-false (ltb mostOperators n) (ltb mostRules (length rules)) size .0)
+
 module _ (n : ℕ) (kinds : List ℕ) (rules : List Rule) (out later : List ℕ) (r : Answer) (k : ExplainsList n kinds rules out later r) where
   pub list-explains-refused : (ListInOrder n kinds rules → ⊥) → r .number ≡ first (listOrderChecks n kinds rules)
   list-explains-refused h = refused (listOrderChecks n kinds rules) (explainedList n kinds rules) out later r (list-numbered n kinds rules) h k
@@ -69,11 +72,8 @@ module _ (n : ℕ) (kinds : List ℕ) (rules : List Rule) (out later : List ℕ)
   list-explains-witness order room =
       let (short, long) = witness-brief (operators n kinds) (L rules) (R rules) in (
         witnessOf (operators n kinds) rules,
-        witness-shown (operators n kinds) rules (few order),
+        witness-shown (operators n kinds) rules (list-few n kinds rules order),
         long,
         short,
         given (listOrderChecks n kinds rules) (witnessOf (operators n kinds) rules) out later r order (list-numbered n kinds rules) (witness-brief (operators n kinds) (L rules) (R rules)) room k,
       )
-    where
-      few : ListInOrder n kinds rules → n ≤ mostOperators
-      few (size, _) = ltb-false mostOperators n (both-false (ltb mostOperators n) (ltb mostRules (length rules)) size .0)
