@@ -1,4 +1,4 @@
--- Why a sheet is refused: the number and the answer of the question (docs/REFERENCE.md, section 10). Assumes nothing.
+-- Why a sheet is refused: the number and the answer of the question (docs/REFERENCE.md, section 13). Assumes nothing.
 use Prim.Native.Nat.{ℕ, _+_}
 use mathlib.Core.Path.{_≡_}
 use mathlib.Core.Bool.{not, _||_}
