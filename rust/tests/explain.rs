@@ -1,4 +1,7 @@
 //! Why sheets are refused, worked out by hand: the first row that shows it, its trees, and the numbers in their order.
+mod lent;
+
+use lent::lent;
 use tihvomen::{
     explain, explain_into, explain_rules, explain_rules_into, Panel, Refusal, Rule, MOST_EXPLAINED, MOST_OPERATORS,
     MOST_RULES,
@@ -102,18 +105,6 @@ fn worked_out_by_hand() {
         assert!(parts.iter().all(|part| part.len() == explanation.row().len()));
         assert_eq!(parts.concat(), answer[1..]);
     }
-}
-
-/// What a call writes into a lent output of that room, which lies between bytes that must not change.
-fn lent(room: usize, call: impl Fn(&mut [u8]) -> Result<usize, Refusal>) -> Result<Vec<u8>, Refusal> {
-    const BEFORE: u8 = 0x5a;
-    let mut bytes = vec![BEFORE; room + 8];
-    let result = call(&mut bytes[4..4 + room]);
-    let length = result.unwrap_or(0);
-    let written = bytes[4..4 + length].to_vec();
-    bytes[4..4 + length].fill(BEFORE);
-    assert_eq!(bytes, vec![BEFORE; room + 8], "bytes outside the answer were written");
-    result.map(|_| written)
 }
 
 /// The answer fits from its own length on; with less room it is 10.

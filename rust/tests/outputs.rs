@@ -2,26 +2,16 @@
 //!
 //! "10: lent output shorter than the answer", after the row's or record's own numbers. "After a refusal, output buffers and panel
 //! are untouched. After success, output past the answer's length is untouched."
-use tihvomen::{Panel, Refusal};
+mod lent;
 
-const BEFORE: u8 = 0x5a;
+use lent::lent;
+use tihvomen::{Panel, Refusal};
 
 fn panel_with_sheet_a() -> Panel {
     let mut panel = Panel::new();
     panel.stage(2, &[0, 0, 1, 1, 0, 2, 1, 1, 2, 0, 0]).unwrap();
     panel.switch().unwrap();
     panel
-}
-
-/// A call that is lent `room` bytes in the middle of some: its result, the answer, and all else as before.
-fn lent(room: usize, call: impl FnOnce(&mut [u8]) -> Result<usize, Refusal>) -> Result<Vec<u8>, Refusal> {
-    let mut bytes = vec![BEFORE; room + 8];
-    let result = call(&mut bytes[4..4 + room]);
-    let length = result.unwrap_or(0);
-    let answer = bytes[4..4 + length].to_vec();
-    bytes[4..4 + length].fill(BEFORE);
-    assert_eq!(bytes, vec![BEFORE; room + 8], "bytes outside the answer were written");
-    result.map(|_| answer)
 }
 
 /// The answer fits from its own length on, and nothing less.

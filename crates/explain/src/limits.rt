@@ -1,6 +1,6 @@
 // The lengths of the program's buffers, as in the specification's `Contracts`.
 use frame::limits;
-use witness::shapes::MOST_EXPLAINED;
+use witness::limits::MOST_EXPLAINED;
 
 // The bytes of a read.
 pub const BLOCK: usize = 1024;

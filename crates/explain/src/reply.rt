@@ -7,7 +7,7 @@ ghost use Rattle.explain.specs.Replies.{sheetBytes, frameBytes, lineByte
 ghost use Rattle.explain.specs.Contracts.{Says};
 use expression::refusal;
 use frame::limits;
-use witness::shapes::MOST_EXPLAINED;
+use witness::limits::MOST_EXPLAINED;
 
 // The kind of a frame that has a sheet.
 const SHEET: u8 = 1;

@@ -19,15 +19,14 @@ use Rattle.disambiguation.specs.Conflicts.{conflictCount, ConflictFreeTree}
 use Rattle.disambiguation.specs.ExactlyOne.{SomeRowHasNone, SomeRowHasTwo, EveryRowHasExactlyOne}
 use Rattle.disambiguation.specs.LeftToRight.{finish}
 use Rattle.disambiguation.specs.Verdict.{verdict}
-use Rattle.disambiguation.specs.Witness.{Witness, told}
-use Rattle.disambiguation.specs.Shown.{Shown, AsLong, RowsDecided}
+use Rattle.disambiguation.specs.Shown.{RowsDecided}
 use Rattle.disambiguation.specs.Powers.{leftPower, rightPower, Ladder}
 use Rattle.disambiguation.specs.ByPowers.{readByPowers}
 use Rattle.disambiguation.specs.SheetChecks.{rulesIn, operatorsIn, InOrder, ListInOrder}
 use Rattle.sheet.specs.InForce.{InForce}
 use Rattle.sheet.specs.BindingPowers.{given, notInfix, powersIn}
 use Rattle.record.specs.declared.Answer.{Answer}
-use Rattle.witness.specs.Explaining.{mostExplained, AnswersBy, Explains, ExplainsList}
+use Rattle.witness.specs.Explaining.{mostExplained, Explains, ExplainsList, ExplainedBy}
 use Rattle.parser.specs.FromTheLeft.{state, FromTheLeft}
 use Rattle.brackets.specs.SameMeaning.{OfInfix, ShortestRow}
 use Rattle.claims.specs.Claims.{Claimed}
@@ -179,12 +178,12 @@ module _ (cs : List Call) where
     pub refused-alike : (m : ℕ) (bytes out later : List ℕ) (r : Answer) → Explains m bytes out later r → (InOrder m bytes → ⊥) → r .number ≡ answer cs (stage m bytes) .number
     pub refused-alike-list : (m : ℕ) (kinds : List ℕ) (given : List Rule) (out later : List ℕ) (r : Answer) → ExplainsList m kinds given out later r
         → (ListInOrder m kinds given → ⊥) → r .number ≡ answer cs (stageList m kinds given) .number
-    -- Of one in order, with room for 22 bytes, it answers a witness in bytes, 22 at most, with both records as long as the row. The witness shows that the verdict is 0; or that it is
-    -- 4, by a row over the operators that has no conflict-free tree; or that it is 5, by a row and the different records of two conflict-free trees of it.
+    -- Of one in order, with room for 22 bytes, it answers the witness of the sheet's operators and rules. That shows that the verdict is 0; or that it is 4, by a row over the operators
+    -- that has no conflict-free tree; or that it is 5, by a row and the different records of two conflict-free trees of it.
     pub explained : (m : ℕ) (bytes out later : List ℕ) (r : Answer) → Explains m bytes out later r → InOrder m bytes → mostExplained ≤ length out
-        → (w : Witness) × Shown (operatorsIn m bytes) (rulesIn m bytes) w × AsLong w × (length (told w) ≤ mostExplained) × AnswersBy (told w) out later r
-    pub explained-list : (m : ℕ) (kinds : List ℕ) (given : List Rule) (out later : List ℕ) (r : Answer) → ExplainsList m kinds given out later r → ListInOrder m kinds given → mostExplained ≤ length out
-        → (w : Witness) × Shown (operators m kinds) given w × AsLong w × (length (told w) ≤ mostExplained) × AnswersBy (told w) out later r
+        → ExplainedBy (operatorsIn m bytes) (rulesIn m bytes) out later r
+    pub explained-list : (m : ℕ) (kinds : List ℕ) (given : List Rule) (out later : List ℕ) (r : Answer) → ExplainsList m kinds given out later r → ListInOrder m kinds given
+        → mostExplained ≤ length out → ExplainedBy (operators m kinds) given out later r
     -- The witness is that of the first operators of a test, and the tests hold of those whose rows have no conflict-free tree, or two: so it is the first row that has.
     pub first-row : (m : ℕ) (bytes : List ℕ) → InOrder m bytes → RowsDecided (operatorsIn m bytes) (rulesIn m bytes)
     pub first-row-list : (m : ℕ) (kinds : List ℕ) (given : List Rule) → ListInOrder m kinds given → RowsDecided (operators m kinds) given

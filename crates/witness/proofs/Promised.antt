@@ -10,27 +10,37 @@ use Rattle.expression.specs.Checks.{shortCheck}
 use Rattle.expression.specs.Lent.{outputAfter, lengthAfter}
 use Rattle.expression.specs.Refusal.{Check, Passed, first, accepted}
 use Rattle.expression.specs.Limits.{mostOperators, mostRules}
-use Rattle.expression.specs.Token.{operators}
+use Rattle.expression.specs.Token.{Operators, operators}
 use Rattle.expression.proofs.Numbers.{Numbered, first-passed, passed-first, first-refused, first-roomy}
 use Rattle.expression.proofs.Tests.{both-false}
 use Rattle.disambiguation.specs.Rules.{Rule, L, R}
 use Rattle.disambiguation.specs.SheetChecks.{rulesIn, operatorsIn, orderChecks, InOrder, listOrderChecks, ListInOrder}
-use Rattle.disambiguation.specs.Witness.{Witness, witnessOf, told}
-use Rattle.disambiguation.specs.Shown.{Shown, AsLong}
+use Rattle.disambiguation.specs.Witness.{witnessOf, told}
 use Rattle.disambiguation.proofs.Shown.{witness-shown}
 use Rattle.record.specs.declared.Answer.{Answer}
 use Rattle.sheet.proofs.Ordered.{order-numbered, ordered}
-use Rattle.witness.specs.Explaining.{mostExplained, AnswersWith, explained, Explains, explainedList, ExplainsList, AnswersBy}
+use Rattle.witness.specs.Explaining.{mostExplained, AnswersWith, explained, Explains, explainedList, ExplainsList, ExplainedBy}
 use Rattle.witness.proofs.Brief.{Brief, witness-brief}
 
--- checks that are passed, and an answer that is told, with room for every answer
-given : (order : List Check) (w : Witness) (out later : List ℕ) (r : Answer) → Passed order → Numbered order → Brief w → mostExplained ≤ length out
-    → AnswersWith order (told w) out later r → AnswersBy (told w) out later r
-given order w out later r passed numbered (brief, _) room k =
-    (zero, k .measured ∙ ap (λ n. lengthAfter n (told w)) zero, k .output ∙ ap (λ n. outputAfter n (told w) out) zero)
+-- checks that are passed, and the witness of the operators and rules as the answer, with room for every answer
+given : (order : List Check) (ops : Operators) (rules : List Rule) (out later : List ℕ) (r : Answer) → Passed order → Numbered order → ops .count ≤ mostOperators
+    → mostExplained ≤ length out → AnswersWith order (told (witnessOf ops rules)) out later r → ExplainedBy ops rules out later r
+given order ops rules out later r passed numbered few room k =
+    record {
+      answered = (zero, k .measured ∙ ap (λ n. lengthAfter n answer) zero, k .output ∙ ap (λ n. outputAfter n answer out) zero);
+      short = brief .0;
+      as-long = brief .1;
+      shown = witness-shown ops rules few;
+    }
   where
+    answer : List ℕ
+    answer = told (witnessOf ops rules)
+
+    brief : Brief (witnessOf ops rules)
+    brief = witness-brief ops (L rules) (R rules)
+
     zero : r .number ≡ accepted
-    zero = k .numbered ∙ first-roomy order (length (told w)) (length out) (first-passed order passed) numbered (omega (arith, brief))
+    zero = k .numbered ∙ first-roomy order (length answer) (length out) (first-passed order passed) numbered (omega (arith, brief .0))
 
 -- checks that are not passed
 refused : (order : List Check) (answer out later : List ℕ) (r : Answer) → Numbered order → (Passed order → ⊥) → AnswersWith order answer out later r → r .number ≡ first order
@@ -43,17 +53,10 @@ module _ (n : ℕ) (bytes out later : List ℕ) (r : Answer) (k : Explains n byt
   explains-refused h = refused (orderChecks n bytes) (explained n bytes) out later r (order-numbered n bytes) h k
 
   pub explains-witness : InOrder n bytes → mostExplained ≤ length out
-      → (w : Witness) × Shown (operatorsIn n bytes) (rulesIn n bytes) w × AsLong w × (length (told w) ≤ mostExplained) × AnswersBy (told w) out later r
+      → ExplainedBy (operatorsIn n bytes) (rulesIn n bytes) out later r
   unfolding explained
   explains-witness order room =
-      let (short, long) = witness-brief (operatorsIn n bytes) (L (rulesIn n bytes)) (R (rulesIn n bytes)) in (
-        witnessOf (operatorsIn n bytes) (rulesIn n bytes),
-        witness-shown (operatorsIn n bytes) (rulesIn n bytes) (ordered n bytes order .few),
-        long,
-        short,
-        given (orderChecks n bytes) (witnessOf (operatorsIn n bytes) (rulesIn n bytes)) out later r order (order-numbered n bytes)
-            (witness-brief (operatorsIn n bytes) (L (rulesIn n bytes)) (R (rulesIn n bytes))) room k,
-      )
+      given (orderChecks n bytes) (operatorsIn n bytes) (rulesIn n bytes) out later r order (order-numbered n bytes) (ordered n bytes order .few) room k
 
 -- as lists
 pub list-numbered : (n : ℕ) (kinds : List ℕ) (rules : List Rule) → Numbered (listOrderChecks n kinds rules)
@@ -67,13 +70,7 @@ module _ (n : ℕ) (kinds : List ℕ) (rules : List Rule) (out later : List ℕ)
   list-explains-refused h = refused (listOrderChecks n kinds rules) (explainedList n kinds rules) out later r (list-numbered n kinds rules) h k
 
   pub list-explains-witness : ListInOrder n kinds rules → mostExplained ≤ length out
-      → (w : Witness) × Shown (operators n kinds) rules w × AsLong w × (length (told w) ≤ mostExplained) × AnswersBy (told w) out later r
+      → ExplainedBy (operators n kinds) rules out later r
   unfolding explainedList
   list-explains-witness order room =
-      let (short, long) = witness-brief (operators n kinds) (L rules) (R rules) in (
-        witnessOf (operators n kinds) rules,
-        witness-shown (operators n kinds) rules (list-few n kinds rules order),
-        long,
-        short,
-        given (listOrderChecks n kinds rules) (witnessOf (operators n kinds) rules) out later r order (list-numbered n kinds rules) (witness-brief (operators n kinds) (L rules) (R rules)) room k,
-      )
+      given (listOrderChecks n kinds rules) (operators n kinds) rules out later r order (list-numbered n kinds rules) (list-few n kinds rules order) room k

@@ -1,5 +1,5 @@
 -- Why a sheet is refused: the number and the answer of the question (docs/REFERENCE.md, section 13). Assumes nothing.
-use Prim.Native.Nat.{ℕ, _+_}
+use Prim.Native.Nat.{ℕ, _+_, _≤_}
 use mathlib.Core.Path.{_≡_}
 use mathlib.Core.Bool.{not, _||_}
 use mathlib.Core.List.{List, [], _∷_, _++_}
@@ -9,10 +9,11 @@ use Rattle.expression.specs.Checks.{shortCheck}
 use Rattle.expression.specs.Lent.{outputAfter, lengthAfter}
 use Rattle.expression.specs.Limits.{mostOperators, mostRules}
 use Rattle.expression.specs.Refusal.{Check, first, accepted, oversize, torn}
-use Rattle.expression.specs.Token.{operators}
+use Rattle.expression.specs.Token.{Operators, operators}
 use Rattle.disambiguation.specs.Rules.{Rule}
 use Rattle.disambiguation.specs.SheetChecks.{rulesIn, operatorsIn, orderChecks, listOrderChecks}
 use Rattle.disambiguation.specs.Witness.{witnessOf, told}
+use Rattle.disambiguation.specs.Shown.{Shown, AsLong}
 use Rattle.record.specs.declared.Answer.{Answer}
 
 -- the bytes of the longest answer: the verdict, a row of seven tokens, two records of seven bytes
@@ -46,6 +47,13 @@ explainedList n kinds rules = told (witnessOf (operators n kinds) rules)
 
 abbrev pub ExplainsList : ℕ → List ℕ → List Rule → List ℕ → List ℕ → Answer → Type 0
 ExplainsList n kinds rules = AnswersWith (listOrderChecks n kinds rules) (explainedList n kinds rules)
+
+-- Of a sheet in order, by its operators and rules: the answer is their witness in bytes, 22 at most, with both records as long as the row, and it shows why the sheet is refused.
+pub record ExplainedBy (ops : Operators) (rules : List Rule) (before after : List ℕ) (r : Answer) : Type 0 where
+  pub answered : AnswersBy (told (witnessOf ops rules)) before after r
+  pub short : length (told (witnessOf ops rules)) ≤ mostExplained
+  pub as-long : AsLong (witnessOf ops rules)
+  pub shown : Shown ops rules (witnessOf ops rules)
 
 -- ---- inside the call with lists
 -- 1 and 2: the checks of n, of the number of kinds and of the number of rules

@@ -9,14 +9,15 @@ ghost use Rattle.sheet.specs.Relation.{closesIn, turned};
 ghost use Rattle.witness.specs.Shapes.{Tells};
 ghost use Rattle.witness.specs.Explaining.{mostExplained, Explains};
 use expression::refusal;
+use limits::MOST_EXPLAINED;
 use record::Answer;
-use shapes::MOST_EXPLAINED;
 use sheet::layout::SHEET_WORDS;
 use sheet::words;
 
 mod faults;
+pub mod limits;
 pub mod lists;
-pub mod shapes;
+mod shapes;
 
 // Puts what triples show at the front of the text; its length.
 fn tell_triple(n: usize, prefixes: u32, closes: &[u32; SHEET_WORDS], text: &mut [u8]) -> usize

@@ -11,9 +11,6 @@ ghost use Rattle.witness.specs.Shapes.{moved, Puts, Fits, Tells};
 use expression::refusal;
 use expression::token::FIRST_READING;
 
-// The bytes of the longest witness: the verdict, a row of seven tokens, two records of seven bytes.
-pub const MOST_EXPLAINED: usize = 22;
-
 // The readings of a row of infix operators.
 const X: u8 = FIRST_READING;
 
