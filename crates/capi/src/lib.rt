@@ -4,8 +4,8 @@ ghost use Rattle.disambiguation.specs.SheetChecks.{rulesOf};
 ghost use Rattle.sheet.specs.Layout.{operatorsOf};
 ghost use Rattle.sheet.specs.BindingPowers.{powersIn};
 ghost use Rattle.witness.specs.Explaining.{Explains, ExplainsList};
-ghost use Rattle.monitor.specs.Call.{stage, switch, putRow, putRecord, putClaim, fetchRecord, fetchRow, image, build, repair, yield, shortestRow};
-ghost use Rattle.monitor.specs.Panel.{panel};
+ghost use Rattle.run.specs.Call.{stage, switch, putRow, putRecord, putClaim, fetchRecord, fetchRow, image, build, repair, yield, shortestRow};
+ghost use Rattle.places.specs.Memory.{memory};
 ghost use Rattle.monitor.specs.Contracts.{Changes, Stages, Puts, Drops, AnswersOn, AnswersUnder, AnswersFrom, Judges, NumbersOperand, PlacesOperand};
 ghost use Rattle.frame.specs.Contracts.{Replies};
 use frame::limits::MOST_REPLY;
@@ -40,7 +40,7 @@ pub extern "C" fn tihvomen_switch(
     staged: &mut [u32; SHEET_WORDS],
     places: &mut [u8; STORE_BYTES],
 ) -> u8
-    ensures { λ r. ⌜ Changes (panel (now (sheet .entry)) (now (staged .entry)) (now (places .entry))) switch r (panel (now (sheet .exit)) (now (staged .exit)) (now (places .exit))) ⌝ }
+    ensures { λ r. ⌜ Changes (memory (now (sheet .entry)) (now (staged .entry)) (now (places .entry))) switch r (memory (now (sheet .exit)) (now (staged .exit)) (now (places .exit))) ⌝ }
 {
     monitor::switch(sheet, staged, places)
 }
@@ -216,7 +216,7 @@ pub extern "C" fn tihvomen_reply(
     line: &[u8],
     out: &mut [u8; MOST_REPLY],
 ) -> usize
-    ensures { λ r. ⌜ Replies (panel (now (sheet .entry)) (now (staged .entry)) (now (places .entry))) (now (line .entry)) (now (out .entry)) (now (out .exit)) (panel (now (sheet .exit)) (now (staged .exit)) (now (places .exit))) r ⌝ }
+    ensures { λ r. ⌜ Replies (memory (now (sheet .entry)) (now (staged .entry)) (now (places .entry))) (now (line .entry)) (now (out .entry)) (now (out .exit)) (memory (now (sheet .exit)) (now (staged .exit)) (now (places .exit))) r ⌝ }
 {
     frame::reply(sheet, staged, places, line, out)
 }

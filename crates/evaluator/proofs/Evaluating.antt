@@ -22,10 +22,10 @@ use Rattle.expression.proofs.Numbers.{first-append, first-refused, passed-first
 use Rattle.sheet.specs.Layout.{operatorsOf}
 use Rattle.record.specs.Checks.{strangerInRecord}
 use Rattle.record.proofs.Accepted.{Accepted, accepted-tree}
-use Rattle.places.specs.Store.{placeCount, held}
-use Rattle.monitor.specs.Panel.{placeCheck, emptyCheck}
-use Rattle.monitor.proofs.Replies.{front-accepted}
-use Rattle.monitor.proofs.AnswerWays.{empty-true, empty-false}
+use Rattle.run.specs.Places.{placeCount, held}
+use Rattle.run.specs.Panel.{placeCheck, emptyCheck}
+use Rattle.run.proofs.Replies.{front-accepted}
+use Rattle.run.proofs.Places.{empty-true, empty-false}
 use Rattle.evaluator.specs.Value.{lacksMeaning, lacksReading, value, treeChecks}
 use Rattle.evaluator.specs.Bytes.{anyMeaningless, anyBeyond}
 use Rattle.evaluator.specs.Walk.{Evaluable, IsValue}
@@ -134,7 +134,7 @@ pub ruleset number-of-ways = (own-number, no-stranger, no-meaning, no-reading, n
 pub ruleset evaluate-record-ways = (refused-record, can-be-valued, valued, needs)
 
 -- ---- a place
-module _ (meanings : List ℕ) (readings : List ℤ) (sheet places : List ℕ) (k : ℕ) where
+module _ (meanings : List ℕ) (readings : List ℤ) (sheet : List ℕ) (places : List (List ℕ)) (k : ℕ) where
   module _ {bytes : List ℕ} (e : bytes ≡ held places k) where
     -- the answer, where the place holds these bytes
     as-held : {r : Evaluation} → r ≡ evaluated (first (placeCheck k ∷ emptyCheck bytes ∷ recordAndTree meanings readings (operatorsOf sheet) bytes)) (valueIn meanings readings (treeOf (class (operatorsOf sheet)) bytes))

@@ -19,15 +19,15 @@ use Rattle.expression.proofs.RowsAndTrees.{row-exactly-if-yielded}
 use Rattle.sheet.specs.Layout.{operatorsOf}
 use Rattle.record.proofs.Trees.{record-positive}
 use Rattle.record.proofs.Accepted.{accepted-tree}
-use Rattle.places.specs.Store.{placeCount, held}
-use Rattle.monitor.specs.Call.{Call, fetchRow}
-use Rattle.monitor.specs.Panel.{Panel, placeCheck, emptyCheck, ifAccepted}
-use Rattle.monitor.specs.Steps.{fetchRowNumber, told}
-use Rattle.monitor.specs.Run.{panelAfter, bookAfter, lastPut}
-use Rattle.monitor.proofs.Slots.{HeldTree, Holds, read-back, held-accepted}
-use Rattle.monitor.proofs.Histories.{stands, book-slot}
-use Rattle.monitor.proofs.Placed.{ops, rules, sheet-in-force, exactly-one, slot-holds}
-use Rattle.monitor.proofs.Filling.{put-below}
+use Rattle.run.specs.Places.{placeCount, held}
+use Rattle.run.specs.Call.{Call, fetchRow}
+use Rattle.run.specs.Panel.{Panel, placeCheck, emptyCheck, ifAccepted}
+use Rattle.run.specs.Steps.{fetchRowNumber, told}
+use Rattle.run.specs.Run.{panelAfter, bookAfter, lastPut}
+use Rattle.run.proofs.Slots.{HeldTree, Holds, read-back, held-accepted}
+use Rattle.run.proofs.Histories.{stands, book-slot}
+use Rattle.run.proofs.Placed.{ops, rules, sheet-in-force, exactly-one, slot-holds}
+use Rattle.run.proofs.Filling.{put-below}
 use Rattle.evaluator.specs.Value.{value, treeChecks}
 use Rattle.evaluator.specs.Evaluation.{evaluated, ofTree, checksIn, valueIn, ofRecord, evaluation}
 use Rattle.evaluator.specs.Promises.{answer, TreeOfLastPut, Evaluates, RefusedAsFetched}

@@ -9,9 +9,9 @@ use Rattle.expression.specs.Token.{Operators, class}
 use Rattle.expression.specs.Tree.{Tree}
 use Rattle.expression.specs.Decode.{treeOf}
 use Rattle.expression.specs.Checks.{recordChecks}
-use Rattle.places.specs.Store.{held}
-use Rattle.monitor.specs.Panel.{Panel, panel, placeCheck, emptyCheck, ifAccepted}
-use Rattle.monitor.specs.Steps.{ops}
+use Rattle.run.specs.Places.{held}
+use Rattle.run.specs.Panel.{Panel, panel, placeCheck, emptyCheck, ifAccepted}
+use Rattle.run.specs.Steps.{ops}
 use Rattle.evaluator.specs.Value.{value, treeChecks}
 use Rattle.evaluator.specs.declared.Evaluation.{Evaluation}
 
@@ -50,5 +50,5 @@ module _ (meanings : List ℕ) (readings : List ℤ) where
       evaluated (first (placeCheck k ∷ emptyCheck bytes ∷ recordAndTree (ops p) bytes)) (valueIn (treeOf (class (ops p)) bytes))
 
   -- An evaluation looks at nothing that is staged: it answered r, whatever that is.
-  pub record EvaluatesOn (sheet places : List ℕ) (k : ℕ) (r : Evaluation) : Type 0 where
+  pub record EvaluatesOn (sheet : List ℕ) (places : List (List ℕ)) (k : ℕ) (r : Evaluation) : Type 0 where
     pub answers : (staged : List ℕ) → r ≡ evaluation (panel sheet staged places) k

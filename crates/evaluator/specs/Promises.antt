@@ -9,11 +9,11 @@ use Rattle.expression.specs.Limits.{mostTokens}
 use Rattle.expression.specs.Refusal.{accepted, place, empty}
 use Rattle.expression.specs.Tree.{Tree}
 use Rattle.disambiguation.specs.Conflicts.{ConflictFreeTree}
-use Rattle.places.specs.Store.{placeCount}
-use Rattle.monitor.specs.Call.{Call, fetchRow}
-use Rattle.monitor.specs.Panel.{Panel}
-use Rattle.monitor.specs.Steps.{told}
-use Rattle.monitor.specs.Run.{panelAfter, inForce, lastPut}
+use Rattle.run.specs.Places.{placeCount}
+use Rattle.run.specs.Call.{Call, fetchRow}
+use Rattle.run.specs.Panel.{Panel}
+use Rattle.run.specs.Steps.{told}
+use Rattle.run.specs.Run.{panelAfter, inForce, lastPut}
 use Rattle.evaluator.specs.Value.{value}
 use Rattle.evaluator.specs.Evaluation.{evaluated, ofTree, evaluation}
 use Rattle.evaluator.specs.declared.Evaluation.{Evaluation}

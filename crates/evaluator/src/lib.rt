@@ -3,6 +3,7 @@
 ghost use mathlib.Core.Path.{_≡_};
 ghost use lib.IntN.{pos};
 ghost use Rattle.sheet.specs.Layout.{operatorsOf};
+ghost use Rattle.places.specs.Store.{recordsIn};
 ghost use Rattle.evaluator.specs.Evaluation.{numberOf, ofRecord, EvaluatesOn};
 use expression::refusal;
 use places::limits;
@@ -76,7 +77,7 @@ pub fn evaluate(
     meanings: &[u8],
     readings: &[i32],
 ) -> Evaluation
-    ensures { λ r. ⌜ EvaluatesOn (now (meanings .entry)) (now (readings .entry)) (now (sheet .entry)) (now (places .entry)) place r ⌝ }
+    ensures { λ r. ⌜ EvaluatesOn (now (meanings .entry)) (now (readings .entry)) (now (sheet .entry)) (recordsIn (now (places .entry))) place r ⌝ }
 {
     if limits::PLACE_COUNT as u32 <= place {
         return unevaluated(refusal::PLACE);
@@ -97,7 +98,7 @@ pub extern "C" fn tihvomen_evaluate(
     meanings: &[u8],
     readings: &[i32],
 ) -> Evaluation
-    ensures { λ r. ⌜ EvaluatesOn (now (meanings .entry)) (now (readings .entry)) (now (sheet .entry)) (now (places .entry)) place r ⌝ }
+    ensures { λ r. ⌜ EvaluatesOn (now (meanings .entry)) (now (readings .entry)) (now (sheet .entry)) (recordsIn (now (places .entry))) place r ⌝ }
 {
     evaluate(sheet, places, place, meanings, readings)
 }

@@ -21,11 +21,12 @@ use Rattle.sheet.specs.Chaining.{changed, added, joined, passed, chained, relat
 use Rattle.sheet.specs.Kinds.{withBit, wordWhere}
 use Rattle.sheet.specs.Loading.{sheetOf}
 use Rattle.parser.specs.Build.{built}
-use Rattle.places.specs.Store.{held, imageOf, stored}
-use Rattle.places.specs.Store as store
-use Rattle.monitor.specs.Call.{stage, switch, putRow, putRecord, drop, ask, fetchRecord, repair, judge}
-use Rattle.monitor.specs.Panel.{Panel, usesOther, rebuiltTo}
-use Rattle.monitor.specs.Steps.{switchNumber, putRowNumber, dropNumber, fetchRecordNumber, stagedAfter, afterSwitch, placesAfterRow, placesAfterDrop}
+use Rattle.run.specs.Image.{imageOf}
+use Rattle.run.specs.Places.{held, stored}
+use Rattle.run.specs.Places as places
+use Rattle.run.specs.Call.{stage, switch, putRow, putRecord, drop, ask, fetchRecord, repair, judge}
+use Rattle.run.specs.Panel.{Panel, usesOther, rebuiltTo}
+use Rattle.run.specs.Steps.{switchNumber, putRowNumber, dropNumber, fetchRecordNumber, stagedAfter, afterSwitch, placesAfterRow, placesAfterDrop}
 use Rattle.hexadecimal.specs.Digits.{isDigit, digitOf, allDigits, byteOf, characterOf}
 use Rattle.hexadecimal.specs.Text.{pairBytes, bytesOf, textOf}
 use Rattle.frame.specs.Frames.{room, callOf}
@@ -70,7 +71,7 @@ pub replies-of-listing :
     × (lineReply (panelAfterLines (fourth ∷ third ∷ second ∷ switching ∷ first ∷ [])) fifth ≡ textOf (accepted ∷ []))
     × (lineReply (panelAfterLines (fifth ∷ fourth ∷ third ∷ second ∷ switching ∷ first ∷ [])) switching ≡ textOf (accepted ∷ []))
     × (lineReply (panelAfterLines (switching ∷ fifth ∷ fourth ∷ third ∷ second ∷ switching ∷ first ∷ [])) third ≡ textOf (accepted ∷ 0x01 ∷ 0x00 ∷ 0x80 ∷ 0x81 ∷ 0x82 ∷ []))
-unfolding panelAfterLines lineAfter lineReply lineBytes lineCall callOf room bytesOf allDigits pairBytes isDigit digitOf byteOf textOf characterOf sheetNumber switchNumber putRowNumber dropNumber fetchRecordNumber stagedAfter afterSwitch isLoaded placesAfterRow placesAfterDrop usesOther rebuiltTo store.fresh held imageOf stored built made parse sheetOf marksAll marks marked changed added joined passed chained related withBit wordWhere operatorsOf closesIn bitOf safe total within level allBelow L R recordNumber treeOf isRow class
+unfolding panelAfterLines lineAfter lineReply lineBytes lineCall callOf room bytesOf allDigits pairBytes isDigit digitOf byteOf textOf characterOf sheetNumber switchNumber putRowNumber dropNumber fetchRecordNumber stagedAfter afterSwitch isLoaded placesAfterRow placesAfterDrop usesOther rebuiltTo places.fresh held imageOf stored built made parse sheetOf marksAll marks marked changed added joined passed chained related withBit wordWhere operatorsOf closesIn bitOf safe total within level allBelow L R recordNumber treeOf isRow class
 replies-of-listing = (refl, refl, refl, refl, refl, refl, refl, refl)
 
 -- A sheet that is staged and not switched to is not seen by a fetch. A second switch finds nothing; a sheet of no operators and no rules is found.
@@ -79,7 +80,7 @@ pub replies-of-switches :
     × (lineReply (panelAfterLines []) switching ≡ textOf (nothingStaged ∷ []))
     × (lineReply (panelAfterLines (switching ∷ first ∷ [])) switching ≡ textOf (nothingStaged ∷ []))
     × (lineReply (panelAfterLines (textOf (0x01 ∷ 0x00 ∷ []) ∷ [])) switching ≡ textOf (accepted ∷ []))
-unfolding panelAfterLines lineAfter lineReply lineBytes lineCall callOf room bytesOf allDigits pairBytes isDigit digitOf byteOf textOf characterOf sheetNumber switchNumber putRowNumber fetchRecordNumber stagedAfter afterSwitch isLoaded placesAfterRow usesOther rebuiltTo store.fresh held imageOf stored built made parse sheetOf marksAll marks marked changed added joined passed chained related withBit wordWhere operatorsOf closesIn bitOf safe total within level allBelow L R recordNumber treeOf isRow class
+unfolding panelAfterLines lineAfter lineReply lineBytes lineCall callOf room bytesOf allDigits pairBytes isDigit digitOf byteOf textOf characterOf sheetNumber switchNumber putRowNumber fetchRecordNumber stagedAfter afterSwitch isLoaded placesAfterRow usesOther rebuiltTo places.fresh held imageOf stored built made parse sheetOf marksAll marks marked changed added joined passed chained related withBit wordWhere operatorsOf closesIn bitOf safe total within level allBelow L R recordNumber treeOf isRow class
 replies-of-switches = (refl, refl, refl, refl)
 
 -- ---- edges

@@ -14,10 +14,11 @@ use Rattle.expression.specs.Lent.{outputAfter, lengthAfter}
 use Rattle.expression.specs.Checks.{repairNumber}
 use Rattle.record.specs.declared.Answer.{Answer}
 use Rattle.record.specs.declared.Judgement.{Judgement}
-use Rattle.monitor.specs.Call.{Question, Call, stage, switch, putRow, putRecord, ask, fetchRecord, fetchRow, image, repair}
-use Rattle.monitor.specs.Call as call
-use Rattle.monitor.specs.Panel.{Panel, panel}
-use Rattle.monitor.specs.Steps.{ops, fetchRecordNumber, fetchRowNumber, imageNumber, told}
+use Rattle.run.specs.Call.{Question, Call, stage, switch, putRow, putRecord, ask, fetchRecord, fetchRow, image, repair}
+use Rattle.run.specs.Call as call
+use Rattle.places.specs.Store.{recordsIn}
+use Rattle.places.specs.Memory.{Memory, memory, panelIn}
+use Rattle.run.specs.Steps.{ops, fetchRecordNumber, fetchRowNumber, imageNumber, told}
 use Rattle.monitor.specs.Contracts.{Changes, Stages, Puts, Drops, AnswersOn, AnswersUnder, AnswersFrom, Judges}
 use Rattle.frame.specs.Frames.{mostAnswer, room, callOf, frameCall, toldBytes, frameNumber, frameAnswer, frameAfter}
 use Rattle.frame.specs.Contracts.{Tells, TellsCount}
@@ -62,32 +63,34 @@ module _ (kind : ℕ) where
         simp (ne-eqb kind 1 one, ne-eqb kind 2 two, ne-eqb kind 3 three, ne-eqb kind 4 four, ne-eqb kind 5 five, ne-eqb kind 6 six, ne-eqb kind 7 seven, ne-eqb kind 8 eight, ne-eqb kind 9 nine, cond-same {A = Option Call})
 
 -- a call's number alone
-module _ (p : Panel) (call : Option Call) {before : List ℕ} {r : Answer} where
-  alone : {c : Option Call} {number : ℕ} {later : Panel} → call ≡ c → (r .number ≡ number) × (r .length ≡ 0) → number ≡ frameNumber p c → frameAnswer p c ≡ [] → later ≡ frameAfter p c
-      → Tells p call before before later r
-  alone {c} q (n, l) e a w =
+module _ (m : Memory) (call : Option Call) {before : List ℕ} {r : Answer} where
+  alone : {c : Option Call} {number : ℕ} {later : Memory} → call ≡ c → (r .number ≡ number) × (r .length ≡ 0) → number ≡ frameNumber (panelIn m) c → frameAnswer (panelIn m) c ≡ []
+      → panelIn later ≡ frameAfter (panelIn m) c → ((number ≡ 0 → ⊥) → later ≡ m) → Tells m call before before later r
+  alone {c} q (n, l) e a w k =
       rw q (record {
         numbered = n ∙ e;
-        measured = l ∙ sym (ap (lengthAfter (frameNumber p c)) a ∙ cond-same (eqb (frameNumber p c) 0));
-        output = sym (ap (λ l. outputAfter (frameNumber p c) l before) a ∙ cond-same (eqb (frameNumber p c) 0));
+        measured = l ∙ sym (ap (lengthAfter (frameNumber (panelIn m) c)) a ∙ cond-same (eqb (frameNumber (panelIn m) c) 0));
+        output = sym (ap (λ l. outputAfter (frameNumber (panelIn m) c) l before) a ∙ cond-same (eqb (frameNumber (panelIn m) c) 0));
         stands = w;
+        kept = λ h. k (λ z. h (n ∙ z));
       })
 
   -- a frame that is no call
-  no-call : call ≡ none → (r .number ≡ 12) × (r .length ≡ 0) → Tells p call before before p r
-  no-call q e = alone q e refl refl refl
+  no-call : call ≡ none → (r .number ≡ 12) × (r .length ≡ 0) → Tells m call before before m r
+  no-call q e = alone q e refl refl refl (λ _. refl)
 
   -- an answer: the number looks at the room alone, and both outputs have the same
-  with-answer : {q : Question} (number : ℕ → ℕ) (answer : List ℕ) {after : List ℕ} → call ≡ some (ask q) → told p q .number ≡ number (length room) → toldBytes p q ≡ answer
-      → length before ≡ mostAnswer → r .number ≡ number (length before) → r .length ≡ lengthAfter (number (length before)) answer
-      → after ≡ outputAfter (number (length before)) answer before → Tells p call before after p r
+  with-answer : {q : Question} (number : ℕ → ℕ) (answer : List ℕ) {after : List ℕ} → call ≡ some (ask q) → told (panelIn m) q .number ≡ number (length room)
+      → toldBytes (panelIn m) q ≡ answer → length before ≡ mostAnswer → r .number ≡ number (length before) → r .length ≡ lengthAfter (number (length before)) answer
+      → after ≡ outputAfter (number (length before)) answer before → Tells m call before after m r
   with-answer {q} number answer {after} e n a l numbered measured output =
-      let same : number (length before) ≡ told p q .number = ap number (l ∙ sym length-room) ∙ sym n in
+      let same : number (length before) ≡ told (panelIn m) q .number = ap number (l ∙ sym length-room) ∙ sym n in
       rw e (record {
         numbered = numbered ∙ same;
         measured = measured ∙ ap₂ lengthAfter same (sym a);
         output = output ∙ ap₂ (λ x y. outputAfter x y before) same (sym a);
         stands = refl;
+        kept = λ _. refl;
       })
 
 -- ---- judged
@@ -110,89 +113,90 @@ module _ (kind : ℕ) (rest : List ℕ) where
 
 module _ (sheet staged places : List ℕ) (kind : ℕ) (rest : List ℕ) {before : List ℕ} {r : Answer} where
   pub way-judge : {after : List ℕ} {j : Judgement} → kind ≡ 7 → Judges sheet rest j → TellsCount j before after r
-      → Tells (panel sheet staged places) (callOf kind rest) before after (panel sheet staged places) r
+      → Tells (memory sheet staged places) (callOf kind rest) before after (memory sheet staged places) r
   unfolding callOf
   way-judge {after} {j} e q w =
-      let n = q .numbered staged places in
-      let c = q .counted staged places in
+      let n = q .numbered staged (recordsIn places) in
+      let c = q .counted staged (recordsIn places) in
       rw e (record {
         numbered = w .numbered ∙ n;
         measured = w .measured ∙ ap₂ (λ x y. lengthAfter x (y ∷ [])) n c;
         output = w .output ∙ ap₂ (λ x y. outputAfter x (y ∷ []) before) n c;
         stands = refl;
+        kept = λ _. refl;
       })
 
   pub way-repair : {after : List ℕ} → kind ≡ 8 → length before ≡ mostAnswer → AnswersUnder sheet (repair rest before) r after
-      → Tells (panel sheet staged places) (callOf kind rest) before after (panel sheet staged places) r
+      → Tells (memory sheet staged places) (callOf kind rest) before after (memory sheet staged places) r
   unfolding callOf
   way-repair e l a =
       let w = a .answers staged places in
-      with-answer (panel sheet staged places) (callOf kind rest) {q = repair rest room} (repairNumber (ops (panel sheet staged places)) rest) _ (rw e) refl refl l (w .numbered) (w .measured) (w .output)
+      with-answer (memory sheet staged places) (callOf kind rest) {q = repair rest room} (repairNumber (ops (panelIn (memory sheet staged places))) rest) _ (rw e) refl refl l (w .numbered) (w .measured) (w .output)
 
-  pub way-switch : {later : Panel} {n : ℕ} → kind ≡ 10 → length rest ≡ 0 → (r .number ≡ n) × (r .length ≡ 0) → Changes (panel sheet staged places) switch n later
-      → Tells (panel sheet staged places) (callOf kind rest) before before later r
+  pub way-switch : {later : Memory} {n : ℕ} → kind ≡ 10 → length rest ≡ 0 → (r .number ≡ n) × (r .length ≡ 0) → Changes (memory sheet staged places) switch n later
+      → Tells (memory sheet staged places) (callOf kind rest) before before later r
   unfolding callOf
-  way-switch e l q w = alone (panel sheet staged places) (callOf kind rest) {c = some switch} (ap₂ callOf e (drop-of-length-le rest {i = 0} (omega arith))) q (w .numbered) refl (w .stands)
+  way-switch e l q w = alone (memory sheet staged places) (callOf kind rest) {c = some switch} (ap₂ callOf e (drop-of-length-le rest {i = 0} (omega arith))) q (w .numbered) refl (w .stands) (w .kept)
 
   pub way-no-byte : (kind ≡ 7 → ⊥) → (kind ≡ 8 → ⊥) → (kind ≡ 10 → ⊥) → length rest ≡ 0 → (r .number ≡ 12) × (r .length ≡ 0)
-      → Tells (panel sheet staged places) (callOf kind rest) before before (panel sheet staged places) r
-  way-no-byte a b c l q = no-call (panel sheet staged places) (callOf kind rest) (no-byte kind rest a b c l) q
+      → Tells (memory sheet staged places) (callOf kind rest) before before (memory sheet staged places) r
+  way-no-byte a b c l q = no-call (memory sheet staged places) (callOf kind rest) (no-byte kind rest a b c l) q
 
   module _ {later : List ℕ} {n named : ℕ} (some-byte : length rest ≡ 0 → ⊥) (q : (r .number ≡ n) × (r .length ≡ 0)) (byte : named ≡ getD rest 0 0) where
-    pub way-stage : kind ≡ 1 → Stages staged (stage named (take (length rest - 1) (drop 1 rest))) n later → Tells (panel sheet staged places) (callOf kind rest) before before (panel sheet later places) r
+    pub way-stage : kind ≡ 1 → Stages staged (stage named (take (length rest - 1) (drop 1 rest))) n later → Tells (memory sheet staged places) (callOf kind rest) before before (memory sheet later places) r
     unfolding callOf
     way-stage e w =
         let v = subst (λ k. Stages staged (stage k (take (length rest - 1) (drop 1 rest))) n later) byte w .changes sheet places in
-        alone (panel sheet staged places) (callOf kind rest) {c = some (stage (getD rest 0 0) (take (length rest - 1) (drop 1 rest)))} (named-byte kind rest e some-byte) q (v .numbered) refl (v .stands)
+        alone (memory sheet staged places) (callOf kind rest) {c = some (stage (getD rest 0 0) (take (length rest - 1) (drop 1 rest)))} (named-byte kind rest e some-byte) q (v .numbered) refl (v .stands) (v .kept)
 
-    pub way-put-row : kind ≡ 2 → Puts sheet places (putRow named (take (length rest - 1) (drop 1 rest))) n later → Tells (panel sheet staged places) (callOf kind rest) before before (panel sheet staged later) r
+    pub way-put-row : kind ≡ 2 → Puts sheet places (putRow named (take (length rest - 1) (drop 1 rest))) n later → Tells (memory sheet staged places) (callOf kind rest) before before (memory sheet staged later) r
     unfolding callOf
     way-put-row e w =
         let v = subst (λ k. Puts sheet places (putRow k (take (length rest - 1) (drop 1 rest))) n later) byte w .changes staged in
-        alone (panel sheet staged places) (callOf kind rest) {c = some (putRow (getD rest 0 0) (take (length rest - 1) (drop 1 rest)))} (named-byte kind rest e some-byte) q (v .numbered) refl (v .stands)
+        alone (memory sheet staged places) (callOf kind rest) {c = some (putRow (getD rest 0 0) (take (length rest - 1) (drop 1 rest)))} (named-byte kind rest e some-byte) q (v .numbered) refl (v .stands) (v .kept)
 
     pub way-put-record : kind ≡ 6 → Puts sheet places (putRecord named (take (length rest - 1) (drop 1 rest))) n later
-        → Tells (panel sheet staged places) (callOf kind rest) before before (panel sheet staged later) r
+        → Tells (memory sheet staged places) (callOf kind rest) before before (memory sheet staged later) r
     unfolding callOf
     way-put-record e w =
         let v = subst (λ k. Puts sheet places (putRecord k (take (length rest - 1) (drop 1 rest))) n later) byte w .changes staged in
-        alone (panel sheet staged places) (callOf kind rest) {c = some (putRecord (getD rest 0 0) (take (length rest - 1) (drop 1 rest)))} (named-byte kind rest e some-byte) q (v .numbered) refl (v .stands)
+        alone (memory sheet staged places) (callOf kind rest) {c = some (putRecord (getD rest 0 0) (take (length rest - 1) (drop 1 rest)))} (named-byte kind rest e some-byte) q (v .numbered) refl (v .stands) (v .kept)
 
   pub way-drop : {places′ : List ℕ} {n named : ℕ} → kind ≡ 3 → length rest ≡ 1 → (r .number ≡ n) × (r .length ≡ 0) → named ≡ getD rest 0 0 → Drops places named n places′
-      → Tells (panel sheet staged places) (callOf kind rest) before before (panel sheet staged places′) r
+      → Tells (memory sheet staged places) (callOf kind rest) before before (memory sheet staged places′) r
   unfolding callOf
   way-drop {places′} {n} e l q byte d =
       let w = subst (λ k. Drops places k n places′) byte d .changes sheet staged in
-      alone (panel sheet staged places) (callOf kind rest) {c = some (call.drop (getD rest 0 0))} (one-byte kind rest e l) q (w .numbered) refl (w .stands)
+      alone (memory sheet staged places) (callOf kind rest) {c = some (call.drop (getD rest 0 0))} (one-byte kind rest e l) q (w .numbered) refl (w .stands) (w .kept)
 
   module _ {after : List ℕ} {named : ℕ} (one : length rest ≡ 1) (byte : named ≡ getD rest 0 0) (l : length before ≡ mostAnswer) where
-    pub way-fetch-record : kind ≡ 4 → AnswersFrom places (fetchRecord named before) r after → Tells (panel sheet staged places) (callOf kind rest) before after (panel sheet staged places) r
+    pub way-fetch-record : kind ≡ 4 → AnswersFrom places (fetchRecord named before) r after → Tells (memory sheet staged places) (callOf kind rest) before after (memory sheet staged places) r
     unfolding callOf
     way-fetch-record e a =
         let w = subst (λ k. AnswersFrom places (fetchRecord k before) r after) byte a .answers sheet staged in
-        with-answer (panel sheet staged places) (callOf kind rest) {q = fetchRecord (getD rest 0 0) room} (fetchRecordNumber (panel sheet staged places) (getD rest 0 0)) _ (one-byte kind rest e one) refl refl l
+        with-answer (memory sheet staged places) (callOf kind rest) {q = fetchRecord (getD rest 0 0) room} (fetchRecordNumber (panelIn (memory sheet staged places)) (getD rest 0 0)) _ (one-byte kind rest e one) refl refl l
         (w .numbered) (w .measured) (w .output)
 
-    pub way-fetch-row : kind ≡ 5 → AnswersOn sheet places (fetchRow named before) r after → Tells (panel sheet staged places) (callOf kind rest) before after (panel sheet staged places) r
+    pub way-fetch-row : kind ≡ 5 → AnswersOn sheet places (fetchRow named before) r after → Tells (memory sheet staged places) (callOf kind rest) before after (memory sheet staged places) r
     unfolding callOf
     way-fetch-row e a =
         let w = subst (λ k. AnswersOn sheet places (fetchRow k before) r after) byte a .answers staged in
-        with-answer (panel sheet staged places) (callOf kind rest) {q = fetchRow (getD rest 0 0) room} (fetchRowNumber (panel sheet staged places) (getD rest 0 0)) _ (one-byte kind rest e one) refl refl l
+        with-answer (memory sheet staged places) (callOf kind rest) {q = fetchRow (getD rest 0 0) room} (fetchRowNumber (panelIn (memory sheet staged places)) (getD rest 0 0)) _ (one-byte kind rest e one) refl refl l
         (w .numbered) (w .measured) (w .output)
 
-    pub way-image : kind ≡ 9 → AnswersFrom places (image named before) r after → Tells (panel sheet staged places) (callOf kind rest) before after (panel sheet staged places) r
+    pub way-image : kind ≡ 9 → AnswersFrom places (image named before) r after → Tells (memory sheet staged places) (callOf kind rest) before after (memory sheet staged places) r
     unfolding callOf
     way-image e a =
         let w = subst (λ k. AnswersFrom places (image k before) r after) byte a .answers sheet staged in
-        with-answer (panel sheet staged places) (callOf kind rest) {q = image (getD rest 0 0) room} (imageNumber (panel sheet staged places) (getD rest 0 0)) _ (one-byte kind rest e one) refl refl l
+        with-answer (memory sheet staged places) (callOf kind rest) {q = image (getD rest 0 0) room} (imageNumber (panelIn (memory sheet staged places)) (getD rest 0 0)) _ (one-byte kind rest e one) refl refl l
         (w .numbered) (w .measured) (w .output)
 
   module _ (q : (r .number ≡ 12) × (r .length ≡ 0)) (one : kind ≡ 1 → ⊥) (two : kind ≡ 2 → ⊥) (six : kind ≡ 6 → ⊥) (seven : kind ≡ 7 → ⊥) (eight : kind ≡ 8 → ⊥) where
-    pub way-more-bytes : (length rest ≡ 0 → ⊥) → (length rest ≡ 1 → ⊥) → Tells (panel sheet staged places) (callOf kind rest) before before (panel sheet staged places) r
-    way-more-bytes z o = no-call (panel sheet staged places) (callOf kind rest) (more-bytes kind one two six seven eight rest z o) q
+    pub way-more-bytes : (length rest ≡ 0 → ⊥) → (length rest ≡ 1 → ⊥) → Tells (memory sheet staged places) (callOf kind rest) before before (memory sheet staged places) r
+    way-more-bytes z o = no-call (memory sheet staged places) (callOf kind rest) (more-bytes kind one two six seven eight rest z o) q
 
-    pub way-no-kind : (length rest ≡ 0 → ⊥) → (kind ≡ 3 → ⊥) → (kind ≡ 4 → ⊥) → (kind ≡ 5 → ⊥) → (kind ≡ 9 → ⊥) → Tells (panel sheet staged places) (callOf kind rest) before before (panel sheet staged places) r
-    way-no-kind z three four five nine = no-call (panel sheet staged places) (callOf kind rest) (no-kind kind one two six seven eight rest z three four five nine) q
+    pub way-no-kind : (length rest ≡ 0 → ⊥) → (kind ≡ 3 → ⊥) → (kind ≡ 4 → ⊥) → (kind ≡ 5 → ⊥) → (kind ≡ 9 → ⊥) → Tells (memory sheet staged places) (callOf kind rest) before before (memory sheet staged places) r
+    way-no-kind z three four five nine = no-call (memory sheet staged places) (callOf kind rest) (no-kind kind one two six seven eight rest z three four five nine) q
 
 pub ruleset kind-ways = (
   way-judge,
@@ -212,16 +216,16 @@ pub ruleset kind-ways = (
 )
 
 -- ---- run_frame
-module _ (p : Panel) (frame : List ℕ) {before : List ℕ} {r : Answer} where
-  pub frame-none : length frame ≡ 0 → (r .number ≡ 12) × (r .length ≡ 0) → Tells p (frameCall frame) before before p r
-  frame-none l q = no-call p (frameCall frame) (empty frame l) q
+module _ (m : Memory) (frame : List ℕ) {before : List ℕ} {r : Answer} where
+  pub frame-none : length frame ≡ 0 → (r .number ≡ 12) × (r .length ≡ 0) → Tells m (frameCall frame) before before m r
+  frame-none l q = no-call m (frameCall frame) (empty frame l) q
     where
       empty : (l : List ℕ) → length l ≡ 0 → frameCall l ≡ none
       empty [] e = refl
       empty (x ∷ xs) e = absurd (omega arith)
 
-  pub frame-some : {after : List ℕ} {later : Panel} → (length frame ≡ 0 → ⊥) → Tells p (callOf (getD frame 0 0) (take (length frame - 1) (drop 1 frame))) before after later r
-      → Tells p (frameCall frame) before after later r
-  frame-some {after} {later} h t = subst (λ l. Tells p (frameCall l) before after later r) (sym (parts frame h)) t
+  pub frame-some : {after : List ℕ} {later : Memory} → (length frame ≡ 0 → ⊥) → Tells m (callOf (getD frame 0 0) (take (length frame - 1) (drop 1 frame))) before after later r
+      → Tells m (frameCall frame) before after later r
+  frame-some {after} {later} h t = subst (λ l. Tells m (frameCall l) before after later r) (sym (parts frame h)) t
 
 pub ruleset frame-ways = (frame-none, frame-some, needs)

@@ -6,16 +6,16 @@ use mathlib.Core.List.{List, [], _∷_}
 use mathlib.Core.Option.{Option, none, some}
 use borrow.Author.Tests.{ne-eqb}
 use Rattle.expression.specs.Refusal.{accepted, oversize}
-use Rattle.monitor.specs.Call.{Question, Call, stage, stageList, switch, putRow, putRecord, putClaim, drop, ask, fetchRecord, fetchRow, image, build, repair, judge, yield, operand, shortestRow}
-use Rattle.monitor.specs.Panel.{Panel, ifAccepted}
-use Rattle.monitor.specs.Steps.{outcome, after}
-use Rattle.monitor.specs.Book.{Book, askedNumber, bookNumber}
-use Rattle.monitor.specs.Run.{panelAfter, bookAfter, Each}
-use Rattle.monitor.proofs.Stands.{Stands, same-number}
-use Rattle.monitor.proofs.Replies.{tells, answered}
-use Rattle.monitor.proofs.Histories.{stands}
-use Rattle.monitor.proofs.Demand1.{demand-1}
-use Rattle.monitor.proofs.Demand3.{demand-3}
+use Rattle.run.specs.Call.{Question, Call, stage, stageList, switch, putRow, putRecord, putClaim, drop, ask, fetchRecord, fetchRow, image, build, repair, judge, yield, operand, shortestRow}
+use Rattle.run.specs.Panel.{Panel, ifAccepted}
+use Rattle.run.specs.Steps.{outcome, after}
+use Rattle.run.specs.Book.{Book, askedNumber, bookNumber}
+use Rattle.run.specs.Run.{panelAfter, bookAfter, Each}
+use Rattle.run.proofs.Stands.{Stands, same-number}
+use Rattle.run.proofs.Replies.{tells, answered}
+use Rattle.run.proofs.Histories.{stands}
+use Rattle.run.proofs.Demand1.{demand-1}
+use Rattle.run.proofs.Demand3.{demand-3}
 use Rattle.hexadecimal.specs.Text.{bytesOf, textOf}
 use Rattle.frame.specs.Frames.{toldBytes, answerOf, frameNumber, frameAfter, frameReply}
 use Rattle.frame.specs.Lines.{isLong, textCall, lineCall, lineBytes, lineReply, lineAfter}

@@ -6,14 +6,15 @@ use mathlib.Core.Option.{Option, none, some}
 use Prim.Native.Nat.{ℕ, _+_, _*_, _-_, _<_, _≤_}
 use native.Mathlib.Omega.{arith}
 use lib.Dec.{eqb, ltb}
-use lib.ListN.{length, take, drop, length-append, length-drop, drop-of-length-le}
+use lib.ListN.{length, getD, take, drop, length-append, length-drop, drop-of-length-le}
 use lib.Seq.{length-take-le, take-all, take-append-seam, drop-append-seam, drop-drop}
 use borrow.Author.Needs.{needs}
 use borrow.Author.Tests.{lt-ltb, le-ltb}
 use Rattle.expression.specs.Refusal.{accepted}
 use Rattle.record.specs.declared.Answer.{Answer}
-use Rattle.monitor.specs.Call.{Call}
-use Rattle.monitor.specs.Panel.{Panel, ifAccepted}
+use Rattle.run.specs.Call.{Call}
+use Rattle.run.specs.Panel.{ifAccepted}
+use Rattle.places.specs.Memory.{Memory, panelIn}
 use Rattle.hexadecimal.specs.Text.{isText, bytesOf, textOf, withFront, bytesWithin, answerOf, outputOf, textWithin, Decodes, Encodes}
 use Rattle.hexadecimal.specs.declared.Decoded.{Decoded}
 use Rattle.hexadecimal.specs.declared.Encoded.{Encoded}
@@ -75,20 +76,27 @@ pub ruleset write-ways = (written, needs)
 
 -- ---- reply_by
 -- a line's bytes written: what is replied, and the panel after it
-module _ (p : Panel) (line out : List ℕ) {after : List ℕ} {later : Panel} {r : ℕ} where
-  replied : (number : ℕ) (answer : List ℕ) → lineBytes p line ≡ number ∷ answer → Writes number answer out after r → later ≡ lineAfter p line → Replies p line out after later r
+module _ (m : Memory) (line out : List ℕ) {after : List ℕ} {later : Memory} {r : ℕ} where
+  replied : (number : ℕ) (answer : List ℕ) → lineBytes (panelIn m) line ≡ number ∷ answer → Writes number answer out after r → panelIn later ≡ lineAfter (panelIn m) line
+      → ((number ≡ 0 → ⊥) → later ≡ m) → Replies m line out after later r
   unfolding lineReply
-  replied number answer e w q =
-      let same : lineReply p line ≡ textOf (number ∷ answer) = ap textOf e in
-      record { measured = w .measured ∙ ap length (sym same); output = w .output ∙ ap (λ t. withFront t out) (sym same); stands = q; inside = w .inside }
+  replied number answer e w q k =
+      let same : lineReply (panelIn m) line ≡ textOf (number ∷ answer) = ap textOf e in
+      record {
+        measured = w .measured ∙ ap length (sym same);
+        output = w .output ∙ ap (λ t. withFront t out) (sym same);
+        stands = q;
+        kept = λ n _ f h. k (λ z. h (ap (λ l. getD l 0 0) (sym f ∙ e) ∙ z));
+        inside = w .inside;
+      }
 
   -- a line within the limit
-  by-frame : (number : ℕ) (answer : List ℕ) (call : Option Call) → length line ≤ mostCharacters → textCall (bytesOf line) ≡ call → frameReply p call ≡ number ∷ answer
-      → Writes number answer out after r → later ≡ frameAfter p call → Replies p line out after later r
+  by-frame : (number : ℕ) (answer : List ℕ) (call : Option Call) → length line ≤ mostCharacters → textCall (bytesOf line) ≡ call → frameReply (panelIn m) call ≡ number ∷ answer
+      → Writes number answer out after r → panelIn later ≡ frameAfter (panelIn m) call → ((number ≡ 0 → ⊥) → later ≡ m) → Replies m line out after later r
   unfolding lineBytes lineAfter lineCall
-  by-frame number answer call l e f w q =
+  by-frame number answer call l e f w q k =
       let fits : ltb mostCharacters (length line) ≡ false = le-ltb mostCharacters (length line) l in
-      replied number answer (rw (fits, e) f) w (rw (fits, e) q)
+      replied number answer (rw (fits, e) f) w (rw (fits, e) q) k
 
 -- a line that was read into a buffer with room for its bytes, or not
 module _ (line room : List ℕ) {after : List ℕ} {d : Decoded} (reads : Decodes line room after d) (h : length line ≤ length room * 2) where
@@ -116,16 +124,16 @@ module _ (line room : List ℕ) {after : List ℕ} {d : Decoded} (reads : Decode
           ap some (sym (ap₂ take all f ∙ take-append-seam bytes (drop (length bytes) room)))
 
 -- what a call wrote of its answer
-module _ {p : Panel} {call : Option Call} {before after : List ℕ} {later : Panel} {t : Answer} (tells : Tells p call before after later t) where
-  answer-front : take (t .length - 0) after ≡ ifAccepted (frameNumber p call) (frameAnswer p call) []
-  answer-front = go (eqb (frameNumber p call) accepted) (frameAnswer p call) (tells .measured) (tells .output)
+module _ {m : Memory} {call : Option Call} {before after : List ℕ} {later : Memory} {t : Answer} (tells : Tells m call before after later t) where
+  answer-front : take (t .length - 0) after ≡ ifAccepted (frameNumber (panelIn m) call) (frameAnswer (panelIn m) call) []
+  answer-front = go (eqb (frameNumber (panelIn m) call) accepted) (frameAnswer (panelIn m) call) (tells .measured) (tells .output)
     where
       go : (b : Bool) (answer : List ℕ) → t .length ≡ cond b (length answer) 0 → after ≡ cond b (withFront answer before) before → take (t .length - 0) after ≡ cond b answer []
       go true answer n e = let all : t .length - 0 ≡ length answer = omega arith in ap₂ take all e ∙ take-append-seam answer (drop (length answer) before)
-      go false answer n e = let none : t .length - 0 ≡ 0 = omega arith in ap (λ m. take m after) none
+      go false answer n e = let none : t .length - 0 ≡ 0 = omega arith in ap (λ k. take k after) none
 
   pub answer-inside : t .length ≤ length after
-  answer-inside = go (eqb (frameNumber p call) accepted) (frameAnswer p call) (tells .measured) (tells .output)
+  answer-inside = go (eqb (frameNumber (panelIn m) call) accepted) (frameAnswer (panelIn m) call) (tells .measured) (tells .output)
     where
       go : (b : Bool) (answer : List ℕ) → t .length ≡ cond b (length answer) 0 → after ≡ cond b (withFront answer before) before → t .length ≤ length after
       go true answer n e = let size : length after ≡ length answer + length (drop (length answer) before) = ap length e ∙ length-append answer (drop (length answer) before) in omega arith
@@ -134,27 +142,28 @@ module _ {p : Panel} {call : Option Call} {before after : List ℕ} {later : Pan
   pub answer-fits : length before ≡ mostAnswer → length after ≡ length before → length (take (t .length - 0) after) ≤ mostAnswer
   answer-fits l e = let h = answer-inside in omega (arith, length-take-le (t .length - 0) after (omega arith))
 
-module _ (p : Panel) (line room out : List ℕ) {room′ : List ℕ} {d : Decoded}
+module _ (m : Memory) (line room out : List ℕ) {room′ : List ℕ} {d : Decoded}
     (reads : Decodes line room room′ d) (l : length line ≤ mostCharacters) (h : length line ≤ length room * 2) {written : List ℕ} {n : ℕ} where
-  pub line-refused : Writes 12 [] out written n → not (d .ok) ≡ true → Replies p line out written p n
-  line-refused w e = by-frame p line out 12 [] none l (ap textCall (unread line room reads h e)) refl w refl
+  pub line-refused : Writes 12 [] out written n → not (d .ok) ≡ true → Replies m line out written m n
+  line-refused w e = by-frame m line out 12 [] none l (ap textCall (unread line room reads h e)) refl w refl (λ _. refl)
 
-  pub line-run : {before after : List ℕ} {later : Panel} {t : Answer} → Tells p (frameCall (take (d .length - 0) room′)) before after later t
-      → Writes (t .number) (take (t .length - 0) after) out written n → not (d .ok) ≡ false → Replies p line out written later n
+  pub line-run : {before after : List ℕ} {later : Memory} {t : Answer} → Tells m (frameCall (take (d .length - 0) room′)) before after later t
+      → Writes (t .number) (take (t .length - 0) after) out written n → not (d .ok) ≡ false → Replies m line out written later n
   line-run {after = after} {t = t} tells w e =
-      by-frame p line out (t .number) (take (t .length - 0) after) (frameCall (take (d .length - 0) room′)) l (ap textCall (read line room reads h e))
+      by-frame m line out (t .number) (take (t .length - 0) after) (frameCall (take (d .length - 0) room′)) l (ap textCall (read line room reads h e))
       (ap₂ _∷_ (sym (tells .numbered)) (sym (answer-front tells)))
       w
       (tells .stands)
+      (tells .kept)
 
 pub ruleset reply-by-ways = (line-refused, line-run, answer-inside, answer-fits, needs)
 
 -- ---- reply
-pub line-long : (p : Panel) (line out : List ℕ) {after : List ℕ} {r : ℕ} → Writes 1 [] out after r → mostCharacters < length line
-    → Replies p line out after p r
+pub line-long : (m : Memory) (line out : List ℕ) {after : List ℕ} {r : ℕ} → Writes 1 [] out after r → mostCharacters < length line
+    → Replies m line out after m r
 unfolding lineBytes lineAfter lineCall
-line-long p line out w l =
+line-long m line out w l =
     let long : ltb mostCharacters (length line) ≡ true = lt-ltb mostCharacters (length line) l in
-    replied p line out 1 [] (rw long) w (rw long)
+    replied m line out 1 [] (rw long) w (rw long) (λ _. refl)
 
 pub ruleset reply-ways = (line-long, needs)

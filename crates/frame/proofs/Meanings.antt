@@ -11,13 +11,13 @@ use borrow.Author.Tests.{ne-eqb, eq-eqb}
 use lib.Dec.{eqb}
 use lib.ListN.{length}
 use Rattle.expression.specs.Refusal.{oversize}
-use Rattle.monitor.specs.Call.{Call, stage, switch, putRow, putRecord, drop, ask, fetchRecord, fetchRow, image, repair, judge}
-use Rattle.monitor.specs.Panel.{Panel}
-use Rattle.monitor.specs.Book.{Book}
-use Rattle.monitor.specs.Meaning.{SomeOf, Means}
-use Rattle.monitor.proofs.Stands.{Stands}
-use Rattle.monitor.proofs.Meanings.{when, decides-less}
-use Rattle.monitor.proofs.MeaningsBook.{reply-means}
+use Rattle.run.specs.Call.{Call, stage, switch, putRow, putRecord, drop, ask, fetchRecord, fetchRow, image, repair, judge}
+use Rattle.run.specs.Panel.{Panel}
+use Rattle.run.specs.Book.{Book}
+use Rattle.run.specs.Meaning.{SomeOf, Means}
+use Rattle.run.proofs.Stands.{Stands}
+use Rattle.run.proofs.Meanings.{when, decides-less}
+use Rattle.run.proofs.MeaningsBook.{reply-means}
 use Rattle.hexadecimal.specs.Digits.{isDigit, allDigits}
 use Rattle.hexadecimal.specs.Text.{pairBytes, bytesOf}
 use Rattle.hexadecimal.proofs.Laws.{line-read}

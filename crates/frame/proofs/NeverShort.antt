@@ -1,5 +1,5 @@
 -- A line never meets 10: each call of a line has room for its answer. Assumes nothing.
-use Prim.Native.Nat.{ℕ, _≤_}
+use Prim.Native.Nat.{ℕ, _<_, _≤_}
 use native.Mathlib.Omega.{arith}
 use mathlib.Core.Path.{_≡_, refl, ap, subst, sym, _∙_}
 use mathlib.Core.Bool.{true, cond}
@@ -19,15 +19,17 @@ use Rattle.disambiguation.specs.Rules.{L, R}
 use Rattle.disambiguation.specs.Verdict.{ruleChecks}
 use Rattle.disambiguation.specs.SheetChecks.{rulesIn, operatorsIn, orderChecks, sheetNumber}
 use Rattle.sheet.specs.Layout.{operatorsOf}
-use Rattle.places.specs.Store.{slotBytes, held}
-use Rattle.places.proofs.Laws.{held-length}
-use Rattle.monitor.specs.Call.{Call, stage, switch, putRow, putRecord, drop, ask, fetchRecord, fetchRow, image, repair}
-use Rattle.monitor.specs.Panel.{Panel, placeCheck, emptyCheck, inUseCheck, stagedCheck}
-use Rattle.monitor.specs.Steps.{ops, outcome, switchNumber, putRowNumber, putRecordNumber, dropNumber, fetchRecordNumber, fetchRowNumber, imageNumber}
-use Rattle.monitor.specs.Book.{bookNumber}
-use Rattle.monitor.specs.Run.{panelAfter, bookAfter}
-use Rattle.monitor.proofs.Stands.{same-number}
-use Rattle.monitor.proofs.Histories.{stands}
+use Rattle.run.specs.Image.{imageBytes}
+use Rattle.run.specs.Places.{placeCount, held}
+use Rattle.run.specs.Call.{Call, stage, switch, putRow, putRecord, drop, ask, fetchRecord, fetchRow, image, repair}
+use Rattle.run.specs.Panel.{Panel, placeCheck, emptyCheck, inUseCheck, stagedCheck}
+use Rattle.run.specs.Steps.{ops, outcome, switchNumber, putRowNumber, putRecordNumber, dropNumber, fetchRecordNumber, fetchRowNumber, imageNumber}
+use Rattle.run.specs.Book.{bookNumber}
+use Rattle.run.specs.Run.{panelAfter, bookAfter}
+use Rattle.run.proofs.Slots.{holds-fit}
+use Rattle.run.proofs.Stands.{same-number}
+use Rattle.run.proofs.Replies.{place-passed}
+use Rattle.run.proofs.Histories.{stands}
 use Rattle.hexadecimal.specs.Text.{bytesOf}
 use Rattle.frame.specs.Frames.{mostAnswer, room, named, alone, bare, callOf}
 use Rattle.frame.specs.Lines.{isLong, textCall, lineCall}
@@ -44,7 +46,8 @@ roomy cs answer h f = never short cs (shortCheck answer (length room) ∷ []) h 
     fits : answer ≤ mostAnswer → cond (ltb (length room) answer) short accepted ≡ short → ⊥
     fits l e = let z : _≡_ {A = ℕ} 0 10 = ap (λ b. cond b 10 0) (sym (le-ltb (length room) answer (omega (arith, length-room)))) ∙ e in omega arith
 
-module _ (p : Panel) where
+-- where no held record is too long,
+module _ (p : Panel) (few : (k : ℕ) → k < placeCount → length (held (p .places) k) ≤ mostRecordBytes) where
   abbrev Fits : Option Call → Type 0
   Fits none = Unit {0}
   Fits (some c) = outcome p c .number ≡ short → ⊥
@@ -73,7 +76,7 @@ module _ (p : Panel) where
       by-cond Fits (eqb kind 6) (λ _. named-fits putRecord rest (λ k l. plain-only (placeCheck k ∷ recordChecks o l) refl)) (λ _.
       by-cond Fits (eqb kind 7) (λ _. plain-only (recordChecks o rest) refl) (λ _.
       by-cond Fits (eqb kind 8) (λ _. repair-fits) (λ _.
-      by-cond Fits (eqb kind 9) (λ _. alone-fits (λ k. ask (image k room)) rest (λ k. roomy (placeCheck k ∷ []) slotBytes refl (λ z. omega arith))) (λ _.
+      by-cond Fits (eqb kind 9) (λ _. alone-fits (λ k. ask (image k room)) rest (λ k. roomy (placeCheck k ∷ []) imageBytes refl (λ z. omega arith))) (λ _.
       by-cond Fits (eqb kind 10) (λ _. bare-fits switch rest (plain-only (stagedCheck (p .staged) ∷ inUseCheck o (operatorsOf (p .staged)) at ∷ []) refl)) (λ _. tt))))))))))
     where
       o : Operators
@@ -83,7 +86,7 @@ module _ (p : Panel) where
       at k = held (p .places) k
 
       record-fits : (k : ℕ) → Fits (some (ask (fetchRecord k room)))
-      record-fits k = roomy (placeCheck k ∷ emptyCheck (at k) ∷ []) (length (at k)) refl (λ z. omega (arith, held-length (p .places) k))
+      record-fits k = roomy (placeCheck k ∷ emptyCheck (at k) ∷ []) (length (at k)) refl (λ z. omega (arith, few k (place-passed k (emptyCheck (at k) ∷ []) z .0)))
 
       row-fits : (k : ℕ) → Fits (some (ask (fetchRow k room)))
       row-fits k =
@@ -105,8 +108,11 @@ module _ (p : Panel) where
       go (some []) = tt
       go (some (kind ∷ rest)) = kind-fits kind rest
 
--- After a run of lines, no call that a line makes has the number 10.
+-- After a run of lines no held record is too long, and so no call that a line makes has the number 10.
+held-few : (cs : List Call) (k : ℕ) → k < placeCount → length (held (panelAfter cs .places) k) ≤ mostRecordBytes
+held-few cs k h = holds-fit (bookAfter cs .operators) (bookAfter cs .rules) (bookAfter cs .slots k) (held (panelAfter cs .places) k) (stands cs .holds k h)
+
 pub never-short : (lines : List (List ℕ)) (line : List ℕ) (c : Call) → lineCall line ≡ some c → bookNumber (bookAfter (callsOf lines)) c ≡ short → ⊥
 never-short lines line c e z =
     let cs = callsOf lines in
-    subst (Fits (panelAfter cs)) e (line-fits (panelAfter cs) line) (same-number (panelAfter cs) (bookAfter cs) (stands cs) c ∙ z)
+    subst (Fits (panelAfter cs) (held-few cs)) e (line-fits (panelAfter cs) (held-few cs) line) (same-number (panelAfter cs) (bookAfter cs) (stands cs) c ∙ z)

@@ -4,21 +4,23 @@ use mathlib.Core.Path.{_≡_}
 use mathlib.Core.List.{List, [], _∷_}
 use mathlib.Core.Option.{Option}
 use lib.ListN.{length}
+use Rattle.expression.specs.Refusal.{accepted}
 use Rattle.expression.specs.Lent.{outputAfter, lengthAfter}
 use Rattle.record.specs.declared.Answer.{Answer}
 use Rattle.record.specs.declared.Judgement.{Judgement}
-use Rattle.monitor.specs.Call.{Call}
-use Rattle.monitor.specs.Panel.{Panel}
+use Rattle.run.specs.Call.{Call}
+use Rattle.places.specs.Memory.{Memory, panelIn}
 use Rattle.hexadecimal.specs.Text.{textOf, withFront}
 use Rattle.frame.specs.Frames.{mostAnswer, frameNumber, frameAnswer, frameAfter}
-use Rattle.frame.specs.Lines.{lineReply, lineAfter}
+use Rattle.frame.specs.Lines.{lineBytes, lineReply, lineAfter}
 
--- The call of a frame was run: the output was `before` and became `after`, and the panel became `later`.
-pub record Tells (p : Panel) (call : Option Call) (before after : List ℕ) (later : Panel) (r : Answer) : Type 0 where
-  pub numbered : r .number ≡ frameNumber p call
-  pub measured : r .length ≡ lengthAfter (frameNumber p call) (frameAnswer p call)
-  pub output : after ≡ outputAfter (frameNumber p call) (frameAnswer p call) before
-  pub stands : later ≡ frameAfter p call
+-- The call of a frame was run: the output was `before` and became `after`, and the panel's memory became `later`. A refusal leaves that as it was.
+pub record Tells (m : Memory) (call : Option Call) (before after : List ℕ) (later : Memory) (r : Answer) : Type 0 where
+  pub numbered : r .number ≡ frameNumber (panelIn m) call
+  pub measured : r .length ≡ lengthAfter (frameNumber (panelIn m) call) (frameAnswer (panelIn m) call)
+  pub output : after ≡ outputAfter (frameNumber (panelIn m) call) (frameAnswer (panelIn m) call) before
+  pub stands : panelIn later ≡ frameAfter (panelIn m) call
+  pub kept : (r .number ≡ accepted → ⊥) → later ≡ m
 
 -- characters of the longest reply: the number and the longest answer, two a byte
 abbrev pub mostReply : ℕ
@@ -43,9 +45,11 @@ pub record Writes (number : ℕ) (answer before after : List ℕ) (r : ℕ) : Ty
   pub output : after ≡ withFront (textOf (number ∷ answer)) before
   pub inside : r ≤ mostReply
 
--- A line was answered: the output was `before` and became `after`, the panel became `later`, and r is the reply's length.
-pub record Replies (p : Panel) (line before after : List ℕ) (later : Panel) (r : ℕ) : Type 0 where
-  pub measured : r ≡ length (lineReply p line)
-  pub output : after ≡ withFront (lineReply p line) before
-  pub stands : later ≡ lineAfter p line
+-- A line was answered: the output was `before` and became `after`, the panel's memory became `later`, and r is the reply's length. A line that is refused, with
+-- whatever number, leaves the memory as it was.
+pub record Replies (m : Memory) (line before after : List ℕ) (later : Memory) (r : ℕ) : Type 0 where
+  pub measured : r ≡ length (lineReply (panelIn m) line)
+  pub output : after ≡ withFront (lineReply (panelIn m) line) before
+  pub stands : panelIn later ≡ lineAfter (panelIn m) line
+  pub kept : (number : ℕ) (answer : List ℕ) → lineBytes (panelIn m) line ≡ number ∷ answer → (number ≡ accepted → ⊥) → later ≡ m
   pub inside : r ≤ mostReply

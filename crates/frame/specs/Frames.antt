@@ -6,14 +6,14 @@ use mathlib.Core.Option.{Option, none, some}
 use lib.Dec.{eqb}
 use lib.ListN.{replicate}
 use Rattle.expression.specs.Refusal.{frame}
-use Rattle.places.specs.Store.{slotBytes}
-use Rattle.monitor.specs.Call.{Question, Call, stage, stageList, switch, putRow, putRecord, putClaim, drop, ask, fetchRecord, fetchRow, image, build, repair, judge, yield, operand, shortestRow}
-use Rattle.monitor.specs.Panel.{Panel, ifAccepted}
-use Rattle.monitor.specs.Steps.{told, outcome, after}
+use Rattle.run.specs.Image.{imageBytes}
+use Rattle.run.specs.Call.{Question, Call, stage, stageList, switch, putRow, putRecord, putClaim, drop, ask, fetchRecord, fetchRow, image, build, repair, judge, yield, operand, shortestRow}
+use Rattle.run.specs.Panel.{Panel, ifAccepted}
+use Rattle.run.specs.Steps.{told, outcome, after}
 
 -- no answer of a line is longer: an image is the longest
 abbrev pub mostAnswer : ℕ
-mostAnswer = slotBytes
+mostAnswer = imageBytes
 
 -- the output that a line's call gets has room for every answer
 unfoldable pub room : List ℕ

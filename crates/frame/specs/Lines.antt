@@ -7,8 +7,8 @@ use lib.Dec.{ltb}
 use lib.ListN.{length}
 use Rattle.expression.specs.Limits.{mostOperators, mostRuleBytes}
 use Rattle.expression.specs.Refusal.{oversize}
-use Rattle.monitor.specs.Call.{Call}
-use Rattle.monitor.specs.Panel.{Panel}
+use Rattle.run.specs.Call.{Call}
+use Rattle.run.specs.Panel.{Panel}
 use Rattle.hexadecimal.specs.Text.{bytesOf, textOf}
 use Rattle.frame.specs.Frames.{frameCall, frameAfter, frameReply}
 

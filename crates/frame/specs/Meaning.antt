@@ -7,9 +7,9 @@ use mathlib.Core.List.{List, [], _∷_}
 use mathlib.Core.Option.{some}
 use lib.ListN.{length}
 use Rattle.expression.specs.Refusal.{oversize, frame}
-use Rattle.monitor.specs.Call.{Call}
-use Rattle.monitor.specs.Book.{Book}
-use Rattle.monitor.specs.Meaning.{When, SomeOf, Means}
+use Rattle.run.specs.Call.{Call}
+use Rattle.run.specs.Book.{Book}
+use Rattle.run.specs.Meaning.{When, SomeOf, Means}
 use Rattle.hexadecimal.specs.Digits.{isDigit}
 use Rattle.hexadecimal.specs.Text.{bytesOf}
 use Rattle.frame.specs.Lines.{mostCharacters, lineCall}

@@ -7,12 +7,12 @@ use mathlib.Core.Option.{Option, none, some}
 use Rattle.expression.specs.Refusal.{accepted, oversize, frame}
 use Rattle.expression.specs.Tree.{Tree}
 use Rattle.disambiguation.specs.Conflicts.{conflictCount}
-use Rattle.monitor.specs.Call.{Question, Call, stage, stageList, switch, putRow, putRecord, putClaim, drop, ask, fetchRecord, fetchRow, image, build, repair, judge, yield, operand, shortestRow}
-use Rattle.monitor.specs.Panel.{Panel, fresh}
-use Rattle.monitor.specs.Book.{Book, bookNumber}
-use Rattle.monitor.specs.Run.{bookAfter, Each}
-use Rattle.monitor.specs.Promises.{Demand3}
-use Rattle.monitor.specs.Answers.{Records, Told, Valued}
+use Rattle.run.specs.Call.{Question, Call, stage, stageList, switch, putRow, putRecord, putClaim, drop, ask, fetchRecord, fetchRow, image, build, repair, judge, yield, operand, shortestRow}
+use Rattle.run.specs.Panel.{Panel, fresh}
+use Rattle.run.specs.Book.{Book, bookNumber}
+use Rattle.run.specs.Run.{bookAfter, Each}
+use Rattle.run.specs.Promises.{Demand3}
+use Rattle.run.specs.Answers.{Records, Told, Valued}
 use Rattle.hexadecimal.specs.Text.{bytesOf, textOf}
 use Rattle.frame.specs.Lines.{isLong, textCall, lineCall, lineBytes, lineReply, lineAfter}
 use Rattle.frame.specs.Meaning.{MeansLine}

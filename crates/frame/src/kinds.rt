@@ -1,7 +1,7 @@
 // Frames: the call of a kind and of the bytes after it, run.
 ghost use mathlib.Core.Path.{_≡_};
 ghost use lib.ListN.{length};
-ghost use Rattle.monitor.specs.Panel.{panel};
+ghost use Rattle.places.specs.Memory.{memory};
 ghost use Rattle.frame.specs.Frames.{mostAnswer, callOf, frameCall};
 ghost use Rattle.frame.specs.Contracts.{Tells, TellsCount};
 use expression::refusal;
@@ -74,7 +74,7 @@ fn run_kind(
     answer: &mut [u8],
 ) -> Answer
     requires { ⌜ length (now answer) ≡ mostAnswer ⌝ }
-    ensures { λ r. ⌜ Tells (panel (now (sheet .entry)) (now (staged .entry)) (now (places .entry))) (callOf kind (now (rest .entry))) (now (answer .entry)) (now (answer .exit)) (panel (now (sheet .exit)) (now (staged .exit)) (now (places .exit))) r ⌝ }
+    ensures { λ r. ⌜ Tells (memory (now (sheet .entry)) (now (staged .entry)) (now (places .entry))) (callOf kind (now (rest .entry))) (now (answer .entry)) (now (answer .exit)) (memory (now (sheet .exit)) (now (staged .exit)) (now (places .exit))) r ⌝ }
 {
     if kind == JUDGE {
         let j = monitor::judge(sheet, rest);
@@ -132,7 +132,7 @@ pub fn run_frame(
     answer: &mut [u8],
 ) -> Answer
     requires { ⌜ length (now answer) ≡ mostAnswer ⌝ }
-    ensures { λ r. ⌜ Tells (panel (now (sheet .entry)) (now (staged .entry)) (now (places .entry))) (frameCall (now (frame .entry))) (now (answer .entry)) (now (answer .exit)) (panel (now (sheet .exit)) (now (staged .exit)) (now (places .exit))) r ⌝ }
+    ensures { λ r. ⌜ Tells (memory (now (sheet .entry)) (now (staged .entry)) (now (places .entry))) (frameCall (now (frame .entry))) (now (answer .entry)) (now (answer .exit)) (memory (now (sheet .exit)) (now (staged .exit)) (now (places .exit))) r ⌝ }
 {
     let length = frame.len();
     if length == 0 {

@@ -3,7 +3,7 @@ ghost use Prim.Native.Nat.{_*_, _≤_};
 ghost use mathlib.Core.Path.{_≡_};
 ghost use mathlib.Core.List.{[]};
 ghost use lib.ListN.{length};
-ghost use Rattle.monitor.specs.Panel.{panel};
+ghost use Rattle.places.specs.Memory.{memory};
 ghost use Rattle.frame.specs.Frames.{mostAnswer};
 ghost use Rattle.frame.specs.Lines.{mostCharacters};
 ghost use Rattle.frame.specs.Contracts.{mostReply, shortLine, Writes, Replies};
@@ -48,7 +48,7 @@ fn reply_by(
     out: &mut [u8],
 ) -> usize
     requires { ⌜ (length (now line) ≤ mostCharacters) × (length (now line) ≤ length (now frame) * 2) × (length (now answer) ≡ mostAnswer) × (mostReply ≤ length (now out)) ⌝ }
-    ensures { λ r. ⌜ Replies (panel (now (sheet .entry)) (now (staged .entry)) (now (places .entry))) (now (line .entry)) (now (out .entry)) (now (out .exit)) (panel (now (sheet .exit)) (now (staged .exit)) (now (places .exit))) r ⌝ }
+    ensures { λ r. ⌜ Replies (memory (now (sheet .entry)) (now (staged .entry)) (now (places .entry))) (now (line .entry)) (now (out .entry)) (now (out .exit)) (memory (now (sheet .exit)) (now (staged .exit)) (now (places .exit))) r ⌝ }
 {
     let decoded = hexadecimal::decode(line, frame);
     let to = decoded.length;
@@ -69,7 +69,7 @@ fn reply_short(
     out: &mut [u8],
 ) -> usize
     requires { ⌜ (length (now line) ≤ shortLine) × (mostReply ≤ length (now out)) ⌝ }
-    ensures { λ r. ⌜ Replies (panel (now (sheet .entry)) (now (staged .entry)) (now (places .entry))) (now (line .entry)) (now (out .entry)) (now (out .exit)) (panel (now (sheet .exit)) (now (staged .exit)) (now (places .exit))) r ⌝ }
+    ensures { λ r. ⌜ Replies (memory (now (sheet .entry)) (now (staged .entry)) (now (places .entry))) (now (line .entry)) (now (out .entry)) (now (out .exit)) (memory (now (sheet .exit)) (now (staged .exit)) (now (places .exit))) r ⌝ }
 {
     let mut frame = [0u8; limits::SHORT_FRAME];
     let mut answer = [0u8; limits::MOST_ANSWER];
@@ -85,7 +85,7 @@ fn reply_long(
     out: &mut [u8],
 ) -> usize
     requires { ⌜ (length (now line) ≤ mostCharacters) × (mostReply ≤ length (now out)) ⌝ }
-    ensures { λ r. ⌜ Replies (panel (now (sheet .entry)) (now (staged .entry)) (now (places .entry))) (now (line .entry)) (now (out .entry)) (now (out .exit)) (panel (now (sheet .exit)) (now (staged .exit)) (now (places .exit))) r ⌝ }
+    ensures { λ r. ⌜ Replies (memory (now (sheet .entry)) (now (staged .entry)) (now (places .entry))) (now (line .entry)) (now (out .entry)) (now (out .exit)) (memory (now (sheet .exit)) (now (staged .exit)) (now (places .exit))) r ⌝ }
 {
     let mut frame = [0u8; limits::MOST_FRAME];
     let mut answer = [0u8; limits::MOST_ANSWER];
@@ -100,7 +100,7 @@ pub fn reply(
     line: &[u8],
     out: &mut [u8; MOST_REPLY],
 ) -> usize
-    ensures { λ r. ⌜ Replies (panel (now (sheet .entry)) (now (staged .entry)) (now (places .entry))) (now (line .entry)) (now (out .entry)) (now (out .exit)) (panel (now (sheet .exit)) (now (staged .exit)) (now (places .exit))) r ⌝ }
+    ensures { λ r. ⌜ Replies (memory (now (sheet .entry)) (now (staged .entry)) (now (places .entry))) (now (line .entry)) (now (out .entry)) (now (out .exit)) (memory (now (sheet .exit)) (now (staged .exit)) (now (places .exit))) r ⌝ }
 {
     if limits::MOST_CHARACTERS < line.len() {
         return write_number(refusal::OVERSIZE, out);

@@ -1,10 +1,10 @@
 // The lengths of frames, answers and lines, as in the specification's `Lines` and `Contracts`.
 use expression::limits::MOST_OPERATORS;
 use expression::limits::MOST_RULE_BYTES;
-use places::limits::SLOT_BYTES;
+use places::limits::IMAGE_BYTES;
 
 // No answer of a line is longer than an image.
-pub const MOST_ANSWER: usize = SLOT_BYTES;
+pub const MOST_ANSWER: usize = IMAGE_BYTES;
 
 // The characters of the longest reply: the number and the longest answer, two a byte.
 pub const MOST_REPLY: usize = 2 * (1 + MOST_ANSWER);

@@ -20,53 +20,48 @@ use Rattle.record.specs.declared.Answer.{Answer}
 use Rattle.record.specs.declared.Judgement.{Judgement}
 use Rattle.parser.specs.Answers.{AnswersBuild, AnswersRepair}
 use Rattle.brackets.specs.Shortest.{AnswersShortest}
-use Rattle.places.specs.Store.{placeCount, slotBytes, held, imageOf, drawn}
-use Rattle.places.proofs.Images.{length-image}
+use Rattle.run.specs.Image.{imageBytes, imageOf}
+use Rattle.run.specs.Places.{placeCount, held}
+use Rattle.run.proofs.Images.{length-image}
+use Rattle.places.specs.Store.{recordsIn, drawn}
+use Rattle.places.specs.Memory.{Memory, memory, panelIn}
 use Rattle.places.proofs.Laws.{held-length}
-use Rattle.monitor.specs.Call.{Question, lentBefore, fetchRecord, fetchRow, image, build, repair, yield, shortestRow}
-use Rattle.monitor.specs.Panel.{Panel, panel, isEmpty}
-use Rattle.monitor.specs.Steps.{fetchRecordNumber, fetchRowNumber, imageNumber, told}
+use Rattle.run.specs.Call.{Question, lentBefore, fetchRecord, fetchRow, image, build, repair, yield, shortestRow}
+use Rattle.run.specs.Panel.{isEmpty}
+use Rattle.run.proofs.Places.{empty-true, empty-false}
+use Rattle.run.specs.Steps.{fetchRecordNumber, fetchRowNumber, imageNumber, told}
 use Rattle.monitor.specs.Contracts.{AnswersInto, AnswersOn, AnswersUnder, AnswersFrom, Judges}
 
--- ---- a place is empty, or not
-pub empty-true : (bytes : List ℕ) → length bytes ≡ 0 → isEmpty bytes ≡ true
-empty-true [] e = refl
-empty-true (x ∷ xs) e = absurd (omega arith)
-
-pub empty-false : (bytes : List ℕ) → (length bytes ≡ 0 → ⊥) → isEmpty bytes ≡ false
-empty-false [] h = absurd (h refl)
-empty-false (x ∷ xs) h = refl
-
 -- ---- an answer by its number
-module _ (p : Panel) (q : Question) where
-  refused : (number : ℕ) → number ≡ told p q .number → (number ≡ 0 → ⊥) → AnswersInto p q (record { number = number; length = 0 }) (lentBefore q)
+module _ (m : Memory) (q : Question) where
+  refused : (number : ℕ) → number ≡ told (panelIn m) q .number → (number ≡ 0 → ⊥) → AnswersInto m q (record { number = number; length = 0 }) (lentBefore q)
   refused number e h =
-      let z : eqb (told p q .number) 0 ≡ false = ne-eqb (told p q .number) 0 (λ f. h (e ∙ f)) in
+      let z : eqb (told (panelIn m) q .number) 0 ≡ false = ne-eqb (told (panelIn m) q .number) 0 (λ f. h (e ∙ f)) in
       record { numbered = e; measured = rw z; output = rw z }
 
-  done : {size : ℕ} {later : List ℕ} → told p q .number ≡ 0 → size ≡ length (told p q .answer) → later ≡ told p q .answer ++ drop (length (told p q .answer)) (lentBefore q)
-      → AnswersInto p q (record { number = 0; length = size }) later
+  done : {size : ℕ} {later : List ℕ} → told (panelIn m) q .number ≡ 0 → size ≡ length (told (panelIn m) q .answer) → later ≡ told (panelIn m) q .answer ++ drop (length (told (panelIn m) q .answer)) (lentBefore q)
+      → AnswersInto m q (record { number = 0; length = size }) later
   done e l o = record { numbered = sym e; measured = rw e l; output = rw e o }
 
   -- a callee's answer, under the question's own number and answer
-  as-told : {r : Answer} {later : List ℕ} (number : ℕ) (answer : List ℕ) → number ≡ told p q .number → answer ≡ told p q .answer
-      → r .number ≡ number → r .length ≡ lengthAfter (r .number) answer → later ≡ outputAfter (r .number) answer (lentBefore q) → AnswersInto p q r later
+  as-told : {r : Answer} {later : List ℕ} (number : ℕ) (answer : List ℕ) → number ≡ told (panelIn m) q .number → answer ≡ told (panelIn m) q .answer
+      → r .number ≡ number → r .length ≡ lengthAfter (r .number) answer → later ≡ outputAfter (r .number) answer (lentBefore q) → AnswersInto m q r later
   as-told number answer e a n l o =
       record { numbered = n ∙ e; measured = l ∙ ap₂ lengthAfter (n ∙ e) a; output = o ∙ ap₂ (λ x y. outputAfter x y (lentBefore q)) (n ∙ e) a }
 
 -- ---- build, repair, yield, the shortest row: what the lower crates promise is the run's answer
 module _ (sheet : List ℕ) {bytes before later : List ℕ} {r : Answer} where
   pub build-answered : AnswersBuild sheet bytes before later r → AnswersUnder sheet (build bytes before) r later
-  build-answered a = record { answers = λ staged places. as-told (panel sheet staged places) (build bytes before) _ _ refl refl (a .numbered) (a .measured) (a .output) }
+  build-answered a = record { answers = λ staged store. as-told (memory sheet staged store) (build bytes before) _ _ refl refl (a .numbered) (a .measured) (a .output) }
 
   pub repair-answered : AnswersRepair sheet bytes before later r → AnswersUnder sheet (repair bytes before) r later
-  repair-answered a = record { answers = λ staged places. as-told (panel sheet staged places) (repair bytes before) _ _ refl refl (a .numbered) (a .measured) (a .output) }
+  repair-answered a = record { answers = λ staged store. as-told (memory sheet staged store) (repair bytes before) _ _ refl refl (a .numbered) (a .measured) (a .output) }
 
   pub yield-answered : Yields (operatorsOf sheet) bytes before later r → AnswersUnder sheet (yield bytes before) r later
-  yield-answered a = record { answers = λ staged places. as-told (panel sheet staged places) (yield bytes before) _ _ refl refl (a .numbered) (a .measured) (a .output) }
+  yield-answered a = record { answers = λ staged store. as-told (memory sheet staged store) (yield bytes before) _ _ refl refl (a .numbered) (a .measured) (a .output) }
 
   pub shortest-answered : AnswersShortest sheet bytes before later r → AnswersUnder sheet (shortestRow bytes before) r later
-  shortest-answered a = record { answers = λ staged places. as-told (panel sheet staged places) (shortestRow bytes before) _ _ refl refl (a .numbered) (a .measured) (a .output) }
+  shortest-answered a = record { answers = λ staged store. as-told (memory sheet staged store) (shortestRow bytes before) _ _ refl refl (a .numbered) (a .measured) (a .output) }
 
 pub ruleset under-sheet-ways = (build-answered, repair-answered, yield-answered, shortest-answered, needs)
 
@@ -78,64 +73,64 @@ judged sheet bytes e = record { numbered = λ staged places. ap (λ (j : Judgeme
 pub ruleset judge-ways = (judged, needs)
 
 -- ---- fetch_record
-module _ (places : List ℕ) (k : ℕ) (out : List ℕ) where
-  record-refused : (number : ℕ) → ((sheet staged : List ℕ) → number ≡ fetchRecordNumber (panel sheet staged places) k (length out)) → (number ≡ 0 → ⊥)
-      → AnswersFrom places (fetchRecord k out) (record { number = number; length = 0 }) out
-  record-refused number e h = record { answers = λ sheet staged. refused (panel sheet staged places) (fetchRecord k out) number (e sheet staged) h }
+module _ (store : List ℕ) (k : ℕ) (out : List ℕ) where
+  record-refused : (number : ℕ) → ((sheet staged : List ℕ) → number ≡ fetchRecordNumber (panelIn (memory sheet staged store)) k (length out)) → (number ≡ 0 → ⊥)
+      → AnswersFrom store (fetchRecord k out) (record { number = number; length = 0 }) out
+  record-refused number e h = record { answers = λ sheet staged. refused (memory sheet staged store) (fetchRecord k out) number (e sheet staged) h }
 
-  pub record-over : placeCount ≤ k → AnswersFrom places (fetchRecord k out) (record { number = 8; length = 0 }) out
+  pub record-over : placeCount ≤ k → AnswersFrom store (fetchRecord k out) (record { number = 8; length = 0 }) out
   unfolding fetchRecordNumber
   record-over h = record-refused 8 (λ sheet staged. simp (le-ltb k placeCount h)) (λ e. omega arith)
 
-  module _ (h : k < placeCount) {bytes : List ℕ} (e : bytes ≡ held places k) where
-    pub record-none : length bytes ≡ 0 → AnswersFrom places (fetchRecord k out) (record { number = 9; length = 0 }) out
+  module _ (h : k < placeCount) {bytes : List ℕ} (e : bytes ≡ held (recordsIn store) k) where
+    pub record-none : length bytes ≡ 0 → AnswersFrom store (fetchRecord k out) (record { number = 9; length = 0 }) out
     unfolding fetchRecordNumber
-    record-none z = record-refused 9 (λ sheet staged. simp (lt-ltb k placeCount h, empty-true (held places k) (ap length (sym e) ∙ z))) (λ e. omega arith)
+    record-none z = record-refused 9 (λ sheet staged. simp (lt-ltb k placeCount h, empty-true (held (recordsIn store) k) (ap length (sym e) ∙ z))) (λ e. omega arith)
 
     module _ (n : length bytes ≡ 0 → ⊥) where
-      some-held : isEmpty (held places k) ≡ false
-      some-held = empty-false (held places k) (λ z. n (ap length e ∙ z))
+      some-held : isEmpty (held (recordsIn store) k) ≡ false
+      some-held = empty-false (held (recordsIn store) k) (λ z. n (ap length e ∙ z))
 
-      pub record-short : length out < length bytes → AnswersFrom places (fetchRecord k out) (record { number = 10; length = 0 }) out
+      pub record-short : length out < length bytes → AnswersFrom store (fetchRecord k out) (record { number = 10; length = 0 }) out
       unfolding fetchRecordNumber
       record-short l =
-          record-refused 10 (λ sheet staged. simp (lt-ltb k placeCount h, some-held, lt-ltb (length out) (length (held places k)) (omega (arith, ap length e)))) (λ e. omega arith)
+          record-refused 10 (λ sheet staged. simp (lt-ltb k placeCount h, some-held, lt-ltb (length out) (length (held (recordsIn store) k)) (omega (arith, ap length e)))) (λ e. omega arith)
 
       pub record-done : {later : List ℕ} → length bytes ≤ length out → later ≡ take (length bytes) bytes ++ drop (length bytes) out
-          → AnswersFrom places (fetchRecord k out) (record { number = 0; length = length bytes }) later
+          → AnswersFrom store (fetchRecord k out) (record { number = 0; length = length bytes }) later
       unfolding fetchRecordNumber
       record-done {later} l a =
-          let front : later ≡ held places k ++ drop (length (held places k)) out = a ∙ ap₂ _++_ (take-all (length bytes) bytes (omega arith) ∙ e) (ap (λ x. drop (length x) out) e) in
+          let front : later ≡ held (recordsIn store) k ++ drop (length (held (recordsIn store) k)) out = a ∙ ap₂ _++_ (take-all (length bytes) bytes (omega arith) ∙ e) (ap (λ x. drop (length x) out) e) in
           record {
             answers = λ sheet staged.
-                done (panel sheet staged places) (fetchRecord k out) (simp (lt-ltb k placeCount h, some-held, le-ltb (length out) (length (held places k)) (omega (arith, ap length e))))
+                done (memory sheet staged store) (fetchRecord k out) (simp (lt-ltb k placeCount h, some-held, le-ltb (length out) (length (held (recordsIn store) k)) (omega (arith, ap length e))))
                 (ap length e) front;
           }
 
 pub ruleset fetch-record-ways = (record-over, record-none, record-short, record-done, needs)
 
 -- ---- fetch_row
-module _ (sheet places : List ℕ) (k : ℕ) (out : List ℕ) where
-  pub row-over : placeCount ≤ k → AnswersOn sheet places (fetchRow k out) (record { number = 8; length = 0 }) out
+module _ (sheet store : List ℕ) (k : ℕ) (out : List ℕ) where
+  pub row-over : placeCount ≤ k → AnswersOn sheet store (fetchRow k out) (record { number = 8; length = 0 }) out
   unfolding fetchRowNumber
-  row-over h = record { answers = λ staged. refused (panel sheet staged places) (fetchRow k out) 8 (simp (le-ltb k placeCount h)) (λ e. omega arith) }
+  row-over h = record { answers = λ staged. refused (memory sheet staged store) (fetchRow k out) 8 (simp (le-ltb k placeCount h)) (λ e. omega arith) }
 
-  module _ (h : k < placeCount) {bytes : List ℕ} (e : bytes ≡ held places k) where
-    pub row-none : length bytes ≡ 0 → AnswersOn sheet places (fetchRow k out) (record { number = 9; length = 0 }) out
+  module _ (h : k < placeCount) {bytes : List ℕ} (e : bytes ≡ held (recordsIn store) k) where
+    pub row-none : length bytes ≡ 0 → AnswersOn sheet store (fetchRow k out) (record { number = 9; length = 0 }) out
     unfolding fetchRowNumber
     row-none z =
         record {
-          answers = λ staged. refused (panel sheet staged places) (fetchRow k out) 9 (simp (lt-ltb k placeCount h, empty-true (held places k) (ap length (sym e) ∙ z))) (λ e. omega arith);
+          answers = λ staged. refused (memory sheet staged store) (fetchRow k out) 9 (simp (lt-ltb k placeCount h, empty-true (held (recordsIn store) k) (ap length (sym e) ∙ z))) (λ e. omega arith);
         }
 
-    pub row-yielded : {later : List ℕ} {r : Answer} → (length bytes ≡ 0 → ⊥) → Yields (operatorsOf sheet) bytes out later r → AnswersOn sheet places (fetchRow k out) r later
+    pub row-yielded : {later : List ℕ} {r : Answer} → (length bytes ≡ 0 → ⊥) → Yields (operatorsOf sheet) bytes out later r → AnswersOn sheet store (fetchRow k out) r later
     unfolding fetchRowNumber yieldNumber
     row-yielded n y =
         record {
           answers = λ staged.
-              let due : yieldNumber (operatorsOf sheet) (held places k) (length out) ≡ fetchRowNumber (panel sheet staged places) k (length out) =
-              simp (lt-ltb k placeCount h, empty-false (held places k) (λ z. n (ap length e ∙ z))) in
-              as-told (panel sheet staged places) (fetchRow k out) (yieldNumber (operatorsOf sheet) bytes (length out)) (rowOf (treeOf (class (operatorsOf sheet)) bytes))
+              let due : yieldNumber (operatorsOf sheet) (held (recordsIn store) k) (length out) ≡ fetchRowNumber (panelIn (memory sheet staged store)) k (length out) =
+              simp (lt-ltb k placeCount h, empty-false (held (recordsIn store) k) (λ z. n (ap length e ∙ z))) in
+              as-told (memory sheet staged store) (fetchRow k out) (yieldNumber (operatorsOf sheet) bytes (length out)) (rowOf (treeOf (class (operatorsOf sheet)) bytes))
               (ap (λ b. yieldNumber (operatorsOf sheet) b (length out)) e ∙ due)
               (ap (λ b. rowOf (treeOf (class (operatorsOf sheet)) b)) e) (y .numbered) (y .measured) (y .output);
         }
@@ -143,28 +138,28 @@ module _ (sheet places : List ℕ) (k : ℕ) (out : List ℕ) where
 pub ruleset fetch-row-ways = (row-over, row-none, row-yielded, needs)
 
 -- ---- image
-module _ (places : List ℕ) (k : ℕ) (out : List ℕ) where
-  image-refused : (number : ℕ) → ((sheet staged : List ℕ) → number ≡ imageNumber (panel sheet staged places) k (length out)) → (number ≡ 0 → ⊥)
-      → AnswersFrom places (image k out) (record { number = number; length = 0 }) out
-  image-refused number e h = record { answers = λ sheet staged. refused (panel sheet staged places) (image k out) number (e sheet staged) h }
+module _ (store : List ℕ) (k : ℕ) (out : List ℕ) where
+  image-refused : (number : ℕ) → ((sheet staged : List ℕ) → number ≡ imageNumber (panelIn (memory sheet staged store)) k (length out)) → (number ≡ 0 → ⊥)
+      → AnswersFrom store (image k out) (record { number = number; length = 0 }) out
+  image-refused number e h = record { answers = λ sheet staged. refused (memory sheet staged store) (image k out) number (e sheet staged) h }
 
-  pub image-over : placeCount ≤ k → AnswersFrom places (image k out) (record { number = 8; length = 0 }) out
+  pub image-over : placeCount ≤ k → AnswersFrom store (image k out) (record { number = 8; length = 0 }) out
   unfolding imageNumber
   image-over h = image-refused 8 (λ sheet staged. simp (le-ltb k placeCount h)) (λ e. omega arith)
 
-  pub image-short : k < placeCount → length out < slotBytes → AnswersFrom places (image k out) (record { number = 10; length = 0 }) out
+  pub image-short : k < placeCount → length out < imageBytes → AnswersFrom store (image k out) (record { number = 10; length = 0 }) out
   unfolding imageNumber
-  image-short h l = image-refused 10 (λ sheet staged. simp (lt-ltb k placeCount h, lt-ltb (length out) slotBytes l)) (λ e. omega arith)
+  image-short h l = image-refused 10 (λ sheet staged. simp (lt-ltb k placeCount h, lt-ltb (length out) imageBytes l)) (λ e. omega arith)
 
-  pub image-done : {later : List ℕ} → k < placeCount → slotBytes ≤ length out → later ≡ drawn (imageOf (held places k)) out
-      → AnswersFrom places (image k out) (record { number = 0; length = slotBytes }) later
+  pub image-done : {later : List ℕ} → k < placeCount → imageBytes ≤ length out → later ≡ drawn (imageOf (held (recordsIn store) k)) out
+      → AnswersFrom store (image k out) (record { number = 0; length = imageBytes }) later
   unfolding imageNumber drawn
   image-done {later} h l a =
-      let front : later ≡ imageOf (held places k) ++ drop (length (imageOf (held places k))) out = a ∙ rw (le-ltb (length out) slotBytes l) in
+      let front : later ≡ imageOf (held (recordsIn store) k) ++ drop (length (imageOf (held (recordsIn store) k))) out = a ∙ rw (le-ltb (length out) imageBytes l) in
       record {
         answers = λ sheet staged.
-            done (panel sheet staged places) (image k out) (simp (lt-ltb k placeCount h, le-ltb (length out) slotBytes l))
-            (sym (length-image (held places k) (held-length places k))) front;
+            done (memory sheet staged store) (image k out) (simp (lt-ltb k placeCount h, le-ltb (length out) imageBytes l))
+            (sym (length-image (held (recordsIn store) k) (held-length store k))) front;
       }
 
 pub ruleset image-ways = (image-over, image-short, image-done, needs)

@@ -21,8 +21,8 @@ use Rattle.disambiguation.proofs.BelowLaws.{all-same}
 use Rattle.sheet.proofs.Below.{all-none, all-more, all-fails, all-done}
 use Rattle.sheet.proofs.Bits.{bit-zero}
 use Rattle.sheet.proofs.PrefixWord.{where-bit}
-use Rattle.places.specs.Store.{placeCount, held}
-use Rattle.monitor.specs.Panel.{beyond, changed, usesOther, inUseCheck}
+use Rattle.run.specs.Places.{placeCount, held}
+use Rattle.run.specs.Panel.{beyond, changed, usesOther, inUseCheck}
 use Rattle.monitor.specs.Contracts.{usesBy, someUse}
 
 -- ---- is_beyond
@@ -51,7 +51,7 @@ no-set : (xs : List ℕ) → anyHolds (within 0) xs ≡ false
 no-set [] = refl
 no-set (x ∷ xs) = ap₂ _||_ (ap (λ b. ltb x mostOperators && b) (bit-zero x) ∙ and-false (ltb x mostOperators)) (no-set xs)
 
-module _ (n set : ℕ) (places : List ℕ) (k : ℕ) {bytes : List ℕ} {b : Bool} (is : bytes ≡ held places k) (far : b ≡ anyHolds (beyond (operators n [])) bytes) where
+module _ (n set : ℕ) (places : List (List ℕ)) (k : ℕ) {bytes : List ℕ} {b : Bool} (is : bytes ≡ held places k) (far : b ≡ anyHolds (beyond (operators n [])) bytes) where
   by-either : usesBy n set (held places k) ≡ (b || anyHolds (within set) bytes)
   unfolding usesBy
   by-either = ap (anyHolds (λ c. below n c || within set c)) (sym is) ∙ any-or (below n) (within set) bytes ∙ ap (λ x. x || anyHolds (within set) bytes) (sym far)
@@ -68,7 +68,7 @@ module _ (n set : ℕ) (places : List ℕ) (k : ℕ) {bytes : List ℕ} {b : Boo
 pub ruleset place-uses-ways = (uses-far, uses-none, uses-one, needs)
 
 -- ---- any_uses
-module _ (n set : ℕ) (places : List ℕ) where
+module _ (n set : ℕ) (places : List (List ℕ)) where
   abbrev fits : ℕ → Bool
   fits k = not (usesBy n set (held places k))
 
@@ -103,7 +103,7 @@ in-changes old new c = go (decLt c mostOperators)
     go (yes h) = ap (λ b. ltb c mostOperators && b) (where-bit (λ c. not (eqb (kindOf old c) (kindOf new c))) mostOperators c h)
     go (no h) = rw (le-ltb c mostOperators (omega arith))
 
-pub told-by : (old new places : List ℕ) {n set : ℕ} {r : Bool} → n ≡ operatorsOf new .count → set ≡ kindChanges (operatorsOf old) (operatorsOf new)
+pub told-by : (old new : List ℕ) (places : List (List ℕ)) {n set : ℕ} {r : Bool} → n ≡ operatorsOf new .count → set ≡ kindChanges (operatorsOf old) (operatorsOf new)
     → r ≡ someUse n set places → r ≡ inUseCheck (operatorsOf old) (operatorsOf new) (held places) .0
 unfolding someUse usesBy usesOther
 told-by old new places {n} {set} count changes q =

@@ -8,8 +8,9 @@ ghost use Rattle.expression.specs.Lists.{anyHolds};
 ghost use Rattle.expression.specs.Token.{operators};
 ghost use Rattle.sheet.specs.Layout.{operatorsOf};
 ghost use Rattle.sheet.specs.Relation.{bitOf};
-ghost use Rattle.places.specs.Store.{held};
-ghost use Rattle.monitor.specs.Panel.{beyond, inUseCheck};
+ghost use Rattle.run.specs.Places.{held};
+ghost use Rattle.places.specs.Store.{recordsIn};
+ghost use Rattle.run.specs.Panel.{beyond, inUseCheck};
 ghost use Rattle.monitor.specs.Contracts.{usesBy, someUse};
 use expression::limits::MOST_OPERATORS;
 use places::limits;
@@ -51,7 +52,7 @@ fn uses_set(set: u32, bytes: &[u8]) -> bool
 
 // The place holds one or the other. Most sheets change no kind.
 fn place_uses(n: u8, set: u32, places: &[u8; STORE_BYTES], place: u8) -> bool
-    ensures { λ r. ⌜ r ≡ usesBy n set (held (now (places .entry)) place) ⌝ }
+    ensures { λ r. ⌜ r ≡ usesBy n set (held (recordsIn (now (places .entry))) place) ⌝ }
 {
     let bytes = places::held_record(places, place);
     if uses_beyond(n, bytes) {
@@ -65,7 +66,7 @@ fn place_uses(n: u8, set: u32, places: &[u8; STORE_BYTES], place: u8) -> bool
 
 // Some place does.
 fn any_uses(n: u8, set: u32, places: &[u8; STORE_BYTES]) -> bool
-    ensures { λ r. ⌜ r ≡ someUse n set (now (places .entry)) ⌝ }
+    ensures { λ r. ⌜ r ≡ someUse n set (recordsIn (now (places .entry))) ⌝ }
 {
     let mut place: u8 = 0;
     while place < limits::PLACE_COUNT {
@@ -83,7 +84,7 @@ pub fn in_use(
     new: &[u32; SHEET_WORDS],
     places: &[u8; STORE_BYTES],
 ) -> bool
-    ensures { λ r. ⌜ r ≡ inUseCheck (operatorsOf (now (old .entry))) (operatorsOf (now (new .entry))) (held (now (places .entry))) .0 ⌝ }
+    ensures { λ r. ⌜ r ≡ inUseCheck (operatorsOf (now (old .entry))) (operatorsOf (now (new .entry))) (held (recordsIn (now (places .entry)))) .0 ⌝ }
 {
     any_uses(
         sheet::operator_count(new),

@@ -1,6 +1,6 @@
 // The panel's calls: the sheet in force, the staged one and the sixteen places are lent. After a refusal the panel and a lent output are as they were.
-ghost use Rattle.monitor.specs.Call.{stage, switch, putRow, putRecord, putClaim, fetchRecord, fetchRow, image, build, repair, yield, shortestRow};
-ghost use Rattle.monitor.specs.Panel.{panel};
+ghost use Rattle.run.specs.Call.{stage, switch, putRow, putRecord, putClaim, fetchRecord, fetchRow, image, build, repair, yield, shortestRow};
+ghost use Rattle.places.specs.Memory.{memory};
 ghost use Rattle.monitor.specs.Contracts.{Changes, Stages, Puts, Drops, AnswersOn, AnswersUnder, AnswersFrom, Judges, NumbersOperand, FindsOperand, PlacesOperand};
 use expression::limits::MOST_RECORD_BYTES;
 use expression::refusal;
@@ -30,7 +30,7 @@ pub fn switch(
     staged: &mut [u32; SHEET_WORDS],
     places: &mut [u8; STORE_BYTES],
 ) -> u8
-    ensures { λ r. ⌜ Changes (panel (now (sheet .entry)) (now (staged .entry)) (now (places .entry))) switch r (panel (now (sheet .exit)) (now (staged .exit)) (now (places .exit))) ⌝ }
+    ensures { λ r. ⌜ Changes (memory (now (sheet .entry)) (now (staged .entry)) (now (places .entry))) switch r (memory (now (sheet .exit)) (now (staged .exit)) (now (places .exit))) ⌝ }
 {
     if !sheet::is_loaded(staged) {
         return refusal::NOTHING_STAGED;
@@ -175,7 +175,7 @@ pub fn image(places: &[u8; STORE_BYTES], place: u32, out: &mut [u8]) -> Answer
             length: 0,
         };
     }
-    if out.len() < limits::SLOT_BYTES {
+    if out.len() < limits::IMAGE_BYTES {
         return Answer {
             number: refusal::SHORT,
             length: 0,
@@ -184,7 +184,7 @@ pub fn image(places: &[u8; STORE_BYTES], place: u32, out: &mut [u8]) -> Answer
     places::draw(places, place as u8, out);
     Answer {
         number: refusal::ACCEPTED,
-        length: limits::SLOT_BYTES,
+        length: limits::IMAGE_BYTES,
     }
 }
 

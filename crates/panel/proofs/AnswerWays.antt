@@ -8,7 +8,8 @@ use borrow.Author.Needs.{needs}
 use borrow.Rule.Slice.PartMut.{midOf, postOf, putMid, mid-len}
 use lib.ListN.{length, take, drop, set, length-append, length-drop}
 use lib.Seq.{take-suc-set, take-at, take-all, length-take-le}
-use Rattle.monitor.specs.Panel.{Panel}
+use Rattle.run.specs.Panel.{Panel}
+use Rattle.places.specs.Memory.{memory, panelIn}
 use Rattle.hexadecimal.specs.Text.{withFront}
 use Rattle.line_io.specs.Lines.{lineFeed}
 use Rattle.frame.specs.Lines.{lineReply}
@@ -24,7 +25,14 @@ line-put a t rest i e h =
     let front : take i s ≡ a ++ t = ap (take i) (sym (append-assoc a t rest)) ∙ take-at (a ++ t) rest i n in
     rw (add-one i, take-suc-set s i lineFeed (omega arith), front) (append-assoc a t (lineFeed ∷ []))
 
-module _ {p : Panel} {line text text′ : List ℕ} {later : Panel} {r : ℕ} (w : Replies p line text text′ later r) where
+module _ {sheet staged store line text text′ sheet′ staged′ store′ : List ℕ} {r : ℕ}
+    (w : Replies (memory sheet staged store) line text text′ (memory sheet′ staged′ store′) r) where
+  abbrev p : Panel
+  p = panelIn (memory sheet staged store)
+
+  abbrev later : Panel
+  later = panelIn (memory sheet′ staged′ store′)
+
   -- the reply is the front of the lent array
   reply-front : take (r - 0) text′ ≡ lineReply p line
   reply-front = ap (take (r - 0)) (w .output) ∙ take-at (lineReply p line) (drop (length (lineReply p line)) text) (r - 0) (omega (arith, w .measured))

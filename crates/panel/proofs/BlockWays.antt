@@ -8,7 +8,7 @@ use borrow.Author.Needs.{needs}
 use borrow.Author.Tests.{le-leb}
 use lib.ListN.{length, take, drop, length-drop}
 use lib.Seq.{take-at, length-take-le}
-use Rattle.monitor.specs.Panel.{Panel}
+use Rattle.run.specs.Panel.{Panel}
 use Rattle.line_io.specs.Lines.{lineFeed}
 use Rattle.line_io.specs.Moves.{movedToFront}
 use Rattle.frame.specs.Lines.{lineAfter}

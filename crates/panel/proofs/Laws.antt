@@ -7,7 +7,7 @@ use native.Mathlib.Omega.{arith}
 use borrow.Author.Tests.{lt-ltb}
 use lib.ListN.{length, take, length-append}
 use lib.Seq.{length-take-le}
-use Rattle.monitor.specs.Panel.{Panel}
+use Rattle.run.specs.Panel.{Panel}
 use Rattle.frame.specs.Lines.{mostCharacters, isLong, lineCall, lineBytes, lineReply, lineAfter}
 use Rattle.panel.specs.Contracts.{mostKept}
 

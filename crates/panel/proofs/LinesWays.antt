@@ -6,7 +6,7 @@ use native.Mathlib.Omega.{arith}
 use borrow.Author.Needs.{needs}
 use lib.ListN.{length, getD, take, drop, length-drop}
 use lib.Seq.{take-add, take-suc, drop-drop, getD-take, getD-drop, length-take-le}
-use Rattle.monitor.specs.Panel.{Panel}
+use Rattle.run.specs.Panel.{Panel}
 use Rattle.line_io.specs.Lines.{lineFeed, Ends}
 use Rattle.line_io.proofs.Laws.{line-end-here, none-before-line-end}
 use Rattle.frame.specs.Lines.{lineReply, lineAfter}

@@ -9,7 +9,7 @@ use borrow.Author.Needs.{needs}
 use borrow.Rule.Slice.PartMut.{putMid, take-put}
 use lib.ListN.{length, take, drop, length-take}
 use lib.Seq.{take-take, take-nil, length-take-le}
-use Rattle.monitor.specs.Panel.{Panel}
+use Rattle.run.specs.Panel.{Panel}
 use Rattle.frame.specs.Lines.{lineAfter}
 use Rattle.panel.specs.Lines.{afterLines, panelAtEnd}
 use Rattle.panel.specs.Contracts.{block, mostKept, bufferBytes, Puts, Covers, Keeps, Fetches, AnswersRead, Finishes, Passes, Turns, TakesLines}

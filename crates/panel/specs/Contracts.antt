@@ -4,7 +4,7 @@ use mathlib.Core.Path.{_≡_}
 use mathlib.Core.Bool.{Bool, true, false}
 use mathlib.Core.List.{List, [], _∷_, _++_}
 use lib.ListN.{length, take, drop}
-use Rattle.monitor.specs.Panel.{Panel}
+use Rattle.run.specs.Panel.{Panel}
 use Rattle.line_io.specs.Lines.{lineFeed, lineEnd}
 use Rattle.frame.specs.Lines.{mostCharacters, lineReply, lineAfter}
 use Rattle.frame.specs.Contracts.{mostReply}

@@ -3,7 +3,7 @@ use Prim.Native.Nat.{ℕ, _<_}
 use mathlib.Core.Path.{_≡_}
 use mathlib.Core.List.{List, [], _∷_, _++_}
 use lib.ListN.{length, getD}
-use Rattle.monitor.specs.Panel.{Panel}
+use Rattle.run.specs.Panel.{Panel}
 use Rattle.line_io.specs.Lines.{lineFeed}
 use Rattle.frame.specs.Lines.{lineReply, lineAfter}
 

@@ -2,7 +2,7 @@
 ghost use mathlib.Core.Path.{_≡_};
 ghost use Prim.Native.Nat.{_+_, _≤_};
 ghost use lib.ListN.{length};
-ghost use Rattle.monitor.specs.Panel.{panel};
+ghost use Rattle.places.specs.Memory.{memory, panelIn};
 ghost use Rattle.panel.specs.Contracts.{block, mostReplyLine, Puts, AnswersLines};
 use crate::limits::MOST_FILLED;
 use frame::limits::MOST_REPLY;
@@ -27,7 +27,7 @@ pub fn answer(
     at: usize,
 ) -> usize
     requires { ⌜ (at + mostReplyLine ≤ block) × (length (now out) ≡ block) ⌝ }
-    ensures { λ r. ⌜ Puts (panel (now (sheet .entry)) (now (staged .entry)) (now (places .entry))) (now (line .entry)) (now (out .entry)) (now (out .exit)) at r (panel (now (sheet .exit)) (now (staged .exit)) (now (places .exit))) ⌝ }
+    ensures { λ r. ⌜ Puts (panelIn (memory (now (sheet .entry)) (now (staged .entry)) (now (places .entry)))) (now (line .entry)) (now (out .entry)) (now (out .exit)) at r (panelIn (memory (now (sheet .exit)) (now (staged .exit)) (now (places .exit)))) ⌝ }
 {
     let length = frame::reply(sheet, staged, places, line, reply);
     let to = at + MOST_REPLY;
@@ -48,7 +48,7 @@ pub fn answer_lines(
     out: &mut [u8],
 ) -> Lines
     requires { ⌜ (from ≤ length (now buf)) × (length (now out) ≡ block) ⌝ }
-    ensures { λ r. ⌜ AnswersLines (panel (now (sheet .entry)) (now (staged .entry)) (now (places .entry))) (now (buf .entry)) from (now (out .exit)) (r .rest) (r .filled) (panel (now (sheet .exit)) (now (staged .exit)) (now (places .exit))) ⌝ }
+    ensures { λ r. ⌜ AnswersLines (panelIn (memory (now (sheet .entry)) (now (staged .entry)) (now (places .entry)))) (now (buf .entry)) from (now (out .exit)) (r .rest) (r .filled) (panelIn (memory (now (sheet .exit)) (now (staged .exit)) (now (places .exit)))) ⌝ }
 {
     let mut reply = [0u8; MOST_REPLY];
     let mut rest = from;

@@ -3,7 +3,7 @@ ghost use mathlib.Core.Path.{_≡_};
 ghost use mathlib.Core.Bool.{false};
 ghost use Prim.Native.Nat.{_≤_};
 ghost use lib.ListN.{length};
-ghost use Rattle.monitor.specs.Panel.{panel};
+ghost use Rattle.places.specs.Memory.{memory, panelIn};
 ghost use Rattle.panel.specs.Contracts.{block, mostKept, bufferBytes, Covers, Keeps, Fetches, AnswersRead, Finishes, Turns, TakesLines};
 use frame::limits::MOST_REPLY;
 use libc::STDIN_FILENO;
@@ -51,7 +51,7 @@ fn finish(
     out: &mut [u8],
 ) -> State
     requires { ⌜ length (now out) ≡ block ⌝ }
-    ensures { λ r. ⌜ Finishes (panel (now (sheet .entry)) (now (staged .entry)) (now (places .entry))) (now (line .entry)) (panel (now (sheet .exit)) (now (staged .exit)) (now (places .exit))) (r .kept) (r .go) ⌝ }
+    ensures { λ r. ⌜ Finishes (panelIn (memory (now (sheet .entry)) (now (staged .entry)) (now (places .entry)))) (now (line .entry)) (panelIn (memory (now (sheet .exit)) (now (staged .exit)) (now (places .exit)))) (r .kept) (r .go) ⌝ }
 {
     if line.len() == 0 {
         return stopped();
@@ -71,7 +71,7 @@ fn answer_block(
     out: &mut [u8],
 ) -> Block
     requires { ⌜ length (now out) ≡ block ⌝ }
-    ensures { λ r. ⌜ Covers (panel (now (sheet .entry)) (now (staged .entry)) (now (places .entry))) (now (buf .entry)) (r .rest) (panel (now (sheet .exit)) (now (staged .exit)) (now (places .exit))) (r .ok) ⌝ }
+    ensures { λ r. ⌜ Covers (panelIn (memory (now (sheet .entry)) (now (staged .entry)) (now (places .entry)))) (now (buf .entry)) (r .rest) (panelIn (memory (now (sheet .exit)) (now (staged .exit)) (now (places .exit)))) (r .ok) ⌝ }
 {
     let mut rest = 0;
     loop {
@@ -132,7 +132,7 @@ fn answer_read(
     read: Fetched,
 ) -> State
     requires { ⌜ (kept ≤ read .to) × (read .to ≤ length (now buf)) × (length (now out) ≡ block) ⌝ }
-    ensures { λ r. ⌜ AnswersRead (panel (now (sheet .entry)) (now (staged .entry)) (now (places .entry))) (now (buf .entry)) kept (read .to) (read .failed) (now (buf .exit)) (panel (now (sheet .exit)) (now (staged .exit)) (now (places .exit))) (r .kept) (r .go) ⌝ }
+    ensures { λ r. ⌜ AnswersRead (panelIn (memory (now (sheet .entry)) (now (staged .entry)) (now (places .entry)))) (now (buf .entry)) kept (read .to) (read .failed) (now (buf .exit)) (panelIn (memory (now (sheet .exit)) (now (staged .exit)) (now (places .exit)))) (r .kept) (r .go) ⌝ }
 {
     if read.failed {
         return stopped();
@@ -160,7 +160,7 @@ fn turn(
     s: State,
 ) -> State
     requires { ⌜ (s .kept ≤ mostKept) × (length (now buf) ≡ bufferBytes) × (length (now out) ≡ block) ⌝ }
-    ensures { λ r. ⌜ Turns (panel (now (sheet .entry)) (now (staged .entry)) (now (places .entry))) (now (buf .entry)) (s .kept) (now (buf .exit)) (panel (now (sheet .exit)) (now (staged .exit)) (now (places .exit))) (r .kept) (r .go) ⌝ }
+    ensures { λ r. ⌜ Turns (panelIn (memory (now (sheet .entry)) (now (staged .entry)) (now (places .entry)))) (now (buf .entry)) (s .kept) (now (buf .exit)) (panelIn (memory (now (sheet .exit)) (now (staged .exit)) (now (places .exit)))) (r .kept) (r .go) ⌝ }
 {
     let kept = s.kept;
     let read = read_block(buf, kept);
@@ -176,7 +176,7 @@ fn run(
     out: &mut [u8],
 )
     requires { ⌜ (length (now buf) ≡ bufferBytes) × (length (now out) ≡ block) ⌝ }
-    ensures { λ _. ⌜ TakesLines (panel (now (sheet .entry)) (now (staged .entry)) (now (places .entry))) (panel (now (sheet .exit)) (now (staged .exit)) (now (places .exit))) ⌝ }
+    ensures { λ _. ⌜ TakesLines (panelIn (memory (now (sheet .entry)) (now (staged .entry)) (now (places .entry)))) (panelIn (memory (now (sheet .exit)) (now (staged .exit)) (now (places .exit)))) ⌝ }
 {
     let mut turns = u64::MAX;
     let mut s = State { kept: 0, go: true };

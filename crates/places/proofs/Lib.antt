@@ -1,5 +1,4 @@
 pub mod Parts
-pub mod Images
 pub mod Slots
 pub mod Laws
 pub mod Writes

@@ -1,4 +1,4 @@
--- The slots of a store: what a place holds, and what a put changes, in terms of the layout. Assumes nothing.
+-- The slots of a store: the record at a place, and what a write changes, in terms of the layout. Assumes nothing.
 use mathlib.Core.Path.{_≡_, refl, ap}
 use mathlib.Core.Logic.{_≢_}
 use mathlib.Core.List.{List, [], _∷_}
@@ -9,9 +9,11 @@ use lib.ListN.{length, getD, take, drop, replicate, length-take}
 use lib.Seq.{sets, take-append-seam, take-take}
 use borrow.Author.Tests.{lt-ltb, le-leb}
 use Rattle.expression.specs.Limits.{mostRecordBytes}
-use Rattle.places.specs.Store.{placeCount, slotBytes, slotAt, slotOf, recordIn, held, imageOf, stored}
+use Rattle.run.specs.Image.{imageOf}
+use Rattle.run.specs.Places.{placeCount}
+use Rattle.run.proofs.Images.{length-image}
+use Rattle.places.specs.Store.{slotBytes, slotAt, slotOf, recordIn, recordAt, written}
 use Rattle.places.proofs.Parts.{part-past, part-ahead}
-use Rattle.places.proofs.Images.{length-image}
 
 -- ---- the record in a slot
 pub record-in-image : (bytes : List ℕ) → recordIn (imageOf bytes) ≡ bytes
@@ -31,14 +33,14 @@ no-record [] e = refl
 no-record (n ∷ bytes) e = ap (λ (k : ℕ). take k bytes) e
 
 -- ---- places
-pub held-in-slot : (store : List ℕ) (place : ℕ) → place < placeCount → held store place ≡ recordIn (slotOf store place)
-unfolding held
-held-in-slot store place h = rw (lt-ltb place placeCount h)
+pub at-slot : (store : List ℕ) (place : ℕ) → place < placeCount → recordAt store place ≡ recordIn (slotOf store place)
+unfolding recordAt
+at-slot store place h = rw (lt-ltb place placeCount h)
 
 module _ (store : List ℕ) (place : ℕ) (bytes : List ℕ) where
-  pub stored-in-slot : place < placeCount → length bytes ≤ mostRecordBytes → stored store place bytes ≡ sets store (slotAt place) (imageOf bytes)
-  unfolding stored
-  stored-in-slot h k = rw (lt-ltb place placeCount h, le-leb (length bytes) mostRecordBytes k)
+  pub written-in-slot : place < placeCount → length bytes ≤ mostRecordBytes → written store place bytes ≡ sets store (slotAt place) (imageOf bytes)
+  unfolding written
+  written-in-slot h k = rw (lt-ltb place placeCount h, le-leb (length bytes) mostRecordBytes k)
 
   -- the other slots are as before
   pub slot-kept : (other : ℕ) → place ≢ other → length bytes ≤ mostRecordBytes → slotOf (sets store (slotAt place) (imageOf bytes)) other ≡ slotOf store other

@@ -9,7 +9,8 @@ use lib.Seq.{sets, length-sets, length-take-le, take-suc, take-all}
 use borrow.Author.Needs.{needs}
 use Rattle.expression.specs.Limits.{mostRecordBytes}
 use Rattle.expression.proofs.Stores.{sets-append}
-use Rattle.places.specs.Store.{slotBytes, imageOf}
+use Rattle.run.specs.Image.{imageOf}
+use Rattle.places.specs.Store.{slotBytes}
 
 -- ---- copy
 module _ (before : List ℕ) (at : ℕ) (bytes : List ℕ) where

@@ -1,19 +1,19 @@
--- Sixteen places in one store of bytes: the record that a place holds, its image, and the store after a record is put. Assumes nothing.
-use Prim.Native.Nat.{ℕ, _+_, _-_, _*_}
+-- Sixteen places in one store of bytes: the record at a place, the store after a record is written there, and the list of all records, which is what callers see.
+-- Assumes nothing.
+use Prim.Native.Nat.{ℕ, zero, suc, _*_, _≤_}
+use mathlib.Core.Path.{_≡_}
 use mathlib.Core.Bool.{_&&_, cond}
 use mathlib.Core.List.{List, [], _∷_, _++_}
 use lib.Dec.{ltb, leb}
 use lib.ListN.{length, take, drop, replicate}
 use lib.Seq.{sets}
 use Rattle.expression.specs.Limits.{mostRecordBytes}
+use Rattle.run.specs.Image.{imageBytes, imageOf}
+use Rattle.run.specs.Places.{placeCount, stored}
 
--- the places, 0 to 15
-abbrev pub placeCount : ℕ
-placeCount = 16
-
--- the bytes of one place, its slot: a length byte and room for a record
+-- the bytes of one place, its slot: the place's image
 abbrev pub slotBytes : ℕ
-slotBytes = 1 + mostRecordBytes
+slotBytes = imageBytes
 
 -- the bytes of all slots
 abbrev pub storeBytes : ℕ
@@ -31,23 +31,33 @@ abbrev pub recordIn : List ℕ → List ℕ
 recordIn [] = []
 recordIn (n ∷ bytes) = take n bytes
 
--- The record that a place of the store holds. A place is empty where this is []; a place over 15 is empty.
-unfoldable pub held : List ℕ → ℕ → List ℕ
-held store place = cond (ltb place placeCount) (recordIn (slotOf store place)) []
+-- The record at a place of the store; none at a place over 15.
+unfoldable pub recordAt : List ℕ → ℕ → List ℕ
+recordAt store place = cond (ltb place placeCount) (recordIn (slotOf store place)) []
 
--- The image (docs/REFERENCE.md, section 5) of a place that holds the bytes of a record: the record's length, the record, then 00.
-unfoldable pub imageOf : List ℕ → List ℕ
-imageOf bytes = length bytes ∷ (bytes ++ replicate (mostRecordBytes - length bytes) 0)
+-- the records of so many places, from one on
+unfoldable pub recordsFrom : List ℕ → ℕ → ℕ → List (List ℕ)
+recordsFrom store place zero = []
+recordsFrom store place (suc n) = recordAt store place ∷ recordsFrom store (suc place) n
 
--- The store after a record is put at a place: the slot is the record's image, all else is as before.
+-- The places of a panel whose store it is.
+unfoldable pub recordsIn : List ℕ → List (List ℕ)
+recordsIn store = recordsFrom store 0 placeCount
+
+-- The store after a record is written at a place: the slot is the record's image, all else is as before.
 -- A place over 15, or a record that is too long, changes nothing.
-unfoldable pub stored : List ℕ → ℕ → List ℕ → List ℕ
-stored store place bytes =
+unfoldable pub written : List ℕ → ℕ → List ℕ → List ℕ
+written store place bytes =
     cond (ltb place placeCount && leb (length bytes) mostRecordBytes) (sets store (slotAt place) (imageOf bytes)) store
+
+-- A record was put at a place: every byte of the store after it, and what that is to callers.
+pub record Enters (store : List ℕ) (place : ℕ) (bytes later : List ℕ) : Type 0 where
+  pub bytewise : later ≡ written store place bytes
+  pub holds : length bytes ≤ mostRecordBytes → recordsIn later ≡ stored (recordsIn store) place bytes
 
 -- The lent output after an image is drawn: the image, then what stood there before. An output shorter than an image is as before.
 unfoldable pub drawn : List ℕ → List ℕ → List ℕ
-drawn image before = cond (ltb (length before) slotBytes) before (image ++ drop (length image) before)
+drawn image before = cond (ltb (length before) imageBytes) before (image ++ drop (length image) before)
 
 -- the store with all places empty
 unfoldable pub fresh : List ℕ

@@ -4,7 +4,8 @@ ghost use Prim.Native.Nat.{_+_, _≤_};
 ghost use lib.ListN.{length, replicate};
 ghost use lib.Seq.{sets};
 ghost use Rattle.expression.specs.Limits.{mostRecordBytes};
-ghost use Rattle.places.specs.Store.{slotBytes, imageOf};
+ghost use Rattle.run.specs.Image.{imageOf};
+ghost use Rattle.places.specs.Store.{slotBytes};
 use expression::limits::MOST_RECORD_BYTES;
 
 // The bytes stand from `at` on.

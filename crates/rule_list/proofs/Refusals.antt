@@ -1,7 +1,7 @@
 -- The staging of lists that is refused for their lengths: its number, and a stage as before. Assumes nothing.
 use Prim.Native.Nat.{ℕ, _<_, _≤_}
 use native.Mathlib.Omega.{arith}
-use mathlib.Core.Path.{_≡_, sym, _∙_}
+use mathlib.Core.Path.{_≡_, refl, sym, _∙_}
 use mathlib.Core.Bool.{or-true}
 use mathlib.Core.List.{List}
 use lib.Dec.{ltb}
@@ -11,15 +11,18 @@ use Rattle.expression.specs.Limits.{mostOperators, mostRules}
 use Rattle.expression.specs.Refusal.{accepted, oversize, torn}
 use Rattle.disambiguation.specs.Rules.{Rule}
 use Rattle.disambiguation.specs.SheetChecks.{listNumber}
-use Rattle.monitor.specs.Call.{stageList}
+use Rattle.run.specs.Call.{stageList}
 use Rattle.monitor.specs.Contracts.{Stages}
-use Rattle.monitor.specs.Steps.{stagedAfter}
+use Rattle.run.specs.Steps.{stagedAfter}
 
 module _ (staged : List ℕ) (n : ℕ) (kinds : List ℕ) (rules : List Rule) where
   -- a number but 0 leaves the stage
   refused : (number : ℕ) → listNumber n kinds rules ≡ number → (number ≡ accepted → ⊥) → Stages staged (stageList n kinds rules) number staged
   unfolding stagedAfter
-  refused number e h = record { changes = λ sheet places. record { numbered = sym e; stands = rw (ne-eqb (listNumber n kinds rules) accepted (λ z. h (sym e ∙ z))) } }
+  refused number e h =
+      record {
+        changes = λ sheet store. record { numbered = sym e; stands = rw (ne-eqb (listNumber n kinds rules) accepted (λ z. h (sym e ∙ z))); kept = λ _. refl };
+      }
 
   pub over-operators : mostOperators < n → Stages staged (stageList n kinds rules) oversize staged
   unfolding listNumber

@@ -11,10 +11,11 @@ use Rattle.expression.specs.Limits.{mostOperators, mostRules}
 use Rattle.expression.specs.Refusal.{oversize, torn}
 use Rattle.disambiguation.specs.SheetChecks.{ruleBytes}
 use Rattle.disambiguation.proofs.RuleBytes.{length-ruleBytes}
-use Rattle.monitor.specs.Call.{stage}
-use Rattle.monitor.specs.Panel.{panel}
+use Rattle.run.specs.Call.{stage}
+use Rattle.run.specs.Panel.{panel}
+use Rattle.places.specs.Store.{recordsIn}
 use Rattle.monitor.specs.Contracts.{Stages}
-use Rattle.monitor.proofs.ListSheets.{list-same, list-after}
+use Rattle.run.proofs.ListSheets.{list-same, list-after}
 use Rattle.rule_list.specs.Records.{bufferBytes, StagesList}
 use Rattle.rule_list.proofs.Refusals.{over-operators, other-kinds}
 
@@ -67,10 +68,11 @@ staged-written {staged} {n} {kinds} {bytes} {part} {count} {r} {later} few as-ma
           let is = written kinds bytes part (omega (arith, few, as-many)) size e count ∙ ap (λ (s : List ℕ). kinds ++ s) f in
           let d : Stages staged (stage n all) r later = subst (λ (s : List ℕ). Stages staged (stage n s) r later) is c in
           record {
-            changes = λ sheet places.
+            changes = λ sheet store.
                 record {
-                  numbered = d .changes sheet places .numbered ∙ list-same n kinds list as-many;
-                  stands = d .changes sheet places .stands ∙ list-after n kinds list as-many (panel sheet staged places);
+                  numbered = d .changes sheet store .numbered ∙ list-same n kinds list as-many;
+                  stands = d .changes sheet store .stands ∙ list-after n kinds list as-many (panel sheet staged (recordsIn store));
+                  kept = d .changes sheet store .kept;
                 };
           };
     }

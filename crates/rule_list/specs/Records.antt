@@ -6,7 +6,7 @@ use lib.ListN.{set, take, drop}
 use Rattle.expression.specs.Limits.{mostOperators, mostRuleBytes}
 use Rattle.disambiguation.specs.Rules as rules
 use Rattle.disambiguation.specs.SheetChecks.{ruleBytes}
-use Rattle.monitor.specs.Call.{stageList}
+use Rattle.run.specs.Call.{stageList}
 use Rattle.monitor.specs.Contracts.{Stages}
 use Rattle.rule_list.specs.declared.Rule.{Rule}
 

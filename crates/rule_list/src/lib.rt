@@ -1,5 +1,5 @@
 // The staging of a sheet whose kinds and rules come as two lent lists. Only `tihvomen_stage_rules` walks the list of rules; all else has plain parameters.
-ghost use Rattle.monitor.specs.Call.{stageList};
+ghost use Rattle.run.specs.Call.{stageList};
 ghost use Rattle.monitor.specs.Contracts.{Stages};
 ghost use Rattle.rule_list.specs.Records.{rulesIn};
 use expression::limits;

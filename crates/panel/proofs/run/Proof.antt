@@ -2,7 +2,7 @@
 use Prim.Native.Nat.{_≤_}
 use mathlib.Core.Path.{_≡_}
 use lib.ListN.{length}
-use Rattle.monitor.specs.Panel.{panel}
+use Rattle.places.specs.Memory.{memory, panelIn}
 use Rattle.panel.specs.Contracts.{block, mostKept, bufferBytes, TakesLines}
 use Rattle.panel.proofs.TurnWays.{run-ways}
 use Rattle.panel.proofs.run.Statement.{statement}
@@ -11,7 +11,7 @@ use Rattle.panel.proofs.run.Tie as tie
 abbrev Inv-loop : tie.InvT-loop
 Inv-loop sheet₀ staged₀ places₀ buf₀ out₀ turns₀ s₀ sheet staged places buf out turns s =
     (s .kept ≤ mostKept) × (length buf ≡ bufferBytes) × (length out ≡ block) × (length buf₀ ≡ bufferBytes) × (length out₀ ≡ block)
-    × TakesLines (panel sheet₀ staged₀ places₀) (panel sheet staged places)
+    × TakesLines (panelIn (memory sheet₀ staged₀ places₀)) (panelIn (memory sheet staged places))
 
 abbrev μ-loop : tie.MeasureT-loop
 μ-loop sheet₀ staged₀ places₀ buf₀ out₀ turns₀ s₀ sheet staged places buf out turns s = turns

@@ -1,0 +1,11 @@
+pub mod Image
+pub mod Places
+pub mod Call
+pub mod Panel
+pub mod Steps
+pub mod Book
+pub mod Answers
+pub mod Meaning
+pub mod Run
+pub mod Promises
+pub mod Requests
