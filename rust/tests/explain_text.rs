@@ -9,7 +9,7 @@ fn explained(n: u8, sheet: &str) -> Explanation {
     explain(n, &bytes(sheet)).unwrap()
 }
 
-/// Each operator closes before the next, and the last before the first. README.md shows it, four columns further in.
+/// Each operator closes before the next, and the last before the first. docs/REFERENCE.md shows it, indented by four.
 #[test]
 fn a_circle() {
     let circle = "00 00 00 02 00 00 02 01 01 02 02 02 02 00 01 03 00 01 02 01 02 03 01 02 02 02 00 03 02 00";
@@ -34,7 +34,7 @@ tree 02 01 00 80 81 82 83
     80    81";
     assert_eq!(explained(3, circle).to_string(), text);
     let indented: String = text.lines().map(|line| format!("    {line}\n")).collect();
-    assert!(include_str!("../../README.md").contains(&indented));
+    assert!(include_str!("../../docs/REFERENCE.md").contains(&indented));
 }
 
 #[test]
