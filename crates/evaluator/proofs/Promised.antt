@@ -19,14 +19,15 @@ use Rattle.expression.proofs.RowsAndTrees.{row-exactly-if-yielded}
 use Rattle.sheet.specs.Layout.{operatorsOf}
 use Rattle.record.proofs.Trees.{record-positive}
 use Rattle.record.proofs.Accepted.{accepted-tree}
+use Rattle.run.specs.Promises.{ops, rules}
 use Rattle.run.specs.Places.{placeCount, held}
 use Rattle.run.specs.Call.{Call, fetchRow}
 use Rattle.run.specs.Panel.{Panel, placeCheck, emptyCheck, ifAccepted}
-use Rattle.run.specs.Steps.{fetchRowNumber, told}
+use Rattle.run.specs.Steps.{fetchRowNumber, askedOutcome}
 use Rattle.run.specs.Run.{panelAfter, bookAfter, lastPut}
 use Rattle.run.proofs.Slots.{HeldTree, Holds, read-back, held-accepted}
 use Rattle.run.proofs.Histories.{stands, book-slot}
-use Rattle.run.proofs.Placed.{ops, rules, sheet-in-force, exactly-one, slot-holds}
+use Rattle.run.proofs.Placed.{sheet-in-force, exactly-one, slot-holds}
 use Rattle.run.proofs.Filling.{put-below}
 use Rattle.evaluator.specs.Value.{value, treeChecks}
 use Rattle.evaluator.specs.Evaluation.{evaluated, ofTree, checksIn, valueIn, ofRecord, evaluation}
@@ -111,19 +112,19 @@ module _ (p : Panel) (k : ℕ) (meanings : List ℕ) (readings : List ℤ) where
   record-passed z = first-passed (recordChecks (operatorsOf (p .sheet)) (held (p .places) k)) (passed-first shared shared-numbered z .1 .1)
 
   module _ (out : List ℕ) (room : mostTokens ≤ length out) where
-    fetch-number : told p (fetchRow k out) .number ≡ first shared
+    fetch-number : askedOutcome p (fetchRow k out) .number ≡ first shared
     unfolding fetchRowNumber
     fetch-number =
         first-enough shared (rowTokens (treeOf (class (operatorsOf (p .sheet))) (held (p .places) k))) (length out) shared-numbered
         (λ z. let (t, a) = accepted-tree (operatorsOf (p .sheet)) (held (p .places) k) (record-passed z) in omega (arith, ap rowTokens (a .read), a .row-fits))
 
-    same-number : (told p (fetchRow k out) .number ≡ accepted → ⊥) → evaluation meanings readings p k ≡ evaluated (told p (fetchRow k out) .number) (pos 0)
+    same-number : (askedOutcome p (fetchRow k out) .number ≡ accepted → ⊥) → evaluation meanings readings p k ≡ evaluated (askedOutcome p (fetchRow k out) .number) (pos 0)
     unfolding evaluation
     same-number h =
-        sym (refused (told p (fetchRow k out) .number) (first (shared ++ checksIn meanings readings (treeOf (class (operatorsOf (p .sheet))) (held (p .places) k))))
+        sym (refused (askedOutcome p (fetchRow k out) .number) (first (shared ++ checksIn meanings readings (treeOf (class (operatorsOf (p .sheet))) (held (p .places) k))))
         (valueIn meanings readings (treeOf (class (operatorsOf (p .sheet))) (held (p .places) k)))
         (first-refused shared (checksIn meanings readings (treeOf (class (operatorsOf (p .sheet))) (held (p .places) k))) (λ z. h (fetch-number ∙ z)) ∙ sym fetch-number) h
-        (rw (ne-eqb (told p (fetchRow k out) .number) accepted h)))
+        (rw (ne-eqb (askedOutcome p (fetchRow k out) .number) accepted h)))
 
 pub refused-as-fetched : (p : Panel) (k : ℕ) (meanings : List ℕ) (readings : List ℤ) → RefusedAsFetched p k meanings readings
 refused-as-fetched p k meanings readings = record { same-number = same-number p k meanings readings }

@@ -12,7 +12,7 @@ use Rattle.disambiguation.specs.Conflicts.{ConflictFreeTree}
 use Rattle.run.specs.Places.{placeCount}
 use Rattle.run.specs.Call.{Call, fetchRow}
 use Rattle.run.specs.Panel.{Panel}
-use Rattle.run.specs.Steps.{told}
+use Rattle.run.specs.Steps.{askedOutcome}
 use Rattle.run.specs.Run.{panelAfter, inForce, lastPut}
 use Rattle.evaluator.specs.Value.{value}
 use Rattle.evaluator.specs.Evaluation.{evaluated, ofTree, evaluation}
@@ -41,5 +41,5 @@ module _ (cs : List Call) (k : ℕ) where
 
 -- Of every panel value, also of one that no run of calls makes: what a fetch of the row refuses, with room for every row, an evaluation refuses with the same number.
 pub record RefusedAsFetched (p : Panel) (k : ℕ) (meanings : List ℕ) (readings : List ℤ) : Type 0 where
-  pub same-number : (out : List ℕ) → mostTokens ≤ length out → (told p (fetchRow k out) .number ≡ accepted → ⊥)
-      → evaluation meanings readings p k ≡ evaluated (told p (fetchRow k out) .number) (pos 0)
+  pub same-number : (out : List ℕ) → mostTokens ≤ length out → (askedOutcome p (fetchRow k out) .number ≡ accepted → ⊥)
+      → evaluation meanings readings p k ≡ evaluated (askedOutcome p (fetchRow k out) .number) (pos 0)

@@ -18,9 +18,9 @@ use Rattle.run.specs.Call.{Question, Call, stage, switch, putRow, putRecord, as
 use Rattle.run.specs.Call as call
 use Rattle.places.specs.Store.{recordsIn}
 use Rattle.places.specs.Memory.{Memory, memory, panelIn}
-use Rattle.run.specs.Steps.{ops, fetchRecordNumber, fetchRowNumber, imageNumber, told}
+use Rattle.run.specs.Steps.{ops, fetchRecordNumber, fetchRowNumber, imageNumber, askedOutcome}
 use Rattle.monitor.specs.Contracts.{Changes, Stages, Puts, Drops, AnswersOn, AnswersUnder, AnswersFrom, Judges}
-use Rattle.frame.specs.Frames.{mostAnswer, room, callOf, frameCall, toldBytes, frameNumber, frameAnswer, frameAfter}
+use Rattle.frame.specs.Frames.{mostAnswer, room, callOf, frameCall, answerBytes, frameNumber, frameAnswer, frameAfter}
 use Rattle.frame.specs.Contracts.{Tells, TellsCount}
 
 -- ---- the call of a kind
@@ -80,11 +80,11 @@ module _ (m : Memory) (call : Option Call) {before : List ℕ} {r : Answer} wher
   no-call q e = alone q e refl refl refl (λ _. refl)
 
   -- an answer: the number looks at the room alone, and both outputs have the same
-  with-answer : {q : Question} (number : ℕ → ℕ) (answer : List ℕ) {after : List ℕ} → call ≡ some (ask q) → told (panelIn m) q .number ≡ number (length room)
-      → toldBytes (panelIn m) q ≡ answer → length before ≡ mostAnswer → r .number ≡ number (length before) → r .length ≡ lengthAfter (number (length before)) answer
+  with-answer : {q : Question} (number : ℕ → ℕ) (answer : List ℕ) {after : List ℕ} → call ≡ some (ask q) → askedOutcome (panelIn m) q .number ≡ number (length room)
+      → answerBytes (panelIn m) q ≡ answer → length before ≡ mostAnswer → r .number ≡ number (length before) → r .length ≡ lengthAfter (number (length before)) answer
       → after ≡ outputAfter (number (length before)) answer before → Tells m call before after m r
   with-answer {q} number answer {after} e n a l numbered measured output =
-      let same : number (length before) ≡ told (panelIn m) q .number = ap number (l ∙ sym length-room) ∙ sym n in
+      let same : number (length before) ≡ askedOutcome (panelIn m) q .number = ap number (l ∙ sym length-room) ∙ sym n in
       rw e (record {
         numbered = numbered ∙ same;
         measured = measured ∙ ap₂ lengthAfter same (sym a);

@@ -17,7 +17,7 @@ use Rattle.run.proofs.Histories.{stands}
 use Rattle.run.proofs.Demand1.{demand-1}
 use Rattle.run.proofs.Demand3.{demand-3}
 use Rattle.hexadecimal.specs.Text.{bytesOf, textOf}
-use Rattle.frame.specs.Frames.{toldBytes, answerOf, frameNumber, frameAfter, frameReply}
+use Rattle.frame.specs.Frames.{answerBytes, answerOf, frameNumber, frameAfter, frameReply}
 use Rattle.frame.specs.Lines.{isLong, textCall, lineCall, lineBytes, lineReply, lineAfter}
 use Rattle.frame.specs.Runs.{panelAfterLines, withCall, callsOf, SaidTo, Said, SaysFrame, SaysLine, Says, Demand1OfLines, Demand3OfLines}
 use Rattle.frame.specs.Meaning.{MeansLine}
@@ -66,7 +66,7 @@ module _ (p : Panel) where
       go false number answer e h = frame-unchanged (textCall (bytesOf line)) number answer e h
 
 module _ (p : Panel) (b : Book) (s : Stands p b) where
-  said-to : (q : Question) → askedNumber b q ≡ accepted → SaidTo b q (toldBytes p q)
+  said-to : (q : Question) → askedNumber b q ≡ accepted → SaidTo b q (answerBytes p q)
   said-to (judge bytes) z = let (t, r, e) = answered p b s (judge bytes) .count .0 z in (t, r, ap (λ n. n ∷ []) e)
   said-to (fetchRecord k out) z = tells p b s (fetchRecord k out) z
   said-to (fetchRow k out) z = tells p b s (fetchRow k out) z

@@ -9,7 +9,7 @@ use Rattle.expression.specs.Refusal.{frame}
 use Rattle.run.specs.Image.{imageBytes}
 use Rattle.run.specs.Call.{Question, Call, stage, stageList, switch, putRow, putRecord, putClaim, drop, ask, fetchRecord, fetchRow, image, build, repair, judge, yield, operand, shortestRow}
 use Rattle.run.specs.Panel.{Panel, ifAccepted}
-use Rattle.run.specs.Steps.{told, outcome, after}
+use Rattle.run.specs.Steps.{askedOutcome, outcome, after}
 
 -- no answer of a line is longer: an image is the longest
 abbrev pub mostAnswer : ℕ
@@ -56,16 +56,16 @@ frameCall (kind ∷ rest) = callOf kind rest
 
 module _ (p : Panel) where
   -- the answer's bytes: a judge's is the count
-  abbrev pub toldBytes : Question → List ℕ
-  toldBytes (judge bytes) = told p (judge bytes) .count ∷ []
-  toldBytes (fetchRecord k out) = told p (fetchRecord k out) .answer
-  toldBytes (fetchRow k out) = told p (fetchRow k out) .answer
-  toldBytes (image k out) = told p (image k out) .answer
-  toldBytes (build row out) = told p (build row out) .answer
-  toldBytes (repair bytes out) = told p (repair bytes out) .answer
-  toldBytes (yield bytes out) = told p (yield bytes out) .answer
-  toldBytes (operand right bytes) = told p (operand right bytes) .answer
-  toldBytes (shortestRow bytes out) = told p (shortestRow bytes out) .answer
+  abbrev pub answerBytes : Question → List ℕ
+  answerBytes (judge bytes) = askedOutcome p (judge bytes) .count ∷ []
+  answerBytes (fetchRecord k out) = askedOutcome p (fetchRecord k out) .answer
+  answerBytes (fetchRow k out) = askedOutcome p (fetchRow k out) .answer
+  answerBytes (image k out) = askedOutcome p (image k out) .answer
+  answerBytes (build row out) = askedOutcome p (build row out) .answer
+  answerBytes (repair bytes out) = askedOutcome p (repair bytes out) .answer
+  answerBytes (yield bytes out) = askedOutcome p (yield bytes out) .answer
+  answerBytes (operand right bytes) = askedOutcome p (operand right bytes) .answer
+  answerBytes (shortestRow bytes out) = askedOutcome p (shortestRow bytes out) .answer
 
   abbrev pub answerOf : Call → List ℕ
   answerOf (stage n bytes) = []
@@ -75,7 +75,7 @@ module _ (p : Panel) where
   answerOf (putRecord k bytes) = []
   answerOf (putClaim k row bytes) = []
   answerOf (drop k) = []
-  answerOf (ask q) = toldBytes q
+  answerOf (ask q) = answerBytes q
 
   -- a frame that is no call is 12 and changes nothing
   abbrev pub frameNumber : Option Call → ℕ

@@ -12,7 +12,7 @@ use Rattle.run.specs.Panel.{Panel, fresh}
 use Rattle.run.specs.Book.{Book, bookNumber}
 use Rattle.run.specs.Run.{bookAfter, Each}
 use Rattle.run.specs.Promises.{Demand3}
-use Rattle.run.specs.Answers.{Records, Told, Valued}
+use Rattle.run.specs.Answers.{Records, AnswerIs, Valued}
 use Rattle.hexadecimal.specs.Text.{bytesOf, textOf}
 use Rattle.frame.specs.Lines.{isLong, textCall, lineCall, lineBytes, lineReply, lineAfter}
 use Rattle.frame.specs.Meaning.{MeansLine}
@@ -35,14 +35,14 @@ module _ (b : Book) where
   -- the bytes that the book answers to an accepted question in a line,
   abbrev pub SaidTo : Question → List ℕ → Type 0
   SaidTo (judge bytes) answer = (t : Tree) × Records b bytes t × (answer ≡ conflictCount (b .rules) t ∷ [])
-  SaidTo (fetchRecord k out) answer = Told b (fetchRecord k out) answer
-  SaidTo (fetchRow k out) answer = Told b (fetchRow k out) answer
-  SaidTo (image k out) answer = Told b (image k out) answer
-  SaidTo (build row out) answer = Told b (build row out) answer
-  SaidTo (repair bytes out) answer = Told b (repair bytes out) answer
-  SaidTo (yield bytes out) answer = Told b (yield bytes out) answer
-  SaidTo (operand right bytes) answer = Told b (operand right bytes) answer
-  SaidTo (shortestRow bytes out) answer = Told b (shortestRow bytes out) answer
+  SaidTo (fetchRecord k out) answer = AnswerIs b (fetchRecord k out) answer
+  SaidTo (fetchRow k out) answer = AnswerIs b (fetchRow k out) answer
+  SaidTo (image k out) answer = AnswerIs b (image k out) answer
+  SaidTo (build row out) answer = AnswerIs b (build row out) answer
+  SaidTo (repair bytes out) answer = AnswerIs b (repair bytes out) answer
+  SaidTo (yield bytes out) answer = AnswerIs b (yield bytes out) answer
+  SaidTo (operand right bytes) answer = AnswerIs b (operand right bytes) answer
+  SaidTo (shortestRow bytes out) answer = AnswerIs b (shortestRow bytes out) answer
 
   -- and to any call
   abbrev pub Said : Call → List ℕ → Type 0

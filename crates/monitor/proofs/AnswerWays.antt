@@ -1,7 +1,7 @@
 -- What each way through the questions gives, from what is known on it. Assumes nothing.
 use mathlib.Core.Path.{_≡_, refl, sym, ap, ap₂, _∙_}
-use mathlib.Core.Bool.{true, false}
-use mathlib.Core.List.{List, [], _∷_, _++_}
+use mathlib.Core.Bool.{false}
+use mathlib.Core.List.{List, _++_}
 use Prim.Native.Nat.{ℕ, _+_, _-_, _<_, _≤_}
 use native.Mathlib.Omega.{arith}
 use lib.Dec.{eqb}
@@ -29,22 +29,22 @@ use Rattle.places.proofs.Laws.{held-length}
 use Rattle.run.specs.Call.{Question, lentBefore, fetchRecord, fetchRow, image, build, repair, yield, shortestRow}
 use Rattle.run.specs.Panel.{isEmpty}
 use Rattle.run.proofs.Places.{empty-true, empty-false}
-use Rattle.run.specs.Steps.{fetchRecordNumber, fetchRowNumber, imageNumber, told}
+use Rattle.run.specs.Steps.{fetchRecordNumber, fetchRowNumber, imageNumber, askedOutcome}
 use Rattle.monitor.specs.Contracts.{AnswersInto, AnswersOn, AnswersUnder, AnswersFrom, Judges}
 
 -- ---- an answer by its number
 module _ (m : Memory) (q : Question) where
-  refused : (number : ℕ) → number ≡ told (panelIn m) q .number → (number ≡ 0 → ⊥) → AnswersInto m q (record { number = number; length = 0 }) (lentBefore q)
+  refused : (number : ℕ) → number ≡ askedOutcome (panelIn m) q .number → (number ≡ 0 → ⊥) → AnswersInto m q (record { number = number; length = 0 }) (lentBefore q)
   refused number e h =
-      let z : eqb (told (panelIn m) q .number) 0 ≡ false = ne-eqb (told (panelIn m) q .number) 0 (λ f. h (e ∙ f)) in
+      let z : eqb (askedOutcome (panelIn m) q .number) 0 ≡ false = ne-eqb (askedOutcome (panelIn m) q .number) 0 (λ f. h (e ∙ f)) in
       record { numbered = e; measured = rw z; output = rw z }
 
-  done : {size : ℕ} {later : List ℕ} → told (panelIn m) q .number ≡ 0 → size ≡ length (told (panelIn m) q .answer) → later ≡ told (panelIn m) q .answer ++ drop (length (told (panelIn m) q .answer)) (lentBefore q)
+  done : {size : ℕ} {later : List ℕ} → askedOutcome (panelIn m) q .number ≡ 0 → size ≡ length (askedOutcome (panelIn m) q .answer) → later ≡ askedOutcome (panelIn m) q .answer ++ drop (length (askedOutcome (panelIn m) q .answer)) (lentBefore q)
       → AnswersInto m q (record { number = 0; length = size }) later
   done e l o = record { numbered = sym e; measured = rw e l; output = rw e o }
 
   -- a callee's answer, under the question's own number and answer
-  as-told : {r : Answer} {later : List ℕ} (number : ℕ) (answer : List ℕ) → number ≡ told (panelIn m) q .number → answer ≡ told (panelIn m) q .answer
+  as-told : {r : Answer} {later : List ℕ} (number : ℕ) (answer : List ℕ) → number ≡ askedOutcome (panelIn m) q .number → answer ≡ askedOutcome (panelIn m) q .answer
       → r .number ≡ number → r .length ≡ lengthAfter (r .number) answer → later ≡ outputAfter (r .number) answer (lentBefore q) → AnswersInto m q r later
   as-told number answer e a n l o =
       record { numbered = n ∙ e; measured = l ∙ ap₂ lengthAfter (n ∙ e) a; output = o ∙ ap₂ (λ x y. outputAfter x y (lentBefore q)) (n ∙ e) a }

@@ -3,8 +3,6 @@ use mathlib.Core.Path.{_≡_, refl, sym, ap, subst, _∙_}
 use mathlib.Core.List.{List, [], _∷_, _++_}
 use Prim.Native.Nat.{ℕ, _+_, _-_, _<_, _≤_}
 use native.Mathlib.Omega.{arith}
-use native.Mathlib.Numerals.{add-one}
-use native.Mathlib.Nat.{le-antisymm}
 use lib.ListN.{length, take, drop, length-append}
 use lib.Seq.{take-at}
 use borrow.Author.Tests.{lt-ltb, le-ltb, ne-eqb}
@@ -12,12 +10,12 @@ use borrow.Author.Needs.{needs}
 use Rattle.expression.specs.Refusal.{Check, first}
 use Rattle.expression.specs.Lent.{outputAfter, lengthAfter}
 use Rattle.expression.specs.Limits.{mostRecordBytes}
-use Rattle.expression.specs.Token.{Operators, class}
+use Rattle.expression.specs.Token.{class}
 use Rattle.expression.specs.Decode.{treeOf}
 use Rattle.expression.specs.Operand.{rowOf}
-use Rattle.expression.specs.Checks.{recordBytes, rowChecks, recordChecks, rowNumber, recordNumber, buildNumber}
+use Rattle.expression.specs.Checks.{rowChecks, recordChecks, rowNumber, recordNumber}
 use Rattle.expression.proofs.Lengths.{few-bytes}
-use Rattle.expression.proofs.Numbers.{first-passed, given-after, first-enough, row-numbered, row-accepted, record-accepted, repair-number}
+use Rattle.expression.proofs.Numbers.{first-passed, given-after, row-accepted, record-accepted, repair-number}
 use Rattle.sheet.specs.Layout.{operatorsOf}
 use Rattle.sheet.specs.Relation.{closesIn}
 use Rattle.record.specs.Answers.{countIn}
@@ -31,7 +29,7 @@ use Rattle.run.specs.Places.{placeCount, held, stored}
 use Rattle.places.specs.Store.{recordsIn, Enters}
 use Rattle.places.specs.Memory.{memory}
 use Rattle.run.specs.Call.{Call, putRow, putRecord, putClaim}
-use Rattle.run.specs.Panel.{panel, placeCheck, ifAccepted, rebuilt, rebuiltTo}
+use Rattle.run.specs.Panel.{panel, placeCheck, rebuilt}
 use Rattle.run.specs.Steps.{putRowNumber, placesAfterRow, putRecordNumber, placesAfterRecord, putClaimNumber, placesAfterClaim, dropNumber, placesAfterDrop, after, reply}
 use Rattle.monitor.specs.Contracts.{Puts, Drops, storedIf, Stores, StoresRow, StoresRecord, StoresClaim, rebuiltAt}
 use Rattle.run.proofs.Places.{empty-true, empty-false}

@@ -15,7 +15,7 @@ use Rattle.places.specs.Store.{recordsIn}
 use Rattle.places.specs.Memory.{Memory, memory, panelIn}
 use Rattle.run.specs.Places.{placeCount, held}
 use Rattle.run.specs.Call.{stage, switch}
-use Rattle.run.specs.Panel.{Panel, panel, noneStaged, inUseCheck, rebuiltTo}
+use Rattle.run.specs.Panel.{panel, noneStaged, inUseCheck, rebuiltTo}
 use Rattle.run.specs.Steps.{switchNumber, stagedAfter, afterSwitch}
 use Rattle.monitor.specs.Contracts.{Changes, Stages, rebuiltAt}
 

@@ -25,7 +25,7 @@ use Rattle.places.specs.Memory.{Memory, memory, panelIn}
 use Rattle.run.specs.Places.{placeCount, held, stored}
 use Rattle.run.specs.Call.{Question, Call, Reply, ask, judge, operand}
 use Rattle.run.specs.Call as call
-use Rattle.run.specs.Panel.{Panel, panel, beyond, ifAccepted, rebuilt}
+use Rattle.run.specs.Panel.{panel, beyond, ifAccepted, rebuilt}
 use Rattle.run.specs.Steps.{after, reply}
 
 -- ---- calls that change the panel

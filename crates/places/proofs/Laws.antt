@@ -8,7 +8,7 @@ use native.Mathlib.Decide.{decLt, ℕ-discrete}
 use native.Mathlib.Omega.{arith}
 use lib.Dec.{ltb, leb}
 use lib.ListN.{length, take, drop, getD, length-take, length-set, getD-replicate, List·getD-eq-default}
-use lib.Seq.{sets, length-sets, getD-take, getD-drop, getD-set-same, getD-set-other, ext-getD}
+use lib.Seq.{sets, getD-take, getD-drop, getD-set-same, getD-set-other, ext-getD}
 use borrow.Author.Tests.{ltb-true, le-ltb, lt-leb}
 use Rattle.expression.specs.Limits.{mostRecordBytes}
 use Rattle.expression.proofs.Cond.{by-cond}

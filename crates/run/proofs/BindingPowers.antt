@@ -2,10 +2,11 @@
 use mathlib.Core.List.{List}
 use Rattle.sheet.proofs.Laws.{every-row-has-one}
 use Rattle.sheet.proofs.PowerLaws.{powers-given, powers-refused, ladder-in-force, reads-in-force}
+use Rattle.run.specs.Promises.{ops, rules}
 use Rattle.run.specs.Call.{Call}
 use Rattle.run.specs.Run.{panelAfter}
 use Rattle.run.specs.Requests.{BindingPowers}
-use Rattle.run.proofs.Placed.{ops, rules, sheet-in-force}
+use Rattle.run.proofs.Placed.{sheet-in-force}
 
 pub binding-powers : (cs : List Call) → BindingPowers cs
 binding-powers cs =

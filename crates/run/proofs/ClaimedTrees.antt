@@ -25,6 +25,7 @@ use Rattle.parser.proofs.InForceBuilds.{one-tree}
 use Rattle.claims.specs.Claims.{Claimed, pairChecksBy, claimNumber}
 use Rattle.claims.proofs.Accepting.{accepted-exactly-if, conflict-in-row}
 use Rattle.claims.proofs.InForceClaims.{claimed-exactly-if-built}
+use Rattle.run.specs.Promises.{ops, rules}
 use Rattle.run.specs.Places.{placeCount, stored}
 use Rattle.run.specs.Call.{Call, putRow, putClaim, ask, fetchRecord, build}
 use Rattle.run.specs.Panel.{placeCheck}
@@ -35,7 +36,7 @@ use Rattle.run.specs.Requests.{ClaimedTrees}
 use Rattle.run.proofs.Stands.{same-number}
 use Rattle.run.proofs.Replies.{place-passed}
 use Rattle.run.proofs.Histories.{stands}
-use Rattle.run.proofs.Placed.{ops, rules, same-ops, same-rules, sheet-in-force, answered-by}
+use Rattle.run.proofs.Placed.{same-ops, same-rules, sheet-in-force, answered-by}
 use Rattle.run.proofs.Filling.{holds-last-put}
 
 -- ---- the number with room for every record

@@ -26,12 +26,12 @@ use Rattle.run.specs.Panel.{rebuilt}
 use Rattle.run.specs.Steps as steps
 use Rattle.run.specs.Answers.{Records}
 use Rattle.run.specs.Run.{panelAfter, answer, bookAfter, AnsweredBy}
-use Rattle.run.specs.Promises.{Within, Demand2}
+use Rattle.run.specs.Promises.{Within, Demand2, ops, rules}
 use Rattle.run.proofs.Slots.{HeldTree, bytes-long, put-row-holds, put-record-holds}
 use Rattle.run.proofs.Stands.{same-number}
 use Rattle.run.proofs.Replies.{answers}
 use Rattle.run.proofs.Histories.{stands}
-use Rattle.run.proofs.Placed.{ops, rules, same-ops, same-rules, sheet-in-force, within-accepted, answered-by, repair-accepted}
+use Rattle.run.proofs.Placed.{same-ops, same-rules, sheet-in-force, within-accepted, answered-by, repair-accepted}
 
 module _ (cs : List Call) where
   same-operators : steps.ops (panelAfter cs) ≡ ops cs

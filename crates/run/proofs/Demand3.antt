@@ -32,11 +32,11 @@ use Rattle.run.specs.Panel.{rebuilt}
 use Rattle.run.specs.Answers.{Answers}
 use Rattle.run.specs.Run.{panelAfter, answer, bookAfter, lastPut, Each, RepairsTo}
 use Rattle.run.specs.Meaning.{Means}
-use Rattle.run.specs.Promises.{Within, ForItsRules, Demand3}
+use Rattle.run.specs.Promises.{Within, ForItsRules, Demand3, ops, rules}
 use Rattle.run.proofs.Replies.{answers}
 use Rattle.run.proofs.ListSheets.{as-many-in-order, list-same}
 use Rattle.run.proofs.Histories.{stands, book-in-force, book-slot}
-use Rattle.run.proofs.Placed.{ops, rules, same-ops, same-rules, sheet-in-force, exactly-one, within-accepted, answered-by, repair-accepted}
+use Rattle.run.proofs.Placed.{same-ops, same-rules, sheet-in-force, exactly-one, within-accepted, answered-by, repair-accepted}
 use Rattle.run.proofs.MeaningsBook.{means}
 use Rattle.run.proofs.Filling.{holds-last-put, filled-exactly-if-put}
 use Rattle.run.proofs.OneAnswer.{answers-same}

@@ -11,7 +11,7 @@ use Rattle.expression.specs.Decode.{treeOf}
 use Rattle.expression.specs.Operand.{rowOf}
 use Rattle.disambiguation.specs.SheetChecks.{rulesIn, operatorsIn}
 use Rattle.run.specs.Call.{Call, stage, stageList, switch, putRow, putRecord, putClaim, drop, ask}
-use Rattle.run.specs.Book.{Rules, ruledBy, Book, ruledByNote, entered, next}
+use Rattle.run.specs.Book.{Sheet, sheetBy, Book, ruledByNote, entered, next}
 use Rattle.run.specs.Run.{panelAfter, bookAfter, isAccepted, lastStaged, orElse, inForce, lastPut}
 use Rattle.run.proofs.Stands.{Stands, fresh-stands, same-number}
 use Rattle.run.proofs.Keeping.{keeps}
@@ -39,16 +39,16 @@ unchanged f c cs e = ap f (after-call c cs) ∙ go (isAccepted cs c)
     go true = e
     go false = refl
 
-abbrev rulesOn : Book → Rules
-rulesOn b = ruledBy (b .operators) (b .rules)
+abbrev rulesOn : Book → Sheet
+rulesOn b = sheetBy (b .operators) (b .rules)
 
 -- The book's note is the sheet of the last accepted staging, unless a switch was accepted since.
-noted-after : (c : Call) (cs : List Call) (now : Option Rules) → entered (bookAfter cs) c .note ≡ now → bookAfter (c ∷ cs) .note ≡ cond (isAccepted cs c) now (bookAfter cs .note)
+noted-after : (c : Call) (cs : List Call) (now : Option Sheet) → entered (bookAfter cs) c .note ≡ now → bookAfter (c ∷ cs) .note ≡ cond (isAccepted cs c) now (bookAfter cs .note)
 noted-after c cs now e =
     ap (λ (b : Book). b .note) (after-call c cs) ∙ either (λ (b : Book). b .note) (isAccepted cs c) (entered (bookAfter cs) c) (bookAfter cs)
     ∙ ap (λ x. cond (isAccepted cs c) x (bookAfter cs .note)) e
 
-cleared : (b : Book) (note : Option Rules) → b .note ≡ note → ruledByNote b note .note ≡ none
+cleared : (b : Book) (note : Option Sheet) → b .note ≡ note → ruledByNote b note .note ≡ none
 cleared b none e = e
 cleared b (some s) e = refl
 
@@ -56,11 +56,11 @@ pub book-note : (cs : List Call) → bookAfter cs .note ≡ lastStaged cs
 unfolding bookAfter lastStaged
 book-note [] = refl
 book-note (stage n bytes ∷ cs) =
-    noted-after (stage n bytes) cs (some (ruledBy (operatorsIn n bytes) (rulesIn n bytes))) refl
-    ∙ ap (cond (isAccepted cs (stage n bytes)) (some (ruledBy (operatorsIn n bytes) (rulesIn n bytes)))) (book-note cs)
+    noted-after (stage n bytes) cs (some (sheetBy (operatorsIn n bytes) (rulesIn n bytes))) refl
+    ∙ ap (cond (isAccepted cs (stage n bytes)) (some (sheetBy (operatorsIn n bytes) (rulesIn n bytes)))) (book-note cs)
 book-note (stageList n kinds rules ∷ cs) =
-    noted-after (stageList n kinds rules) cs (some (ruledBy (operators n kinds) rules)) refl
-    ∙ ap (cond (isAccepted cs (stageList n kinds rules)) (some (ruledBy (operators n kinds) rules))) (book-note cs)
+    noted-after (stageList n kinds rules) cs (some (sheetBy (operators n kinds) rules)) refl
+    ∙ ap (cond (isAccepted cs (stageList n kinds rules)) (some (sheetBy (operators n kinds) rules))) (book-note cs)
 book-note (switch ∷ cs) =
     noted-after switch cs none (cleared (bookAfter cs) (bookAfter cs .note) refl) ∙ ap (cond (isAccepted cs switch) none) (book-note cs)
 book-note (putRow k row ∷ cs) = unchanged (λ b. b .note) (putRow k row) cs refl ∙ book-note cs
@@ -70,11 +70,11 @@ book-note (drop k ∷ cs) = unchanged (λ b. b .note) (drop k) cs refl ∙ book-
 book-note (ask q ∷ cs) = unchanged (λ b. b .note) (ask q) cs refl ∙ book-note cs
 
 -- The book's sheet is the one that was noted at the last accepted switch, or the fresh panel's.
-ruled-by-note : (b : Book) (note : Option Rules) → rulesOn (ruledByNote b note) ≡ orElse note (rulesOn b)
+ruled-by-note : (b : Book) (note : Option Sheet) → rulesOn (ruledByNote b note) ≡ orElse note (rulesOn b)
 ruled-by-note b none = refl
 ruled-by-note b (some s) = refl
 
-pub book-in-force : (cs : List Call) → ruledBy (bookAfter cs .operators) (bookAfter cs .rules) ≡ inForce cs
+pub book-in-force : (cs : List Call) → sheetBy (bookAfter cs .operators) (bookAfter cs .rules) ≡ inForce cs
 unfolding bookAfter inForce
 book-in-force [] = refl
 book-in-force (stage n bytes ∷ cs) = unchanged rulesOn (stage n bytes) cs refl ∙ book-in-force cs
@@ -99,7 +99,7 @@ slot-after k j c cs slot e =
     ap (λ (b : Book). b .slots k) (after-call c cs) ∙ either (λ (b : Book). b .slots k) (isAccepted cs c) (entered (bookAfter cs) c) (bookAfter cs)
     ∙ ap (λ x. cond (isAccepted cs c) x (bookAfter cs .slots k)) e ∙ slot-entered (isAccepted cs c) (eqb k j) slot (bookAfter cs .slots k)
 
-slots-stay : (b : Book) (note : Option Rules) (k : ℕ) → ruledByNote b note .slots k ≡ b .slots k
+slots-stay : (b : Book) (note : Option Sheet) (k : ℕ) → ruledByNote b note .slots k ≡ b .slots k
 slots-stay b none k = refl
 slots-stay b (some s) k = refl
 
@@ -114,7 +114,7 @@ book-slot k (putRow j row ∷ cs) =
     slot-after k j (putRow j row) cs (some row) refl ∙ ap (cond (isAccepted cs (putRow j row) && eqb k j) (some row)) (book-slot k cs)
 book-slot k (putRecord j bytes ∷ cs) =
     slot-after k j (putRecord j bytes) cs (some (rowOf (treeOf (class (bookAfter cs .operators)) bytes))) refl
-    ∙ ap (λ o. cond (isAccepted cs (putRecord j bytes) && eqb k j) (some (rowOf (treeOf (class o) bytes))) (bookAfter cs .slots k)) (ap (λ (r : Rules). r .operators) (book-in-force cs))
+    ∙ ap (λ o. cond (isAccepted cs (putRecord j bytes) && eqb k j) (some (rowOf (treeOf (class o) bytes))) (bookAfter cs .slots k)) (ap (λ (r : Sheet). r .operators) (book-in-force cs))
     ∙ ap (cond (isAccepted cs (putRecord j bytes) && eqb k j) (some (rowOf (treeOf (class (inForce cs .operators)) bytes)))) (book-slot k cs)
 book-slot k (putClaim j row bytes ∷ cs) =
     slot-after k j (putClaim j row bytes) cs (some row) refl ∙ ap (cond (isAccepted cs (putClaim j row bytes) && eqb k j) (some row)) (book-slot k cs)

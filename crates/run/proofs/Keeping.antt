@@ -28,8 +28,8 @@ use Rattle.run.proofs.Places.{held-stored-same, held-stored-other, leng
 use Rattle.run.specs.Call.{Call, stage, stageList, switch, putRow, putRecord, putClaim, drop, ask}
 use Rattle.run.specs.Panel.{Panel, panel, noneStaged, usesOther, inUseCheck, ifAccepted, rebuilt, rebuiltTo}
 use Rattle.run.specs.Steps.{ops, switchNumber, stagedAfter, afterSwitch, placesAfterRow, placesAfterRecord, placesAfterClaim, placesAfterDrop, withStaged, withPlaces, after, outcome}
-use Rattle.run.specs.Book.{Rules, ruledBy, Book, blankCheck, notedNumber, bookNumber, withNote, ruledByNote, withSlot, entered, next}
-use Rattle.run.proofs.Slots.{Holds, holds-fit, put-row-holds, put-record-holds, put-claim-holds}
+use Rattle.run.specs.Book.{Sheet, sheetBy, Book, blankCheck, notedNumber, bookNumber, withNote, ruledByNote, withSlot, entered, next}
+use Rattle.run.proofs.Slots.{Holds, put-row-holds, put-record-holds, put-claim-holds}
 use Rattle.run.proofs.Rebuilding.{rebuilt-size, rebuilt-holds}
 use Rattle.run.proofs.ListSheets.{list-in-force}
 use Rattle.run.proofs.Stands.{OnStage, Stands, same-operators, in-use-same, same-number}
@@ -103,7 +103,7 @@ module _ (p : Panel) (b : Book) (s : Stands p b) where
   -- ---- staging
   -- a stage that gets the sheet of operators and rules stands for a note of them
   staged-stands : (c : Call) (n : ℕ) (kinds : List ℕ) (rules : List Rule) → after p c ≡ withStaged p (stagedAfter p (bookNumber b c) n kinds rules)
-      → entered b c ≡ withNote b (ruledBy (operators n kinds) rules) → (bookNumber b c ≡ accepted → InForce (sheetOf n kinds rules) (operators n kinds) rules) → Stands (after p c) (next b c)
+      → entered b c ≡ withNote b (sheetBy (operators n kinds) rules) → (bookNumber b c ≡ accepted → InForce (sheetOf n kinds rules) (operators n kinds) rules) → Stands (after p c) (next b c)
   unfolding stagedAfter
   staged-stands c n kinds rules becomes page made =
       by-number c
@@ -113,7 +113,7 @@ module _ (p : Panel) (b : Book) (s : Stands p b) where
 
   -- ---- switch
   -- the noted sheet has every operator that a held tree uses, as that kind: it is in force, and its trees are held
-  module _ (new : Rules) (loaded : InForce (p .staged) (new .operators) (new .rules)) where
+  module _ (new : Sheet) (loaded : InForce (p .staged) (new .operators) (new .rules)) where
     abbrev unfit : ℕ → Bool
     unfit k = usesOther (ops p) (new .operators) (held (p .places) k)
 
@@ -140,7 +140,7 @@ module _ (p : Panel) (b : Book) (s : Stands p b) where
   switch-stands =
       by-number switch (λ e. rw (same-number p b s switch ∙ e) (go (b .note) (s .on-stage) e)) (λ h. rw (ne-eqb (switchNumber p) 0 (λ z. h (sym (same-number p b s switch) ∙ z))))
     where
-      go : (note : Option Rules) → OnStage (p .staged) note → notedNumber b note ≡ accepted
+      go : (note : Option Sheet) → OnStage (p .staged) note → notedNumber b note ≡ accepted
           → Stands (panel (p .staged) noneStaged (rebuiltTo (p .staged) placeCount (p .places))) (ruledByNote b note)
       go none g e = absurd (omega arith)
       go (some new) (_, loaded) e = switched-stands new loaded (unused (inUseCheck (ops p) (new .operators) (held (p .places)) .0) (ap (λ (c : Check). first (c ∷ [])) (in-use-same p b s (new .operators)) ∙ e))

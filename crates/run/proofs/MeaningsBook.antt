@@ -34,7 +34,7 @@ use Rattle.run.specs.Call.{Question, Call, lentBefore, stage, stageList,
 use Rattle.run.specs.Panel.{Panel, placeCheck}
 use Rattle.run.specs.Steps.{reply}
 use Rattle.run.specs.Book.{Book, rowIn, isBlank, blankCheck, slotRow, SlotTree, askedNumber, bookNumber}
-use Rattle.run.specs.Answers.{Image, Told}
+use Rattle.run.specs.Answers.{Image, AnswerIs}
 use Rattle.run.specs.Run.{panelAfter, bookAfter, answer}
 use Rattle.run.specs.Meaning.{Accepted, AtPlace, NotBlank, WithRoom, OfRow, OfRecord, OfClaim, MeansAsked, Means}
 use Rattle.run.proofs.Slots.{Holds, not-blank}
@@ -62,8 +62,8 @@ module _ (b : Book) where
   blank-means Else k rest f =
       when Else (isBlank (b .slots k)) empty (first rest) (decides-blank (b .slots k)) (λ e. let (row, q) = not-blank (b .slots k) e in f row q)
 
-  -- there is an answer, and all that are told have this length
-  room-means : (q : Question) (size : ℕ) → (a : List ℕ) → Told b q a → ((a : List ℕ) → Told b q a → length a ≡ size)
+  -- there is an answer, and all that are askedOutcome have this length
+  room-means : (q : Question) (size : ℕ) → (a : List ℕ) → AnswerIs b q a → ((a : List ℕ) → AnswerIs b q a → length a ≡ size)
       → WithRoom b q (first (shortCheck size (length (lentBefore q)) ∷ []))
   room-means q size a t long =
       when Accepted (ltb (length (lentBefore q)) size) short accepted (

@@ -24,7 +24,7 @@ use Rattle.disambiguation.proofs.VerdictDecides.{dead-exactly-if, double-exactl
 use Rattle.run.specs.Places.{placeCount}
 use Rattle.run.specs.Call.{stage, stageList, switch}
 use Rattle.run.specs.Panel.{beyond, changed, usesOther}
-use Rattle.run.specs.Book.{Rules, Book, rowIn, slotRow, notedNumber, bookNumber}
+use Rattle.run.specs.Book.{Sheet, Book, rowIn, slotRow, notedNumber, bookNumber}
 use Rattle.run.specs.Meaning.{When, Accepted, SomeOf, StrangeKind, StrangeRule, OfSheet, UsesOther, Means}
 use Rattle.run.proofs.Meanings.{Decides, when, decides-or, decides-and, decides-not, decides-less, decides-not-less, decides-some}
 
@@ -195,15 +195,15 @@ pub switch-means : (b : Book) → Means b switch (bookNumber b switch)
 switch-means b = go (b .note) refl
   where
     Noted : Type 0
-    Noted = (s : Rules) × (b .note ≡ some s) × UsesOther b (s .operators)
+    Noted = (s : Sheet) × (b .note ≡ some s) × UsesOther b (s .operators)
 
-    go : (note : Option Rules) → b .note ≡ note → When (b .note ≡ none) nothingStaged (When Noted inUse Accepted) (notedNumber b note)
+    go : (note : Option Sheet) → b .note ≡ note → When (b .note ≡ none) nothingStaged (When Noted inUse Accepted) (notedNumber b note)
     go none e = inl (e, refl)
     go (some s) e = inr (
       λ z. Option·none-ne-some s (sym z ∙ e),
       when Accepted (not (allBelow placeCount (unused b (s .operators)))) inUse accepted (
         λ h. (s, e, decides-in-use b (s .operators) .0 h),
-        λ n. let (t, f, u) = n in decides-in-use b (s .operators) .1 (subst (λ (r : Rules). UsesOther b (r .operators)) (Option·some-inj .0 (sym f ∙ e)) u),
+        λ n. let (t, f, u) = n in decides-in-use b (s .operators) .1 (subst (λ (r : Sheet). UsesOther b (r .operators)) (Option·some-inj .0 (sym f ∙ e)) u),
       )
           (λ _. refl),
     )

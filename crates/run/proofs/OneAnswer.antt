@@ -22,7 +22,7 @@ use Rattle.brackets.specs.SameMeaning.{ShortestRow}
 use Rattle.run.specs.Image.{imageOf}
 use Rattle.run.specs.Call.{Question, Call, lentBefore, stage, stageList, switch, putRow, putRecord, putClaim, drop, ask, fetchRecord, fetchRow, image, build, repair, judge, yield, operand, shortestRow, Reply}
 use Rattle.run.specs.Book.{Book, slotRow, askedNumber}
-use Rattle.run.specs.Answers.{Lent, Valued, Records, Image, Told, Count, Part, Silent, Rest, Answers}
+use Rattle.run.specs.Answers.{Lent, Valued, Records, Image, AnswerIs, Count, Part, Silent, Rest, Answers}
 
 -- replies with the same fields
 same-reply : (r s : Reply) → r .number ≡ s .number → r .length ≡ s .length → r .output ≡ s .output → r .count ≡ s .count → r .part ≡ s .part → r ≡ s
@@ -82,7 +82,7 @@ module _ (b : Book) (one : EveryRowHasExactlyOne (b .operators) (b .rules)) wher
   one-image k none x y e d = e ∙ sym d
   one-image k (some row) x y e d = one-built (slotRow b k) (λ t. imageOf (recordOf t)) x y e d
 
-  one-told : (q : Question) → OfOne (Told b q)
+  one-told : (q : Question) → OfOne (AnswerIs b q)
   one-told (fetchRecord k out) x y e d = one-built (slotRow b k) recordOf x y e d
   one-told (fetchRow k out) x y e d = e ∙ sym d
   one-told (image k out) x y e d = one-image k (b .slots k) x y e d
@@ -132,7 +132,7 @@ module _ (b : Book) (one : EveryRowHasExactlyOne (b .operators) (b .rules)) wher
   rest-same (putClaim k row bytes) r s e f g = silent-same r s e f g
   rest-same (drop k) r s e f g = silent-same r s e f g
   rest-same (ask q) r s e f g =
-      let (l, o) = one-lent (askedNumber b q) (Told b q) (one-told q) (lentBefore q) (r .length) (s .length) (r .output) (s .output) (f .output) (g .output) in
+      let (l, o) = one-lent (askedNumber b q) (AnswerIs b q) (one-told q) (lentBefore q) (r .length) (s .length) (r .output) (s .output) (f .output) (g .output) in
       same-reply r s e l o (one-count q (r .count) (s .count) (f .count) (g .count)) (one-part q (r .part) (s .part) (f .part) (g .part))
 
   pub answers-same : (c : Call) → OfOne (Answers b c)

@@ -9,10 +9,11 @@ use Rattle.disambiguation.specs.Conflicts.{ConflictFreeTree}
 use Rattle.disambiguation.specs.LeftToRight.{finish}
 use Rattle.parser.specs.FromTheLeft.{state}
 use Rattle.parser.proofs.FromTheLeft.{from-the-left, finishes-with}
+use Rattle.run.specs.Promises.{ops, rules}
 use Rattle.run.specs.Call.{Call}
 use Rattle.run.specs.Run.{panelAfter}
 use Rattle.run.specs.Requests.{ReadFromTheLeft}
-use Rattle.run.proofs.Placed.{ops, rules, sheet-in-force}
+use Rattle.run.proofs.Placed.{sheet-in-force}
 use Rattle.run.proofs.Demand2.{demand-2}
 
 module _ (cs : List Call) where

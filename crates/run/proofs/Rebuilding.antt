@@ -18,7 +18,7 @@ use Rattle.sheet.specs.InForce.{InForce}
 use Rattle.run.specs.Places.{placeCount, held, stored}
 use Rattle.run.proofs.Places.{held-stored-same, held-stored-other, length-stored}
 use Rattle.run.specs.Panel.{usesOther, ifAccepted, rebuilt, rebuiltTo}
-use Rattle.run.proofs.Slots.{Holds, accepted-there, rebuilt-there, holds-fit}
+use Rattle.run.proofs.Slots.{Holds, accepted-there, rebuilt-there}
 
 -- no bytes are no tree
 empty-refused : (ops : Operators) → eqb (recordNumber ops []) accepted ≡ false

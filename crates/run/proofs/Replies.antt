@@ -28,9 +28,9 @@ use Rattle.run.specs.Image.{imageBytes, imageOf}
 use Rattle.run.specs.Places.{placeCount, held}
 use Rattle.run.specs.Call.{Question, Call, lentBefore, stage, stageList, switch, putRow, putRecord, putClaim, drop, ask, fetchRecord, fetchRow, image, build, repair, judge, yield, operand, shortestRow}
 use Rattle.run.specs.Panel.{Panel, placeCheck}
-use Rattle.run.specs.Steps.{ops, told, outcome, reply}
+use Rattle.run.specs.Steps.{ops, askedOutcome, outcome, reply}
 use Rattle.run.specs.Book.{Book, rowIn, isBlank, blankCheck, slotRow, SlotTree, askedNumber}
-use Rattle.run.specs.Answers.{Lent, Valued, Records, Image, Told, Count, Part, Answered, Silent, Rest, Answers}
+use Rattle.run.specs.Answers.{Lent, Valued, Records, Image, AnswerIs, Count, Part, Answered, Silent, Rest, Answers}
 use Rattle.run.proofs.Slots.{HeldTree, Holds, row-back, put-row-holds, put-record-holds}
 use Rattle.run.proofs.Stands.{Stands, filled, same-operators, same-asked, same-number}
 
@@ -96,7 +96,7 @@ module _ (p : Panel) (b : Book) (s : Stands p b) where
       (t, (r .over, r .recorded), read-as (b .operators) bytes t (r .over) (r .recorded))
 
   -- The bytes of each accepted answer are those that the book gives.
-  pub tells : (q : Question) → askedNumber b q ≡ accepted → Told b q (told p q .answer)
+  pub tells : (q : Question) → askedNumber b q ≡ accepted → AnswerIs b q (askedOutcome p q .answer)
   unfolding buildNumber rowNumber repairNumber yieldNumber recordNumber shortestNumber
   tells (fetchRecord k out) z = let (row, q, (t, g)) = found k (shortCheck (recordBytes (slotRow b k)) (length out) ∷ []) z in (t, slot-tree k row q t g, g .recorded)
   tells (fetchRow k out) z =
@@ -128,7 +128,7 @@ module _ (p : Panel) (b : Book) (s : Stands p b) where
       let same = shortest-by-rules (p .sheet) (b .operators) (b .rules) (s .in-force) bytes ∙ ap (shortestBy (b .operators) (b .rules)) q in
       (t, r, subst (ShortestRow (b .operators) (b .rules) (tree.yield t)) (sym same) (shortest-of-tree (b .operators) (b .rules) (s .in-force .accepts) t (r .0)))
 
-  judge-count : (bytes : List ℕ) → Count b (judge bytes) (told p (judge bytes) .count)
+  judge-count : (bytes : List ℕ) → Count b (judge bytes) (askedOutcome p (judge bytes) .count)
   unfolding judgement
   judge-count bytes =
       valued (askedNumber b (judge bytes)) (recordNumber (ops p) bytes) (same-asked p b s (judge bytes)) (λ c. (t : Tree) × Records b bytes t × (c ≡ conflictCount (b .rules) t)) 0
@@ -141,7 +141,7 @@ module _ (p : Panel) (b : Book) (s : Stands p b) where
             ∙ sym (count-by-relation (p .sheet) (b .operators) (b .rules) (s .in-force) t (r .0)),
       ))
 
-  operand-part : (right : Bool) (bytes : List ℕ) → Part b (operand right bytes) (told p (operand right bytes) .part)
+  operand-part : (right : Bool) (bytes : List ℕ) → Part b (operand right bytes) (askedOutcome p (operand right bytes) .part)
   unfolding operandPart
   operand-part right bytes =
       valued (askedNumber b (operand right bytes)) (recordNumber (ops p) bytes) (same-asked p b s (operand right bytes)) (λ x. (t : Tree) × Records b bytes t × (x ≡ operandRecord right t)) []
@@ -150,7 +150,7 @@ module _ (p : Panel) (b : Book) (s : Stands p b) where
       let (t, r, q) = recorded bytes z in
       (t, r, ap (λ o. operandIn right (treeOf (class o) bytes)) (same-operators p b s) ∙ ap (operandIn right) q))
 
-  count : (q : Question) → Count b q (told p q .count)
+  count : (q : Question) → Count b q (askedOutcome p q .count)
   count (judge bytes) = judge-count bytes
   count (fetchRecord k out) = refl
   count (fetchRow k out) = refl
@@ -161,7 +161,7 @@ module _ (p : Panel) (b : Book) (s : Stands p b) where
   count (operand right bytes) = refl
   count (shortestRow bytes out) = refl
 
-  part : (q : Question) → Part b q (told p q .part)
+  part : (q : Question) → Part b q (askedOutcome p q .part)
   part (operand right bytes) = operand-part right bytes
   part (fetchRecord k out) = refl
   part (fetchRow k out) = refl
@@ -175,7 +175,7 @@ module _ (p : Panel) (b : Book) (s : Stands p b) where
   pub answered : (q : Question) → Answered b q (reply p (ask q))
   answered q =
       record {
-        output = lent-answer (askedNumber b q) (told p q .number) (same-asked p b s q) (Told b q) (told p q .answer) (lentBefore q) (tells q);
+        output = lent-answer (askedNumber b q) (askedOutcome p q .number) (same-asked p b s q) (AnswerIs b q) (askedOutcome p q .answer) (lentBefore q) (tells q);
         count = count q;
         part = part q;
       }

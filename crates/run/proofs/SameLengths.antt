@@ -10,9 +10,9 @@ use Rattle.expression.specs.Tree.{Tree, recordOf}
 use Rattle.expression.specs.Checks.{recordBytes}
 use Rattle.expression.proofs.Classes.{brackets}
 use Rattle.expression.proofs.Lengths.{record-length}
+use Rattle.run.specs.Promises.{ops}
 use Rattle.run.specs.Call.{Call, switch}
 use Rattle.run.specs.Run.{lastPut, HoldsTree}
-use Rattle.run.proofs.Placed.{ops}
 use Rattle.run.proofs.Filling.{holds-last-put, filled-exactly-if-put}
 
 -- A held record is as long as a record of the row that was put last.

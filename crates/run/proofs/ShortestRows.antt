@@ -15,9 +15,9 @@ use Rattle.brackets.proofs.ShortestRows.{shortest-of-tree, shortest-fits}
 use Rattle.brackets.proofs.InForceShortest.{shortest-by-rules}
 use Rattle.run.specs.Call.{Call, ask, shortestRow}
 use Rattle.run.specs.Run.{panelAfter, AnsweredBy}
-use Rattle.run.specs.Promises.{Within}
+use Rattle.run.specs.Promises.{Within, ops, rules}
 use Rattle.run.specs.Requests.{ShortestRows}
-use Rattle.run.proofs.Placed.{ops, rules, sheet-in-force, within-accepted, answered-by}
+use Rattle.run.proofs.Placed.{sheet-in-force, within-accepted, answered-by}
 
 module _ (cs : List Call) (t : Tree) (over : Over (class (ops cs)) t) (within : Within t) where
   abbrev row : List ℕ

@@ -16,8 +16,8 @@ use Rattle.sheet.specs.InForce.{InForce}
 use Rattle.sheet.proofs.Laws.{every-row-has-one}
 use Rattle.run.specs.Call.{Question, Call, stage, stageList, switch, putRow, putRecord, putClaim, drop, ask, fetchRecord, fetchRow, image, build, repair, judge, yield, operand, shortestRow}
 use Rattle.run.specs.Panel.{Panel, inUseCheck}
-use Rattle.run.specs.Steps.{putRowNumber, putRecordNumber, putClaimNumber, dropNumber, fetchRecordNumber, fetchRowNumber, imageNumber, withStaged, told, reply}
-use Rattle.run.specs.Book.{Rules, slotRow, notedNumber}
+use Rattle.run.specs.Steps.{putRowNumber, putRecordNumber, putClaimNumber, dropNumber, fetchRecordNumber, fetchRowNumber, imageNumber, withStaged, askedOutcome, reply}
+use Rattle.run.specs.Book.{Sheet, slotRow, notedNumber}
 use Rattle.run.specs.Run.{panelAfter, answer, bookAfter, lastStaged, inForce, IsStaging}
 use Rattle.run.specs.Requests.{StageThenSwitch}
 use Rattle.run.proofs.Stands.{same-number}
@@ -25,7 +25,7 @@ use Rattle.run.proofs.Histories.{stands, book-note}
 
 -- ---- nothing but a switch looks at the stage
 module _ (p : Panel) (staged : List ℕ) where
-  same-told : (q : Question) → told (withStaged p staged) q ≡ told p q
+  same-told : (q : Question) → askedOutcome (withStaged p staged) q ≡ askedOutcome p q
   unfolding fetchRecordNumber fetchRowNumber imageNumber
   same-told (fetchRecord k out) = refl
   same-told (fetchRow k out) = refl
@@ -49,10 +49,10 @@ module _ (p : Panel) (staged : List ℕ) where
   same-reply (ask q) h = rw (same-told q)
 
 module _ (cs : List Call) where
-  loaded : (s : Rules) → lastStaged cs ≡ some s → InForce (panelAfter cs .staged) (s .operators) (s .rules)
+  loaded : (s : Sheet) → lastStaged cs ≡ some s → InForce (panelAfter cs .staged) (s .operators) (s .rules)
   loaded s e = (rw (book-note cs ∙ e) at (stands cs .on-stage)) .1
 
-  one-tree : (s : Rules) → lastStaged cs ≡ some s → EveryRowHasExactlyOne (s .operators) (s .rules)
+  one-tree : (s : Sheet) → lastStaged cs ≡ some s → EveryRowHasExactlyOne (s .operators) (s .rules)
   one-tree s e = every-row-has-one (panelAfter cs .staged) (s .operators) (s .rules) (loaded s e)
 
   unseen : (c d : Call) → IsStaging c → (d ≡ switch → ⊥) → answer (c ∷ cs) d ≡ answer cs d
@@ -86,20 +86,20 @@ module _ (cs : List Call) where
   nothing : (answer cs switch .number ≡ nothingStaged) ↔ (lastStaged cs ≡ none)
   nothing = (λ z. to (lastStaged cs) (sym switch-number ∙ z), λ e. switch-number ∙ ap (notedNumber (bookAfter cs)) e)
     where
-      to : (note : Option Rules) → notedNumber (bookAfter cs) note ≡ nothingStaged → note ≡ none
+      to : (note : Option Sheet) → notedNumber (bookAfter cs) note ≡ nothingStaged → note ≡ none
       to none z = refl
       to (some s) z = absurd (never nothingStaged (inUseCheck (bookAfter cs .operators) (s .operators) (slotRow (bookAfter cs)) ∷ []) [] refl (λ _ z. omega arith) z)
 
   -- an accepted switch found a note
-  noted : (note : Option Rules) → notedNumber (bookAfter cs) note ≡ accepted → (s : Rules) × (note ≡ some s)
+  noted : (note : Option Sheet) → notedNumber (bookAfter cs) note ≡ accepted → (s : Sheet) × (note ≡ some s)
   noted none e = absurd (omega arith)
   noted (some s) e = (s, refl)
 
-  switched : answer cs switch .number ≡ accepted → (s : Rules) × (lastStaged cs ≡ some s) × (inForce (switch ∷ cs) ≡ s) × (lastStaged (switch ∷ cs) ≡ none)
+  switched : answer cs switch .number ≡ accepted → (s : Sheet) × (lastStaged cs ≡ some s) × (inForce (switch ∷ cs) ≡ s) × (lastStaged (switch ∷ cs) ≡ none)
   unfolding inForce lastStaged
   switched z = let (s, e) = noted (lastStaged cs) (sym switch-number ∙ z) in go s e
     where
-      go : (s : Rules) → lastStaged cs ≡ some s → (s : Rules) × (lastStaged cs ≡ some s) × (inForce (switch ∷ cs) ≡ s) × (lastStaged (switch ∷ cs) ≡ none)
+      go : (s : Sheet) → lastStaged cs ≡ some s → (s : Sheet) × (lastStaged cs ≡ some s) × (inForce (switch ∷ cs) ≡ s) × (lastStaged (switch ∷ cs) ≡ none)
       go s f = (s, f, rw (z, f) refl, rw z refl)
 
 pub stage-then-switch : (cs : List Call) → StageThenSwitch cs

@@ -26,12 +26,12 @@ use Rattle.run.specs.Places as places
 use Rattle.run.proofs.Places.{held-fresh}
 use Rattle.run.specs.Call.{Question, Call, stage, stageList, switch, putRow, putRecord, putClaim, drop, ask, fetchRecord, fetchRow, image, build, repair, judge, yield, operand, shortestRow}
 use Rattle.run.specs.Panel.{Panel, fresh, placeCheck, isEmpty, emptyCheck, usesOther, inUseCheck}
-use Rattle.run.specs.Steps.{ops, switchNumber, putRowNumber, putRecordNumber, putClaimNumber, dropNumber, fetchRecordNumber, fetchRowNumber, imageNumber, told, reply}
-use Rattle.run.specs.Book.{Rules, Book, blank, rowIn, isBlank, blankCheck, slotRow, askedNumber, notedNumber, bookNumber}
+use Rattle.run.specs.Steps.{ops, switchNumber, putRowNumber, putRecordNumber, putClaimNumber, dropNumber, fetchRecordNumber, fetchRowNumber, imageNumber, askedOutcome, reply}
+use Rattle.run.specs.Book.{Sheet, Book, blank, rowIn, isBlank, blankCheck, slotRow, askedNumber, notedNumber, bookNumber}
 use Rattle.run.proofs.Slots.{Holds, same-empty, same-length, same-uses, held-accepted, read-back}
 
 -- The words of a stage, where its note in the book has a sheet or none.
-abbrev pub OnStage : List ℕ → Option Rules → Type 0
+abbrev pub OnStage : List ℕ → Option Sheet → Type 0
 OnStage staged none = isLoaded staged ≡ false
 OnStage staged (some s) = (isLoaded staged ≡ true) × InForce staged (s .operators) (s .rules)
 
@@ -98,7 +98,7 @@ module _ (p : Panel) (b : Book) (s : Stands p b) where
   unfolding switchNumber
   switch-same = go (b .note) (s .on-stage)
     where
-      go : (note : Option Rules) → OnStage (p .staged) note → switchNumber p ≡ notedNumber b note
+      go : (note : Option Sheet) → OnStage (p .staged) note → switchNumber p ≡ notedNumber b note
       go none e = rw e
       go (some new) (e, f) = rw (e, f .operators) (ap (λ (c : Check). first (c ∷ [])) (in-use-same (new .operators)))
 
@@ -136,7 +136,7 @@ module _ (p : Panel) (b : Book) (s : Stands p b) where
           (passed-first (recordChecks (b .operators) (held (p .places) k)) (record-numbered (b .operators) (held (p .places) k)) (held-accepted g))
           ∙ ap (λ x. first (shortCheck x (length out) ∷ [])) (ap rowTokens (read-back g) ∙ ap length (g .tree .yields ∙ sym (ap rowIn q)))
 
-  pub same-asked : (q : Question) → told p q .number ≡ askedNumber b q
+  pub same-asked : (q : Question) → askedOutcome p q .number ≡ askedNumber b q
   unfolding imageNumber
   same-asked (fetchRecord k out) = fetch-record-same k out
   same-asked (fetchRow k out) = fetch-row-same k out

@@ -37,17 +37,17 @@ module _ (b : Book) where
   Image k (some row) answer = (t : Tree) × SlotTree b k t × (answer ≡ imageOf (recordOf t))
 
   -- the answer's bytes, of an accepted question
-  abbrev pub Told : Question → List ℕ → Type 0
-  Told (fetchRecord k out) answer = (t : Tree) × SlotTree b k t × (answer ≡ recordOf t)
-  Told (fetchRow k out) answer = answer ≡ slotRow b k
-  Told (image k out) answer = Image k (b .slots k) answer
-  Told (build row out) answer = (t : Tree) × ConflictFreeTree (b .operators) (b .rules) row t × (answer ≡ recordOf t)
-  Told (repair bytes out) answer =
+  abbrev pub AnswerIs : Question → List ℕ → Type 0
+  AnswerIs (fetchRecord k out) answer = (t : Tree) × SlotTree b k t × (answer ≡ recordOf t)
+  AnswerIs (fetchRow k out) answer = answer ≡ slotRow b k
+  AnswerIs (image k out) answer = Image k (b .slots k) answer
+  AnswerIs (build row out) answer = (t : Tree) × ConflictFreeTree (b .operators) (b .rules) row t × (answer ≡ recordOf t)
+  AnswerIs (repair bytes out) answer =
       (t : Tree) × (u : Tree) × Records bytes t × ConflictFreeTree (b .operators) (b .rules) (tree.yield t) u × (answer ≡ recordOf u)
-  Told (judge bytes) answer = answer ≡ []
-  Told (yield bytes out) answer = (t : Tree) × Records bytes t × (answer ≡ tree.yield t)
-  Told (operand right bytes) answer = answer ≡ []
-  Told (shortestRow bytes out) answer = (t : Tree) × Records bytes t × ShortestRow (b .operators) (b .rules) (tree.yield t) answer
+  AnswerIs (judge bytes) answer = answer ≡ []
+  AnswerIs (yield bytes out) answer = (t : Tree) × Records bytes t × (answer ≡ tree.yield t)
+  AnswerIs (operand right bytes) answer = answer ≡ []
+  AnswerIs (shortestRow bytes out) answer = (t : Tree) × Records bytes t × ShortestRow (b .operators) (b .rules) (tree.yield t) answer
 
   -- a judge's count
   abbrev pub Count : Question → ℕ → Type 0
@@ -75,7 +75,7 @@ module _ (b : Book) where
 
   -- The reply to a question, beside its number: the whole lent output with the answer's length, the count and the part;
   pub record Answered (q : Question) (r : Reply) : Type 0 where
-    pub output : Lent (askedNumber b q) (Told q) (lentBefore q) (r .length) (r .output)
+    pub output : Lent (askedNumber b q) (AnswerIs q) (lentBefore q) (r .length) (r .output)
     pub count : Count q (r .count)
     pub part : Part q (r .part)
 

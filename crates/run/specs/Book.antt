@@ -21,18 +21,18 @@ use Rattle.run.specs.Call.{Question, Call, stage, stageList, switch, put
 use Rattle.run.specs.Panel.{placeCheck, inUseCheck, ifAccepted}
 
 -- a sheet as it is written down: n and the kinds, and the rules
-pub record Rules : Type 0 where
+pub record Sheet : Type 0 where
   pub operators : Operators
   pub rules : List Rule
 
-abbrev pub ruledBy : Operators → List Rule → Rules
-ruledBy ops rules = record { operators = ops; rules = rules }
+abbrev pub sheetBy : Operators → List Rule → Sheet
+sheetBy ops rules = record { operators = ops; rules = rules }
 
 -- n and the kinds, the rules, the note beside, which may have one sheet, and the slots, each blank or with one row
 pub record Book : Type 0 where
   pub operators : Operators
   pub rules : List Rule
-  pub note : Option Rules
+  pub note : Option Sheet
   pub slots : ℕ → Option (List ℕ)
 
 abbrev pub blank : Book
@@ -73,7 +73,7 @@ module _ (b : Book) where
   askedNumber (shortestRow bytes out) = shortestNumber (b .operators) bytes (shortestBy (b .operators) (b .rules) (treeOf (class (b .operators)) bytes)) (length out)
 
   -- 15: no sheet is noted; 11 by the noted one
-  abbrev pub notedNumber : Option Rules → ℕ
+  abbrev pub notedNumber : Option Sheet → ℕ
   notedNumber none = nothingStaged
   notedNumber (some s) = first (inUseCheck (b .operators) (s .operators) slotRow ∷ [])
 
@@ -89,11 +89,11 @@ module _ (b : Book) where
   bookNumber (ask q) = askedNumber q
 
   -- the note is the sheet given
-  abbrev pub withNote : Rules → Book
+  abbrev pub withNote : Sheet → Book
   withNote s = record { operators = b .operators; rules = b .rules; note = some s; slots = b .slots }
 
   -- what is noted becomes the book's n, kinds and rules, and the note is cleared
-  abbrev pub ruledByNote : Option Rules → Book
+  abbrev pub ruledByNote : Option Sheet → Book
   ruledByNote none = b
   ruledByNote (some s) = record { operators = s .operators; rules = s .rules; note = none; slots = b .slots }
 
@@ -104,8 +104,8 @@ module _ (b : Book) where
   -- Staging: the call's sheet is noted. Switch: the noted one is put in force and the note cleared; slots stay. Put of a row, alone or with a claimed record: the slot gets
   -- the row; of a record: its yield. Drop: the slot goes blank.
   abbrev pub entered : Call → Book
-  entered (stage n bytes) = withNote (ruledBy (operatorsIn n bytes) (rulesIn n bytes))
-  entered (stageList n kinds rules) = withNote (ruledBy (operators n kinds) rules)
+  entered (stage n bytes) = withNote (sheetBy (operatorsIn n bytes) (rulesIn n bytes))
+  entered (stageList n kinds rules) = withNote (sheetBy (operators n kinds) rules)
   entered switch = ruledByNote (b .note)
   entered (putRow k row) = withSlot k (some row)
   entered (putRecord k bytes) = withSlot k (some (rowOf (treeOf (class (b .operators)) bytes)))

@@ -18,8 +18,8 @@ use Rattle.disambiguation.specs.ExactlyOne.{SomeRowHasNone, EveryRowHasOne, Som
 use Rattle.disambiguation.specs.SheetChecks.{rulesIn, operatorsIn}
 use Rattle.run.specs.Places.{placeCount}
 use Rattle.run.specs.Call.{Question, Call, lentBefore, stage, stageList, switch, putRow, putRecord, putClaim, drop, ask, fetchRecord, fetchRow, image, build, repair, judge, yield, operand, shortestRow}
-use Rattle.run.specs.Book.{Rules, Book}
-use Rattle.run.specs.Answers.{Records, Told}
+use Rattle.run.specs.Book.{Sheet, Book}
+use Rattle.run.specs.Answers.{Records, AnswerIs}
 
 -- Where the condition holds, the number is this one; where it does not, what follows tells the number.
 abbrev pub When : Type 0 → ℕ → (ℕ → Type 0) → ℕ → Type 0
@@ -60,7 +60,7 @@ module _ (b : Book) where
 
   -- 10: the lent output is shorter than the answer.
   abbrev pub WithRoom : Question → ℕ → Type 0
-  WithRoom q = When ((answer : List ℕ) × Told b q answer × (length (lentBefore q) < length answer)) short Accepted
+  WithRoom q = When ((answer : List ℕ) × AnswerIs b q answer × (length (lentBefore q) < length answer)) short Accepted
 
   -- A row: 1, over 255 tokens; 3, a byte without meaning (as is an operator not below n); 6, no row over the operators.
   abbrev pub OfRow : List ℕ → (ℕ → Type 0) → ℕ → Type 0
@@ -115,7 +115,7 @@ module _ (b : Book) where
       (OfSheet (operators n kinds) rules))
   Means switch =
       When (b .note ≡ none) nothingStaged
-      (When ((s : Rules) × (b .note ≡ some s) × UsesOther (s .operators)) inUse
+      (When ((s : Sheet) × (b .note ≡ some s) × UsesOther (s .operators)) inUse
       Accepted)
   Means (putRow k row) = AtPlace k (OfRow row Accepted)
   Means (putRecord k bytes) = AtPlace k (OfRecord bytes Accepted)

@@ -22,7 +22,7 @@ use Rattle.sheet.specs.InForce.{InForce}
 use Rattle.run.specs.Call.{Call, Reply, lentTo, stage, stageList, switch, putRecord, ask, build, repair, judge, yield}
 use Rattle.run.specs.Panel.{Panel}
 use Rattle.run.specs.Steps.{after, reply}
-use Rattle.run.specs.Book.{ruledBy}
+use Rattle.run.specs.Book.{sheetBy}
 use Rattle.run.specs.Answers.{Answers}
 use Rattle.run.specs.Meaning.{Means}
 use Rattle.run.specs.Run.{panelAfter, answer, bookAfter, inForce, lastPut, Each, AnsweredBy, HoldsTree, Filled, RepairsTo}
@@ -81,7 +81,7 @@ module _ (cs : List Call) where
     -- and it then holds that tree, for the row, or the record's row, of the last accepted put there.
     pub held-tree : (k : ℕ) (row : List ℕ) → lastPut k cs ≡ some row → (t : Tree) × ConflictFreeTree ops rules row t × HoldsTree cs k t
     -- The book agrees with the list: its operators and rules are those of the sheet in force, its slots those of the last accepted puts;
-    pub book-sheet : ruledBy (bookAfter cs .operators) (bookAfter cs .rules) ≡ inForce cs
+    pub book-sheet : sheetBy (bookAfter cs .operators) (bookAfter cs .rules) ≡ inForce cs
     pub book-slots : (k : ℕ) → bookAfter cs .slots k ≡ lastPut k cs
     -- an accepted put of a record there enters the row of the tree that the record is of.
     pub record-entered : (k : ℕ) (t : Tree) → Over (class ops) t → answer cs (putRecord k (recordOf t)) .number ≡ accepted

@@ -32,7 +32,7 @@ use Rattle.claims.specs.Claims.{Claimed}
 use Rattle.run.specs.Places.{placeCount}
 use Rattle.run.specs.Call.{Call, stage, stageList, switch, putRow, putClaim, ask, fetchRecord, build, repair, shortestRow}
 use Rattle.run.specs.Panel.{Panel}
-use Rattle.run.specs.Book.{Rules}
+use Rattle.run.specs.Book.{Sheet}
 use Rattle.run.specs.Run.{panelAfter, answer, bookAfter, lastStaged, inForce, IsStaging, AnsweredBy}
 use Rattle.run.specs.Promises.{Demand1, Demand2, Demand3, Within, ops, rules}
 
@@ -69,16 +69,16 @@ module _ (cs : List Call) where
   pub record StageThenSwitch : Type 0 where
     -- The book's note is that sheet, and the panel's stage has its operators, and the relation of its rules.
     pub book-note : bookAfter cs .note ≡ lastStaged cs
-    pub staged : (s : Rules) → lastStaged cs ≡ some s → InForce (panelAfter cs .staged) (s .operators) (s .rules)
+    pub staged : (s : Sheet) → lastStaged cs ≡ some s → InForce (panelAfter cs .staged) (s .operators) (s .rules)
     -- It is known to be good before it is switched in: every row of any length over its operators has exactly one conflict-free tree under it.
-    pub one-tree : (s : Rules) → lastStaged cs ≡ some s → EveryRowHasExactlyOne (s .operators) (s .rules)
+    pub one-tree : (s : Sheet) → lastStaged cs ≡ some s → EveryRowHasExactlyOne (s .operators) (s .rules)
     -- A staging, accepted or refused, changes no answer of any other call but a switch, and never gives 11.
     pub unseen : (c d : Call) → IsStaging c → (d ≡ switch → ⊥) → answer (c ∷ cs) d ≡ answer cs d
     pub never-in-use : (c : Call) → IsStaging c → answer cs c .number ≡ inUse → ⊥
     -- A switch gives 15 exactly when nothing is staged. An accepted one found a sheet staged, puts that one in force, and leaves nothing staged.
     pub nothing : (answer cs switch .number ≡ nothingStaged) ↔ (lastStaged cs ≡ none)
     pub switched : answer cs switch .number ≡ accepted
-        → (s : Rules) × (lastStaged cs ≡ some s) × (inForce (switch ∷ cs) ≡ s) × (lastStaged (switch ∷ cs) ≡ none)
+        → (s : Sheet) × (lastStaged cs ≡ some s) × (inForce (switch ∷ cs) ≡ s) × (lastStaged (switch ∷ cs) ≡ none)
 
   -- W7, binding powers. Of the sheet in force and by its rules,
   pub record BindingPowers : Type 0 where

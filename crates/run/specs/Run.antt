@@ -18,7 +18,7 @@ use Rattle.run.specs.Image.{imageOf}
 use Rattle.run.specs.Call.{Call, stage, stageList, switch, putRow, putRecord, putClaim, drop, ask, fetchRecord, fetchRow, image, repair, Reply}
 use Rattle.run.specs.Panel.{Panel, fresh}
 use Rattle.run.specs.Steps.{after, reply}
-use Rattle.run.specs.Book.{Rules, ruledBy, Book, blank, next}
+use Rattle.run.specs.Book.{Sheet, sheetBy, Book, blank, next}
 
 -- each call gets the panel that the one before it left
 unfoldable pub panelAfter : List Call → Panel
@@ -39,10 +39,10 @@ abbrev pub isAccepted : List Call → Call → Bool
 isAccepted cs c = eqb (answer cs c .number) accepted
 
 -- What is staged, said of the list: the sheet of the last accepted staging; none where there was no such staging, or a switch was accepted since.
-unfoldable pub lastStaged : List Call → Option Rules
+unfoldable pub lastStaged : List Call → Option Sheet
 lastStaged [] = none
-lastStaged (stage n bytes ∷ cs) = cond (isAccepted cs (stage n bytes)) (some (ruledBy (operatorsIn n bytes) (rulesIn n bytes))) (lastStaged cs)
-lastStaged (stageList n kinds rules ∷ cs) = cond (isAccepted cs (stageList n kinds rules)) (some (ruledBy (operators n kinds) rules)) (lastStaged cs)
+lastStaged (stage n bytes ∷ cs) = cond (isAccepted cs (stage n bytes)) (some (sheetBy (operatorsIn n bytes) (rulesIn n bytes))) (lastStaged cs)
+lastStaged (stageList n kinds rules ∷ cs) = cond (isAccepted cs (stageList n kinds rules)) (some (sheetBy (operators n kinds) rules)) (lastStaged cs)
 lastStaged (switch ∷ cs) = cond (isAccepted cs switch) none (lastStaged cs)
 lastStaged (putRow k row ∷ cs) = lastStaged cs
 lastStaged (putRecord k bytes ∷ cs) = lastStaged cs
@@ -51,13 +51,13 @@ lastStaged (drop k ∷ cs) = lastStaged cs
 lastStaged (ask q ∷ cs) = lastStaged cs
 
 -- the sheet of an option, or the other
-abbrev pub orElse : Option Rules → Rules → Rules
+abbrev pub orElse : Option Sheet → Sheet → Sheet
 orElse none other = other
 orElse (some s) other = s
 
 -- The sheet in force, said of the list: what was staged at the last accepted switch, which is never nothing, or the fresh panel's.
-unfoldable pub inForce : List Call → Rules
-inForce [] = ruledBy (operators 0 []) []
+unfoldable pub inForce : List Call → Sheet
+inForce [] = sheetBy (operators 0 []) []
 inForce (stage n bytes ∷ cs) = inForce cs
 inForce (stageList n kinds rules ∷ cs) = inForce cs
 inForce (switch ∷ cs) = cond (isAccepted cs switch) (orElse (lastStaged cs) (inForce cs)) (inForce cs)

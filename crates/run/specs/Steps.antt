@@ -104,16 +104,16 @@ module _ (p : Panel) where
   after (ask q) = p
 
   -- The answers to the questions,
-  abbrev pub told : Question → Outcome
-  told (fetchRecord k out) = answered (fetchRecordNumber k (length out)) (held (p .places) k)
-  told (fetchRow k out) = answered (fetchRowNumber k (length out)) (rowOf (treeOf (class ops) (held (p .places) k)))
-  told (image k out) = answered (imageNumber k (length out)) (imageOf (held (p .places) k))
-  told (build row out) = answered (buildNumber ops row (length out)) (built ops (closesIn (p .sheet)) row)
-  told (repair bytes out) = answered (repairNumber ops bytes (length out)) (rebuilt (p .sheet) bytes)
-  told (judge bytes) = record { number = recordNumber ops bytes; answer = []; count = judgement (p .sheet) bytes .count; part = [] }
-  told (yield bytes out) = answered (yieldNumber ops bytes (length out)) (rowOf (treeOf (class ops) bytes))
-  told (operand right bytes) = record { number = recordNumber ops bytes; answer = []; count = 0; part = operandPart ops right bytes }
-  told (shortestRow bytes out) = answered (shortestNumber ops bytes (shortestOf (p .sheet) bytes) (length out)) (shortestOf (p .sheet) bytes)
+  abbrev pub askedOutcome : Question → Outcome
+  askedOutcome (fetchRecord k out) = answered (fetchRecordNumber k (length out)) (held (p .places) k)
+  askedOutcome (fetchRow k out) = answered (fetchRowNumber k (length out)) (rowOf (treeOf (class ops) (held (p .places) k)))
+  askedOutcome (image k out) = answered (imageNumber k (length out)) (imageOf (held (p .places) k))
+  askedOutcome (build row out) = answered (buildNumber ops row (length out)) (built ops (closesIn (p .sheet)) row)
+  askedOutcome (repair bytes out) = answered (repairNumber ops bytes (length out)) (rebuilt (p .sheet) bytes)
+  askedOutcome (judge bytes) = record { number = recordNumber ops bytes; answer = []; count = judgement (p .sheet) bytes .count; part = [] }
+  askedOutcome (yield bytes out) = answered (yieldNumber ops bytes (length out)) (rowOf (treeOf (class ops) bytes))
+  askedOutcome (operand right bytes) = record { number = recordNumber ops bytes; answer = []; count = 0; part = operandPart ops right bytes }
+  askedOutcome (shortestRow bytes out) = answered (shortestNumber ops bytes (shortestOf (p .sheet) bytes) (length out)) (shortestOf (p .sheet) bytes)
 
   -- and to all calls.
   abbrev pub outcome : Call → Outcome
@@ -124,7 +124,7 @@ module _ (p : Panel) where
   outcome (putRecord k bytes) = numbered (putRecordNumber k bytes)
   outcome (putClaim k row bytes) = numbered (putClaimNumber k row bytes)
   outcome (drop k) = numbered (dropNumber k)
-  outcome (ask q) = told q
+  outcome (ask q) = askedOutcome q
 
   -- The reply: the output past the answer's bytes, and after a refusal all of it, is as before.
   abbrev pub reply : Call → Reply
