@@ -15,9 +15,12 @@ use Rattle.expression.proofs.Cond.{by-cond}
 use Rattle.run.specs.Image.{imageOf}
 use Rattle.run.specs.Places.{placeCount, held, stored}
 use Rattle.run.specs.Places as places
+use Rattle.run.specs.Panel.{panel}
+use Rattle.run.specs.Panel as run
 use Rattle.run.proofs.Images.{length-image}
 use Rattle.run.proofs.Places.{length-fresh, held-fresh}
 use Rattle.places.specs.Store.{slotBytes, storeBytes, slotAt, slotOf, recordIn, recordAt, recordsFrom, recordsIn, written, fresh}
+use Rattle.places.specs.Memory.{memory, panelIn}
 use Rattle.places.proofs.Parts.{part-written}
 use Rattle.places.proofs.Slots.{record-in-image, short-record, no-record, at-slot, written-in-slot, slot-kept}
 
@@ -90,6 +93,10 @@ pub records-fresh : recordsIn fresh ≡ places.fresh
 records-fresh =
     same-places (recordsIn fresh) places.fresh (records-length fresh) length-fresh
     (λ place. held-at fresh place ∙ at-fresh place ∙ sym (held-fresh place))
+
+-- Zeros are the fresh panel.
+pub fresh-there : panelIn (memory (run.fresh .sheet) (run.fresh .staged) fresh) ≡ run.fresh
+fresh-there = ap (panel (run.fresh .sheet) (run.fresh .staged)) records-fresh
 
 -- ---- the store after a write
 module _ (store : List ℕ) (place : ℕ) (bytes : List ℕ) where
