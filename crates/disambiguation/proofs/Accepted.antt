@@ -3,7 +3,6 @@ use Prim.Native.Nat.{ℕ, _<_}
 use native.Mathlib.Omega.{arith}
 use mathlib.Core.Path.{_≡_, refl, ap, sym, _∙_}
 use mathlib.Core.Bool.{Bool, true, false, not, _&&_, _||_, cond, false≢true}
-use mathlib.Core.Logic.{_↔_}
 use mathlib.Core.List.{List}
 use Rattle.expression.specs.Refusal.{accepted}
 use Rattle.expression.specs.Token.{Infix, Operators, class}
@@ -71,20 +70,6 @@ module _ (ops : Operators) (rules : List Rule) where
           free = repair-safe (R rules) ops t h (L rules) (safe-safe ops (L rules) (R rules) (passes .is-safe));
         }
 
-    -- which is the only one,
+    -- which is the only one.
     pub only-one : (row : List ℕ) (t u : Tree) → ConflictFreeTree ops rules row t → ConflictFreeTree ops rules row u → t ≡ u
     only-one = tests-unique ops rules (passes .is-total) (passes .is-level)
-
-    -- so it changes exactly the trees that have a conflict,
-    pub repair-same-exactly-if : (t : Tree) → Over (class ops) t → (repair ops (R rules) t ≡ t) ↔ (conflictCount rules t ≡ 0)
-    repair-same-exactly-if t h = (
-      λ e. ap (conflictCount rules) (sym e) ∙ repair-is t h .free,
-      λ e. only-one (yield t) (repair ops (R rules) t) t (repair-is t h) (record { over = h; yields = refl; free = e }),
-    )
-
-    -- and two trees repair to one exactly if their rows are the same.
-    pub repair-equal-exactly-if : (t u : Tree) → Over (class ops) t → Over (class ops) u → (repair ops (R rules) t ≡ repair ops (R rules) u) ↔ (yield t ≡ yield u)
-    repair-equal-exactly-if t u ht hu = (
-      λ e. sym (yield-repair (R rules) ops t ht) ∙ ap yield e ∙ yield-repair (R rules) ops u hu,
-      λ e. only-one (yield t) (repair ops (R rules) t) (repair ops (R rules) u) (repair-is t ht) (rw (← e) at (repair-is u hu)),
-    )
