@@ -16,7 +16,7 @@ use Rattle.disambiguation.proofs.Conditions.{Transitive, Cotransitive}
 use Rattle.disambiguation.proofs.TestsDecide.{level-transitive, level-cotransitive}
 use Rattle.disambiguation.proofs.Accepted.{accepted-passes}
 use Rattle.disambiguation.proofs.Counts.{count-same, count-less, count-most}
-use Rattle.disambiguation.proofs.Standing.{many, not-below-itself, Standing, higher, lower, level, standing}
+use Rattle.disambiguation.proofs.Standing.{many, not-below-itself, Standing, higher, lower, beside, standing}
 
 -- powers by relations that agree
 pub left-same : (ops : Operators) (closes other : ℕ → ℕ → Bool) → ((a b : ℕ) → closes a b ≡ other a b) → (a : ℕ) → leftPower ops closes a ≡ leftPower ops other a
@@ -76,8 +76,8 @@ module _ (ops : Operators) (closes : ℕ → ℕ → Bool) where
         go : Standing ops closes a b → (closes a b ≡ true) ↔ (leftPower ops closes b ≤ rightPower ops closes a)
         go (higher ab ba m) = (λ _. omega (arith, left-is a, left-is b, near a .at-least), λ _. ab)
         go (lower ab ba m) = (λ e. absurd (true≢false (sym e ∙ ab)), λ l. absurd (omega (arith, left-is a, left-is b, near a .at-most)))
-        go (level true ab aa bb m) = (λ _. omega (arith, left-is a, left-is b, right-as-left a aa), λ _. ab)
-        go (level false ab aa bb m) = (λ e. absurd (true≢false (sym e ∙ ab)), λ l. absurd (omega (arith, left-is a, left-is b, right-one-less a aa)))
+        go (beside true ab aa bb m) = (λ _. omega (arith, left-is a, left-is b, right-as-left a aa), λ _. ab)
+        go (beside false ab aa bb m) = (λ e. absurd (true≢false (sym e ∙ ab)), λ l. absurd (omega (arith, left-is a, left-is b, right-one-less a aa)))
 
     steps : (p q : ℕ) → q < p → WhollyAbove ops closes p q
     steps p q h a c (ha, ea) (hc, ec) = go (stands a c ha hc)
@@ -85,7 +85,7 @@ module _ (ops : Operators) (closes : ℕ → ℕ → Bool) where
         go : Standing ops closes a c → above ops closes a c ≡ true
         go (higher ac ca m) = rw (ac, ca)
         go (lower ac ca m) = absurd (omega (arith, left-is a, left-is c))
-        go (level x ac aa cc m) = absurd (omega (arith, left-is a, left-is c))
+        go (beside x ac aa cc m) = absurd (omega (arith, left-is a, left-is c))
 
     -- in one level, what an operator does with itself, all do with all
     alike : (a b : ℕ) → class ops a ≡ Infix → class ops b ≡ Infix → leftPower ops closes a ≡ leftPower ops closes b → (closes a b ≡ closes a a) × (closes b b ≡ closes a a)
@@ -94,7 +94,7 @@ module _ (ops : Operators) (closes : ℕ → ℕ → Bool) where
         go : Standing ops closes a b → (closes a b ≡ closes a a) × (closes b b ≡ closes a a)
         go (higher ab ba m) = absurd (omega (arith, left-is a, left-is b))
         go (lower ab ba m) = absurd (omega (arith, left-is a, left-is b))
-        go (level x ab aa bb m) = (ab ∙ sym aa, bb ∙ sym aa)
+        go (beside x ab aa bb m) = (ab ∙ sym aa, bb ∙ sym aa)
 
     one-way : (a : ℕ) → class ops a ≡ Infix → WhollyLeft ops closes (leftPower ops closes a) ⊎ WhollyRight ops closes (leftPower ops closes a)
     one-way a ha = go (closes a a) refl

@@ -83,7 +83,7 @@ module _ (ops : Operators) (R : ℕ → ℕ → Bool) where
   pub data Standing (a b : ℕ) : Type 0 where
     higher : R a b ≡ true → R b a ≡ false → many b < many a → Standing a b
     lower : R a b ≡ false → R b a ≡ true → many a < many b → Standing a b
-    level : (x : Bool) → R a b ≡ x → R a a ≡ x → R b b ≡ x → many a ≡ many b → Standing a b
+    beside : (x : Bool) → R a b ≡ x → R a a ≡ x → R b b ≡ x → many a ≡ many b → Standing a b
 
   pub standing : Transitive R (class ops) → Cotransitive R (class ops) → (a b : ℕ) → Infixed a → Infixed b → Standing a b
   standing trans cotrans a b ha hb = go (R a b) refl (R b a) refl
@@ -100,8 +100,8 @@ module _ (ops : Operators) (R : ℕ → ℕ → Bool) where
       go true ab true ba =
           let x = count-within mostOperators (below ops R b) (below ops R a) (above-all trans cotrans a b ha hb ab) in
           let y = count-within mostOperators (below ops R a) (below ops R b) (above-all trans cotrans b a hb ha ba) in
-          level true ab (left a b ha hb ab ba) (left b a hb ha ba ab) (omega arith)
+          beside true ab (left a b ha hb ab ba) (left b a hb ha ba ab) (omega arith)
       go false ab false ba =
           let x = count-within mostOperators (below ops R b) (below ops R a) (above-those trans cotrans a b ha hb ba) in
           let y = count-within mostOperators (below ops R a) (below ops R b) (above-those trans cotrans b a hb ha ab) in
-          level false ab (right a b ha hb ab ba) (right b a hb ha ba ab) (omega arith)
+          beside false ab (right a b ha hb ab ba) (right b a hb ha ba ab) (omega arith)

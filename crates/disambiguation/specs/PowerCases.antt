@@ -47,8 +47,8 @@ abbrev rightAboveLeft : Sheet
 rightAboveLeft = record { kinds = infixes 2; bytes = right ∷ 0 ∷ 0 ∷ left ∷ 1 ∷ 1 ∷ priority ∷ 0 ∷ 1 ∷ [] }
 
 -- 00 and 01 are one level that groups to the right; 02 lies above both
-abbrev level : Sheet
-level =
+abbrev rightLevel : Sheet
+rightLevel =
     record {
       kinds = infixes 3;
       bytes = right ∷ 0 ∷ 0 ∷ right ∷ 0 ∷ 1 ∷ right ∷ 1 ∷ 0 ∷ right ∷ 1 ∷ 1 ∷ left ∷ 2 ∷ 2 ∷ priority ∷ 2 ∷ 0 ∷ priority ∷ 2 ∷ 1 ∷ [];
@@ -68,7 +68,7 @@ table =
     ∷ case oneRight (has 0 2 1 ∷ [])
     ∷ case chain (has 0 6 6 ∷ has 1 4 4 ∷ has 2 2 2 ∷ [])
     ∷ case rightAboveLeft (has 0 4 3 ∷ has 1 2 2 ∷ [])
-    ∷ case level (has 0 2 1 ∷ has 1 2 1 ∷ has 2 6 6 ∷ [])
+    ∷ case rightLevel (has 0 2 1 ∷ has 1 2 1 ∷ has 2 6 6 ∷ [])
     ∷ case orAndNot (has 0 2 2 ∷ has 1 4 4 ∷ [])
     ∷ case between (has 0 2 2 ∷ has 2 4 4 ∷ [])
     ∷ []
