@@ -16,9 +16,9 @@ use Rattle.disambiguation.specs.Verdict.{safe, total, within, level}
 use Rattle.disambiguation.specs.SheetChecks.{sheetNumber}
 use Rattle.sheet.specs.Layout.{operatorsOf, isLoaded}
 use Rattle.sheet.specs.Relation.{bitOf, closesIn}
-use Rattle.sheet.specs.Marking.{marked, marks, marksAll}
-use Rattle.sheet.specs.Chaining.{changed, added, joined, passed, chained, related}
-use Rattle.sheet.specs.Kinds.{withBit, wordWhere}
+use Rattle.relation.specs.Marking.{marked, marks, marksAll}
+use Rattle.relation.specs.Chaining.{changed, added, joined, passed, chained, related}
+use Rattle.relation.specs.Words.{withBit, wordWhere}
 use Rattle.sheet.specs.Loading.{sheetOf}
 use Rattle.parser.specs.Build.{built}
 use Rattle.run.specs.Image.{imageOf}

@@ -18,9 +18,9 @@ use Rattle.sheet.specs.Layout.{operatorsOf}
 use Rattle.sheet.specs.Relation.{bitOf}
 use Rattle.sheet.specs.Kinds.{kindChanges}
 use Rattle.disambiguation.proofs.BelowLaws.{all-same}
-use Rattle.sheet.proofs.Below.{all-none, all-more, all-fails, all-done}
-use Rattle.sheet.proofs.Bits.{bit-zero}
-use Rattle.sheet.proofs.PrefixWord.{where-bit}
+use Rattle.relation.proofs.Below.{all-none, all-more, all-fails, all-done}
+use Rattle.relation.proofs.Bits.{bit-zero}
+use Rattle.relation.proofs.WordSets.{where-bit}
 use Rattle.run.specs.Places.{placeCount, held}
 use Rattle.run.specs.Panel.{beyond, changed, usesOther, inUseCheck}
 use Rattle.monitor.specs.Contracts.{usesBy, someUse}

@@ -2,11 +2,10 @@
 use mathlib.Core.Path.{_≡_, refl, sym, ap, ap₂, _∙_}
 use mathlib.Core.Bool.{Bool, true, false, not}
 use mathlib.Core.List.{List}
-use Prim.Native.Nat.{ℕ, _+_, _*_, _^_, _%_, _<_, _≤_}
+use Prim.Native.Nat.{ℕ, _+_, _<_, _≤_}
 use native.Mathlib.Numerals.{add-one}
 use native.Mathlib.Omega.{arith}
 use borrow.Author.Needs.{needs}
-use lib.Bits.{bitOr}
 use lib.Dec.{eqb, ltb}
 use lib.ListN.{length, getD}
 use Rattle.expression.specs.Lists.{oneIf}
@@ -14,9 +13,9 @@ use Rattle.expression.specs.Limits.{mostOperators}
 use Rattle.expression.specs.Token.{infixKind, prefixKind, kindOf}
 use Rattle.expression.proofs.Looking.{looked-none, looked-more, looked-all}
 use Rattle.disambiguation.specs.SheetChecks.{strangeKind}
+use Rattle.relation.specs.Words.{withBit, wordWhere}
 use Rattle.sheet.specs.Layout.{operatorsOf, prefixIn}
-use Rattle.sheet.specs.Kinds.{withBit, wordWhere, prefixWord, kindChanges}
-use Rattle.sheet.proofs.Bits.{one-shifted}
+use Rattle.sheet.specs.Kinds.{prefixWord, kindChanges}
 use Rattle.sheet.proofs.PrefixWord.{kind-told, kind-none, kinds-agree}
 
 -- ---- is_strange and any_strange
@@ -24,18 +23,6 @@ pub kind-test : (kind : ℕ) → ltb 1 kind ≡ strangeKind kind
 kind-test kind = refl
 
 pub ruleset strange-kind-ways = (kind-test, looked-none, looked-more, looked-all, needs)
-
--- ---- words::with
-module _ (x c : ℕ) {told : Bool} where
-  pub put-in : c < mostOperators → told ≡ true → bitOr x ((1 * 2 ^ c) % 2 ^ 32) ≡ withBit x c told
-  unfolding withBit
-  put-in h e = rw e (ap (bitOr x) (one-shifted c 32 h))
-
-  pub left-out : told ≡ false → x ≡ withBit x c told
-  unfolding withBit
-  left-out e = rw e
-
-pub ruleset with-ways = (put-in, left-out, needs)
 
 -- ---- prefixes and changes: the word of the numbers before the place of which a test holds
 module _ (test : ℕ → Bool) where

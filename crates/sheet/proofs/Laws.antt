@@ -22,19 +22,20 @@ use Rattle.disambiguation.specs.Conflicts.{conflicts, conflictCount}
 use Rattle.disambiguation.specs.Below.{allBelow}
 use Rattle.disambiguation.specs.Verdict.{safe, total, level, ruleChecks, verdict}
 use Rattle.disambiguation.specs.SheetChecks.{strangeRule, strangeKind, kindsIn, rulesIn, operatorsIn, orderChecks, sheetNumber}
-use Rattle.sheet.specs.Layout.{countWord, prefixWordAt, loadedWord, sheetWords, operatorsBy, operatorsOf, isLoaded, fresh}
+use Rattle.relation.specs.Relation.{sheetWords, fresh, bitOf, closesIn}
+use Rattle.relation.specs.Words.{operatorsBy}
+use Rattle.relation.specs.Marking.{unmarked, marks, marksAll}
+use Rattle.relation.specs.Chaining.{related}
+use Rattle.relation.proofs.WordTests.{closes-bit, closes-everywhere, closes-blank}
+use Rattle.relation.proofs.Orderly.{R-below}
+use Rattle.relation.proofs.Chaining.{length-related, related-is-R}
+use Rattle.sheet.specs.Layout.{countWord, prefixWordAt, loadedWord, operatorsOf, isLoaded}
 use Rattle.sheet.specs.Kinds.{prefixWord}
-use Rattle.sheet.specs.Relation.{bitOf, closesIn}
-use Rattle.sheet.specs.Marking.{unmarked, marks, marksAll}
-use Rattle.sheet.specs.Chaining.{related}
 use Rattle.sheet.specs.Loading.{sheetOf}
 use Rattle.sheet.specs.InForce.{InForce}
 use Rattle.sheet.proofs.PrefixWord.{operators-back}
 use Rattle.sheet.proofs.Ordered.{Ordered, ordered}
-use Rattle.sheet.proofs.Chaining.{length-related, related-is-R}
-use Rattle.sheet.proofs.Orderly.{R-below}
-use Rattle.sheet.proofs.WordTests.{closes-bit, closes-everywhere, closes-blank}
-pub use Rattle.sheet.proofs.WordTests.{closes-below}
+pub use Rattle.relation.proofs.WordTests.{closes-below}
 pub use Rattle.sheet.proofs.PrefixWord.{class-in, infix-in, prefix-in, none-prefix}
 
 closes-fresh : (a b : ℕ) → closesIn fresh a b ≡ false

@@ -19,12 +19,15 @@ use Rattle.expression.proofs.Numbers.{first-append, first-refused, passed-first
 use Rattle.disambiguation.specs.Rules.{L, R}
 use Rattle.disambiguation.specs.Verdict.{ruleChecks}
 use Rattle.disambiguation.specs.SheetChecks.{strangeRule, strangeKind, kindsIn, rulesIn, operatorsIn, orderChecks, InOrder, sheetNumber}
-use Rattle.sheet.specs.Layout.{countWord, prefixWordAt, loadedWord, operatorsBy}
+use Rattle.relation.specs.Relation.{closesIn, turned}
+use Rattle.relation.specs.Words.{operatorsBy}
+use Rattle.relation.specs.Relating.{closesWords, yieldsWords, Relates}
+use Rattle.relation.specs.Tests.{rulesNumber}
+use Rattle.relation.proofs.Verdicts.{number-same}
+use Rattle.sheet.specs.Layout.{countWord, prefixWordAt, loadedWord}
 use Rattle.sheet.specs.Kinds.{prefixWord}
-use Rattle.sheet.specs.Relation.{closesIn, turned}
-use Rattle.sheet.specs.Loading.{sizeNumber, rulesNumber, closesWords, yieldsWords, Relates, ReadsSheet, sheetOf, Loads}
+use Rattle.sheet.specs.Loading.{sizeNumber, ReadsSheet, sheetOf, Loads}
 use Rattle.sheet.proofs.Ordered.{Ordered, order-numbered, ordered, operators-read, closes-read, yields-read}
-use Rattle.sheet.proofs.Verdicts.{number-same}
 
 -- ---- size_number
 module _ (n size : ℕ) where

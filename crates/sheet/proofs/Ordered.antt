@@ -15,12 +15,12 @@ use Rattle.expression.proofs.Numbers.{Numbered}
 use Rattle.expression.proofs.Tests.{both-false}
 use Rattle.disambiguation.specs.Rules.{L, R}
 use Rattle.disambiguation.specs.SheetChecks.{strangeRule, strangeKind, kindsIn, rulesIn, operatorsIn, orderChecks, InOrder}
-use Rattle.sheet.specs.Layout.{operatorsBy}
+use Rattle.relation.specs.Relation.{closesIn, turned}
+use Rattle.relation.specs.Words.{operatorsBy}
+use Rattle.relation.specs.Relating.{closesWords, yieldsWords}
+use Rattle.relation.proofs.Chaining.{related-is-R, related-is-L}
 use Rattle.sheet.specs.Kinds.{prefixWord}
-use Rattle.sheet.specs.Relation.{closesIn, turned}
-use Rattle.sheet.specs.Loading.{closesWords, yieldsWords}
 use Rattle.sheet.proofs.PrefixWord.{operators-back}
-use Rattle.sheet.proofs.Chaining.{related-is-R, related-is-L}
 
 pub record Ordered (n : ℕ) (bytes : List ℕ) : Type 0 where
   pub few : n ≤ mostOperators

@@ -16,7 +16,7 @@ use Rattle.disambiguation.specs.ByPowers.{readByPowers}
 use Rattle.disambiguation.proofs.Standing.{not-infix}
 use Rattle.disambiguation.proofs.Powers.{left-same, right-same, ladder}
 use Rattle.disambiguation.proofs.ByPowers.{reads-conflict-free}
-use Rattle.sheet.specs.Relation.{closesIn}
+use Rattle.relation.specs.Relation.{closesIn}
 use Rattle.sheet.specs.InForce.{InForce}
 use Rattle.sheet.specs.BindingPowers.{infixIn, given, notInfix, givenIn, powersIn}
 use Rattle.sheet.specs.declared.powers.Powers.{Powers}

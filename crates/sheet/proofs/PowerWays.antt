@@ -12,16 +12,13 @@ use lib.Count.{ones, ones-le}
 use lib.Dec.{ltb}
 use Rattle.expression.specs.Limits.{mostOperators}
 use Rattle.disambiguation.specs.Powers.{below, rightPower}
+use Rattle.relation.specs.Relation.{bitOf, closesIn}
+use Rattle.relation.specs.Words.{withBit, wordWhere, SetOf}
 use Rattle.sheet.specs.Layout.{operatorsOf}
-use Rattle.sheet.specs.Relation.{bitOf, closesIn}
-use Rattle.sheet.specs.Kinds.{withBit, wordWhere}
-use Rattle.sheet.specs.BindingPowers.{infixIn, given, notInfix, givenIn, powersIn, SetOf, capped, closersOf, leftBy, givenBy}
+use Rattle.sheet.specs.BindingPowers.{infixIn, given, notInfix, givenIn, powersIn, capped, closersOf, leftBy, givenBy}
 use Rattle.sheet.specs.declared.powers.Powers.{Powers}
 use Rattle.sheet.proofs.KindWays.{none-yet, one-more}
-use Rattle.sheet.proofs.PowerWords.{outside-set, none-beyond, infix-set, below-set, left-by-set}
-
--- ---- words::outside
-pub ruleset outside-ways = (outside-set, needs)
+use Rattle.sheet.proofs.PowerWords.{none-beyond, infix-set, below-set, left-by-set}
 
 -- ---- capped_count
 module _ (n : ℕ) {m : ℕ} (is : m ≡ n) where

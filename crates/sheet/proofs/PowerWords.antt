@@ -4,7 +4,7 @@ use mathlib.Core.Bool.{Bool, true, false, not, _&&_, cond, and-true}
 use mathlib.Core.List.{List}
 use Prim.Native.Nat.{ℕ, zero, suc, _+_, _-_, _*_, _/_, _%_, _^_, _<_}
 use native.Mathlib.Decide.{decLt}
-use native.Mathlib.Nat.{add-comm, div-eq-of-lt, lt-of-lt-of-le, mod-lt}
+use native.Mathlib.Nat.{add-comm, mod-lt}
 use native.Mathlib.Numerals.{one-add}
 use native.Mathlib.Omega.{arith}
 use borrow.Author.Tests.{lt-ltb, le-ltb}
@@ -14,7 +14,7 @@ use lib.Bits.{bitAnd, and-mask}
 use lib.Count.{ones, ones-cat, ones-ones}
 use lib.Dec.{eqb, ltb}
 use lib.ListN.{getD}
-use lib.Pow.{pow-pos, pow-mono, ones-lt, split, shr-lt}
+use lib.Pow.{pow-pos, split, shr-lt}
 use Rattle.expression.specs.Limits.{mostOperators}
 use Rattle.expression.specs.Lists.{oneIf}
 use Rattle.expression.specs.Token.{Infix, Prefix, Operators, class}
@@ -23,32 +23,20 @@ use Rattle.disambiguation.specs.Below.{countBelow}
 use Rattle.disambiguation.specs.Powers.{isInfix, below, leftPower}
 use Rattle.disambiguation.proofs.Counts.{count-same}
 use Rattle.disambiguation.proofs.Standing.{not-infix}
+use Rattle.relation.specs.Relation.{bitOf, closesIn}
+use Rattle.relation.specs.Words.{without, SetOf, outsideOf}
+use Rattle.relation.proofs.Bits.{bit-and}
+use Rattle.relation.proofs.WordSets.{where-bit, bit-without, mask-bit}
+use Rattle.relation.proofs.WordTests.{closes-bit}
 use Rattle.sheet.specs.Layout.{prefixWordAt, operatorsOf, prefixIn}
-use Rattle.sheet.specs.Relation.{bitOf, closesIn}
-use Rattle.sheet.specs.Kinds.{without}
-use Rattle.sheet.specs.BindingPowers.{infixIn, SetOf, outsideOf, capped, closersOf, leftBy}
-use Rattle.sheet.proofs.Bits.{bit-and, bit-not, bit-zero}
-use Rattle.sheet.proofs.PrefixWord.{where-bit, bit-without, class-in}
-use Rattle.sheet.proofs.WordTests.{closes-bit}
-use Rattle.sheet.proofs.Testing.{prefix-bit}
+use Rattle.sheet.specs.BindingPowers.{infixIn, capped, closersOf, leftBy}
+use Rattle.sheet.proofs.PrefixWord.{class-in}
+use Rattle.sheet.proofs.LayoutWays.{prefix-bit}
 
--- ---- the mask of all below n, and a word under it
-mask-bit : (n c : ℕ) → bitOf (2 ^ n - 1) c ≡ ltb c n
-unfolding bitOf
-mask-bit n c = go (decLt c n)
-  where
-    go : Dec (c < n) → bitOf (2 ^ n - 1) c ≡ ltb c n
-    go (yes h) = ap (λ (x : ℕ). bitOf x c) (omega arith) ∙ bit-not n 0 c (pow-pos n) h ∙ ap not (bit-zero c) ∙ sym (lt-ltb c n h)
-    go (no h) = ap (λ (d : ℕ). eqb (d % 2) 1) (div-eq-of-lt (lt-of-lt-of-le (ones-lt n) (pow-mono (omega (arith, h))))) ∙ sym (le-ltb c n (omega (arith, h)))
-
+-- ---- the lowest bits of a word
 low-bit : (x w c : ℕ) → c < w → bitOf (x % 2 ^ w) c ≡ bitOf x c
 low-bit x w c h =
     ap (λ (z : ℕ). bitOf z c) (sym (and-mask x w)) ∙ bit-and x (2 ^ w - 1) c ∙ ap (λ b. bitOf x c && b) (mask-bit w c ∙ lt-ltb c w h) ∙ and-true (bitOf x c)
-
-pub outside-set : (n x m : ℕ) → Fits w32 x → m ≡ 2 ^ n - 1 → SetOf (outsideOf n x) (bitAnd m ((2 ^ 32 - 1) - x))
-unfolding without outsideOf
-outside-set n x m small e =
-    record { bit = λ c h. bit-without m x c (small .fits) h ∙ ap (λ b. b && not (bitOf x c)) (ap (λ (z : ℕ). bitOf z c) e ∙ mask-bit n c) }
 
 -- ---- the ones of a word are the numbers whose bits are set
 one-digit : (d : ℕ) → d < 2 → ones d ≡ oneIf (eqb (d % 2) 1)

@@ -1,77 +1,34 @@
--- The word of the prefix operators: its bits, and the kinds that are read back from it. Assumes nothing.
+-- The word of the prefix operators: the kinds that are read back from it. Assumes nothing.
 use mathlib.Core.Path.{_≡_, refl, sym, ap, ap₂, _∙_}
-use mathlib.Core.Bool.{Bool, true, false, not, _&&_, _||_, cond, and-true, and-false, or-false}
+use mathlib.Core.Bool.{Bool, true, false, _&&_, cond, and-false}
 use mathlib.Core.List.{List, _∷_, [], _++_}
-use Prim.Native.Nat.{ℕ, zero, suc, _+_, _-_, _^_, _<_, _≤_}
-use native.Mathlib.Decide.{decLt, ℕ-discrete}
+use Prim.Native.Nat.{ℕ, zero, suc, _<_, _≤_}
+use native.Mathlib.Decide.{decLt}
 use native.Mathlib.Omega.{arith}
-use borrow.Author.Tests.{lt-ltb, eq-eqb, ne-eqb, eqb-true, ltb-false, not-false}
+use borrow.Author.Tests.{lt-ltb, eqb-true, ltb-false, not-false}
 use lib.Dec.{eqb, ltb}
-use lib.ListN.{length, getD, take, length-append, List·getD-append}
-use lib.Seq.{take-suc, take-all, getD-append-seam}
+use lib.ListN.{length, getD, take}
+use lib.Seq.{take-suc, take-all}
 use Rattle.expression.specs.Lists.{oneIf, anyHolds}
 use Rattle.expression.specs.Limits.{mostOperators}
 use Rattle.expression.specs.Token.{Infix, Prefix, infixKind, prefixKind, operators, kindOf, classOfKind, class}
 use Rattle.expression.proofs.Classes.{class-operator, infix-byte, prefix-byte}
 use Rattle.expression.proofs.Tests.{none-at}
 use Rattle.disambiguation.specs.SheetChecks.{strangeKind}
-use Rattle.disambiguation.specs.Verdict.{comes}
-use Rattle.sheet.specs.Relation.{bitOf}
-use Rattle.sheet.specs.Layout.{prefixWordAt, kindsBelow, operatorsBy, operatorsOf, prefixIn, somePrefix}
-use Rattle.sheet.specs.Kinds.{withBit, wordWhere, prefixWord, without}
-use Rattle.sheet.proofs.Bits.{bit-and, bit-or, bit-not, bit-pow, bit-zero}
-
--- ---- the bits of a word
-bit-with : (x c : ℕ) (told : Bool) (b : ℕ) → bitOf (withBit x c told) b ≡ (bitOf x b || (told && eqb c b))
-unfolding withBit
-bit-with x c true b = bit-or x (2 ^ c) b ∙ ap (λ (q : Bool). bitOf x b || q) (bit-pow c b)
-bit-with x c false b = sym (or-false (bitOf x b))
-
-module _ (test : ℕ → Bool) where
-  none-beyond : (k b : ℕ) → k ≤ b → bitOf (wordWhere test k) b ≡ false
-  unfolding wordWhere
-  none-beyond zero b h = bit-zero b
-  none-beyond (suc k) b h = bit-with (wordWhere test k) k (test k) b ∙ rw (none-beyond k b (omega arith), ne-eqb k b (λ e. omega arith)) (and-false (test k))
-
-  pub where-bit : (k b : ℕ) → b < k → bitOf (wordWhere test k) b ≡ test b
-  unfolding wordWhere
-  where-bit zero b h = absurd (omega arith)
-  where-bit (suc k) b h = bit-with (wordWhere test k) k (test k) b ∙ go (ℕ-discrete k b) (where-bit k b)
-    where
-      go : Dec (k ≡ b) → (b < k → bitOf (wordWhere test k) b ≡ test b) → (bitOf (wordWhere test k) b || (test k && eqb k b)) ≡ test b
-      go (yes e) f = rw (none-beyond k b (omega arith), eq-eqb k b e) (and-true (test k) ∙ ap test e)
-      go (no ne) f = rw (f (omega (arith, ne)), ne-eqb k b ne) (ap (λ q. test b || q) (and-false (test k)) ∙ or-false (test b))
+use Rattle.relation.specs.Relation.{bitOf}
+use Rattle.relation.specs.Words.{kindsBelow, operatorsBy}
+use Rattle.relation.proofs.Bits.{bit-zero}
+use Rattle.relation.proofs.WordSets.{where-bit, length-kinds, kind-below, is-one, past-end}
+use Rattle.sheet.specs.Layout.{prefixWordAt, operatorsOf, prefixIn, somePrefix}
+use Rattle.sheet.specs.Kinds.{prefixWord}
 
 -- ---- the kinds read back
-length-kinds : (n w : ℕ) → length (kindsBelow n w) ≡ n
-length-kinds zero w = refl
-length-kinds (suc n) w = omega (arith, length-append (kindsBelow n w) (oneIf (bitOf w n) ∷ []), length-kinds n w)
-
-kind-below : (n w c : ℕ) → c < n → getD (kindsBelow n w) c infixKind ≡ oneIf (bitOf w c)
-kind-below zero w c h = absurd (omega arith)
-kind-below (suc n) w c h = go (ℕ-discrete c n) (kind-below n w c)
-  where
-    go : Dec (c ≡ n) → (c < n → getD (kindsBelow n w) c infixKind ≡ oneIf (bitOf w c)) → getD (kindsBelow n w ++ (oneIf (bitOf w n) ∷ [])) c infixKind ≡ oneIf (bitOf w c)
-    go (yes e) f =
-        ap (λ i. getD (kindsBelow n w ++ (oneIf (bitOf w n) ∷ [])) i infixKind) (e ∙ sym (length-kinds n w))
-        ∙ getD-append-seam (kindsBelow n w) (oneIf (bitOf w n)) [] infixKind ∙ ap (λ i. oneIf (bitOf w i)) (sym e)
-    go (no ne) f = List·getD-append (kindsBelow n w) (oneIf (bitOf w n) ∷ []) infixKind c (omega (arith, length-kinds n w, ne)) ∙ f (omega (arith, ne))
-
-is-one : (b : Bool) → eqb (oneIf b) prefixKind ≡ b
-is-one true = refl
-is-one false = refl
-
 -- the kind of an operator that a sheet has is told by a bit, and that of another is none
 pub kind-told : (sheet : List ℕ) (c : ℕ) → c < operatorsOf sheet .count → c < mostOperators → eqb (kindOf (operatorsOf sheet) c) prefixKind ≡ prefixIn sheet c
 unfolding operatorsOf prefixIn
 kind-told sheet c h g =
     ap (λ k. eqb k prefixKind) (kind-below (operatorsOf sheet .count) (getD sheet prefixWordAt 0) c h) ∙ is-one (bitOf (getD sheet prefixWordAt 0) c)
     ∙ ap (λ b. b && bitOf (getD sheet prefixWordAt 0) c) (sym (lt-ltb c mostOperators g))
-
-past-end : (xs : List ℕ) (c : ℕ) → length xs ≤ c → getD xs c infixKind ≡ infixKind
-past-end [] c h = refl
-past-end (x ∷ xs) zero h = absurd (omega arith)
-past-end (x ∷ xs) (suc c) h = past-end xs c (omega arith)
 
 pub kind-none : (sheet : List ℕ) (c : ℕ) → operatorsOf sheet .count ≤ c → eqb (kindOf (operatorsOf sheet) c) prefixKind ≡ false
 unfolding operatorsOf
@@ -99,10 +56,6 @@ two-kinds sheet c = go (decLt c (operatorsOf sheet .count))
 pub kinds-agree : (old new : List ℕ) (c : ℕ) → eqb (kindOf (operatorsOf old) c) (kindOf (operatorsOf new) c)
     ≡ eqb (oneIf (eqb (kindOf (operatorsOf old) c) prefixKind)) (oneIf (eqb (kindOf (operatorsOf new) c) prefixKind))
 kinds-agree old new c = sym (ap₂ eqb (two-kinds old c) (two-kinds new c))
-
--- an operator comes unless it is in the word
-pub comes-by : (n w c : ℕ) → c < n → comes (operatorsBy n w) c ≡ not (bitOf w c)
-comes-by n w c h = ap not (ap (λ k. eqb k prefixKind) (kind-below n w c h) ∙ is-one (bitOf w c))
 
 known-kind : (k : ℕ) → strangeKind k ≡ false → oneIf (eqb k prefixKind) ≡ k
 known-kind zero e = refl
@@ -151,8 +104,3 @@ unfolding somePrefix prefixIn
 none-prefix sheet e c =
     ap (λ w. ltb c mostOperators && bitOf w c) (eqb-true (getD sheet prefixWordAt 0) 0 (not-false (eqb (getD sheet prefixWordAt 0) 0) e))
     ∙ ap (λ b. ltb c mostOperators && b) (bit-zero c) ∙ and-false (ltb c mostOperators)
-
--- ---- words without the prefix operators
-pub bit-without : (x y c : ℕ) → y < 2 ^ 32 → c < 32 → bitOf (without x y) c ≡ (bitOf x c && not (bitOf y c))
-unfolding without
-bit-without x y c h l = bit-and x ((2 ^ 32 - 1) - y) c ∙ ap (λ (b : Bool). bitOf x c && b) (bit-not 32 y c h l)

@@ -1,7 +1,6 @@
 -- The binding powers that the words of a sheet give, for every content. Assumes nothing.
-use Prim.Native.Nat.{ℕ, _+_, _-_, _*_, _<_}
-use mathlib.Core.Path.{_≡_}
-use mathlib.Core.Bool.{Bool, not, _&&_, cond}
+use Prim.Native.Nat.{ℕ, _+_, _-_, _*_}
+use mathlib.Core.Bool.{Bool, cond}
 use mathlib.Core.List.{List}
 use lib.Count.{ones}
 use lib.Dec.{ltb}
@@ -9,9 +8,9 @@ use Rattle.expression.specs.Limits.{mostOperators}
 use Rattle.expression.specs.Refusal.{accepted, stranger}
 use Rattle.expression.specs.Token.{class}
 use Rattle.disambiguation.specs.Powers.{isInfix, leftPower, rightPower}
+use Rattle.relation.specs.Relation.{closesIn}
+use Rattle.relation.specs.Words.{wordWhere}
 use Rattle.sheet.specs.Layout.{operatorsOf}
-use Rattle.sheet.specs.Relation.{bitOf, closesIn}
-use Rattle.sheet.specs.Kinds.{wordWhere}
 use Rattle.sheet.specs.declared.powers.Powers.{Powers}
 
 -- an infix operator of the sheet
@@ -34,14 +33,6 @@ unfoldable pub powersIn : List ℕ → ℕ → Powers
 powersIn sheet a = cond (infixIn sheet a) (givenIn sheet a) notInfix
 
 -- ---- inside the call
--- The word is the set of the operators of which the test holds.
-pub record SetOf (test : ℕ → Bool) (word : ℕ) : Type 0 where
-  pub bit : (c : ℕ) → c < mostOperators → bitOf word c ≡ test c
-
--- a number below n that is not in the set
-unfoldable pub outsideOf : ℕ → ℕ → ℕ → Bool
-outsideOf n set c = ltb c n && not (bitOf set c)
-
 -- a count of operators, capped at 32: words that no load makes may have a higher one
 abbrev pub capped : ℕ → ℕ
 capped n = cond (ltb mostOperators n) mostOperators n

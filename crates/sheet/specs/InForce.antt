@@ -8,8 +8,8 @@ use Rattle.expression.specs.Refusal.{accepted}
 use Rattle.expression.specs.Token.{Infix, Operators, class}
 use Rattle.disambiguation.specs.Rules.{Rule, L, R}
 use Rattle.disambiguation.specs.Verdict.{verdict}
+use Rattle.relation.specs.Relation.{closesIn}
 use Rattle.sheet.specs.Layout.{operatorsOf}
-use Rattle.sheet.specs.Relation.{closesIn}
 
 pub record InForce (sheet : List ℕ) (ops : Operators) (rules : List Rule) : Type 0 where
   -- a sheet has 32 operators at most, and this one those that were called for

@@ -1,19 +1,2 @@
--- The relation "a closes before b" in words: bit b of word a. Assumes nothing.
-use Prim.Native.Nat.{ℕ, _/_, _%_, _^_}
-use mathlib.Core.Bool.{Bool, _&&_}
-use mathlib.Core.List.{List}
-use lib.Dec.{eqb, ltb}
-use lib.ListN.{getD}
-use Rattle.expression.specs.Limits.{mostOperators}
-
--- bit c of the word x is set
-unfoldable pub bitOf : ℕ → ℕ → Bool
-bitOf x c = eqb (x / 2 ^ c % 2) 1
-
--- The sheet says that operator a closes before b. No operator is 32 or more.
-unfoldable pub closesIn : List ℕ → ℕ → ℕ → Bool
-closesIn sheet a b = ltb a mostOperators && (ltb b mostOperators && bitOf (getD sheet a 0) b)
-
--- the relation read the other way round
-abbrev pub turned : (ℕ → ℕ → Bool) → ℕ → ℕ → Bool
-turned relation a b = relation b a
+-- The relation of a lent sheet, as the crate `relation` has it. Assumes nothing.
+unfoldable pub use Rattle.relation.specs.Relation.{bitOf, closesIn}

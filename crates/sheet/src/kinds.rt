@@ -13,8 +13,8 @@ ghost use Rattle.sheet.specs.Kinds.{prefixWord, kindChanges};
 use crate::is_prefix;
 use crate::layout::SHEET_WORDS;
 use crate::operator_count;
-use crate::words;
 use expression::limits::MOST_OPERATORS;
+use relation::words;
 
 // The kind of a prefix operator, which is the last one.
 const PREFIX: u8 = 1;

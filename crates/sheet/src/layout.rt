@@ -7,6 +7,4 @@ pub const PREFIX_WORD: usize = COUNT_WORD + 1;
 
 pub const LOADED_WORD: usize = PREFIX_WORD + 1;
 
-const SPARE_WORDS: usize = 1;
-
-pub const SHEET_WORDS: usize = MOST_OPERATORS as usize + 3 + SPARE_WORDS;
+pub const SHEET_WORDS: usize = relation::layout::SHEET_WORDS;

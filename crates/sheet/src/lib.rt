@@ -1,25 +1,22 @@
-// Operator sheets: kinds and rules in bytes, the relation that they give, and the numbers 1 to 5 (docs/REFERENCE.md, section 4). A sheet is a lent list of words,
-// whose layout is known here alone; all zero is the fresh one.
+// Operator sheets: kinds and rules in bytes, the relation that they give, and the numbers 1 to 5 (docs/REFERENCE.md, section 4). A sheet is a lent list of words:
+// those of the relation, and others whose layout is known here alone; all zero is the fresh one.
 ghost use mathlib.Core.Path.{_≡_};
-ghost use Prim.Native.Nat.{_≤_};
 ghost use Rattle.expression.specs.Limits.{mostOperators};
 ghost use Rattle.sheet.specs.Layout.{operatorsOf, prefixIn, somePrefix, isLoaded, fresh};
 ghost use mathlib.Core.Bool.{_&&_};
 ghost use lib.Dec.{ltb};
-ghost use Rattle.sheet.specs.Relation.{bitOf, closesIn};
+ghost use Rattle.relation.specs.Relation.{bitOf, closesIn};
 ghost use Rattle.sheet.specs.Kinds.{kindChanges};
-ghost use Rattle.sheet.specs.Loading.{Loads, ReadsSheet, Relates, sizeNumber};
+ghost use Rattle.sheet.specs.Loading.{Loads, ReadsSheet, sizeNumber};
 use expression::limits;
 use expression::refusal;
 use layout::SHEET_WORDS;
+use relation::verdict;
+use relation::words;
 
-mod chains;
 mod kinds;
 pub mod layout;
 pub mod powers;
-mod rules;
-mod verdict;
-pub mod words;
 
 // The count of the sheet's operators, n.
 pub fn operator_count(sheet: &[u32; SHEET_WORDS]) -> u8
@@ -102,25 +99,6 @@ fn size_number(n: u32, length: usize) -> u8
     refusal::ACCEPTED
 }
 
-// The rules read, and in two empty tables their relations: what closes before what, and what yields to what. Some rule is strange: then the tables
-// say nothing.
-fn relate(
-    n: u8,
-    rules: &[u8],
-    closes: &mut [u32; SHEET_WORDS],
-    yields: &mut [u32; SHEET_WORDS],
-) -> bool
-    requires { ⌜ (n ≤ mostOperators) × (now closes ≡ fresh) × (now yields ≡ fresh) ⌝ }
-    ensures { λ r. ⌜ Relates n (now (rules .entry)) r (now (closes .exit)) (now (yields .exit)) ⌝ }
-{
-    let mut ahead = [0u32; rules::MARK_WORDS];
-    let mut back = [0u32; rules::MARK_WORDS];
-    let strange = rules::read(n, rules, &mut ahead, &mut back);
-    chains::relate(n as usize, rules::LEFT, &ahead, closes);
-    chains::relate(n as usize, rules::RIGHT, &back, yields);
-    strange
-}
-
 // What is read of a sheet: its number, which is 1, 2, 3 or 0, and the set of its prefix operators.
 pub struct Found {
     pub number: u8,
@@ -156,7 +134,7 @@ pub fn read(
         return unread(refusal::STRANGER);
     }
     let prefixes = kinds::prefixes(kinds);
-    if relate(n as u8, &bytes[count..bytes.len()], closes, yields) {
+    if relation::relate(n as u8, &bytes[count..bytes.len()], closes, yields) {
         return unread(refusal::STRANGER);
     }
     Found {

@@ -4,15 +4,16 @@ ghost use Prim.Native.Nat.{_≤_, _<_};
 ghost use Rattle.expression.specs.Limits.{mostOperators};
 ghost use Rattle.disambiguation.specs.Powers.{below};
 ghost use Rattle.sheet.specs.Layout.{operatorsOf};
-ghost use Rattle.sheet.specs.Relation.{closesIn};
-ghost use Rattle.sheet.specs.BindingPowers.{SetOf, infixIn, capped, closersOf, leftBy, givenBy, givenIn, notInfix, powersIn};
+ghost use Rattle.relation.specs.Relation.{closesIn};
+ghost use Rattle.relation.specs.Words.{SetOf};
+ghost use Rattle.sheet.specs.BindingPowers.{infixIn, capped, closersOf, leftBy, givenBy, givenIn, notInfix, powersIn};
 use crate::closes_before;
 use crate::layout::PREFIX_WORD;
 use crate::layout::SHEET_WORDS;
 use crate::operator_count;
-use crate::words;
 use expression::limits::MOST_OPERATORS;
 use expression::refusal;
+use relation::words;
 
 // The number of the call, and the left and the right power of the operator; both are 0 after a refusal.
 #[repr(C)]

@@ -15,9 +15,10 @@ use Rattle.expression.proofs.Numbers.{first-refused, first-short, first-roomy}
 use Rattle.disambiguation.specs.Rules.{L, R}
 use Rattle.disambiguation.specs.SheetChecks.{rulesIn, operatorsIn, orderChecks}
 use Rattle.disambiguation.specs.Witness.{witness, witnessOf, told}
-use Rattle.sheet.specs.Layout.{operatorsBy}
-use Rattle.sheet.specs.Relation.{closesIn, turned}
-use Rattle.sheet.specs.Loading.{closesWords, yieldsWords, ReadsSheet}
+use Rattle.relation.specs.Relation.{closesIn, turned}
+use Rattle.relation.specs.Words.{operatorsBy}
+use Rattle.relation.specs.Relating.{closesWords, yieldsWords}
+use Rattle.sheet.specs.Loading.{ReadsSheet}
 use Rattle.sheet.proofs.Ordered.{Ordered, order-numbered, operators-read, closes-read, yields-read}
 use Rattle.sheet.proofs.Loading.{known}
 use Rattle.witness.specs.Shapes.{Tells}

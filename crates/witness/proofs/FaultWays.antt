@@ -17,13 +17,11 @@ use Rattle.disambiguation.specs.Below.{firstBelow, someBelow}
 use Rattle.disambiguation.specs.Verdict.{comes, comers}
 use Rattle.disambiguation.specs.Witness.{firstLeft, firstRight, firstThird, uneven, unevenPair}
 use Rattle.disambiguation.proofs.FirstBelow.{IsFirst, first-is, first-only, first-same}
-use Rattle.sheet.specs.Layout.{operatorsBy}
-use Rattle.sheet.specs.Kinds.{without}
-use Rattle.sheet.specs.Relation.{bitOf, closesIn, turned}
-use Rattle.sheet.specs.BindingPowers.{SetOf}
-use Rattle.sheet.proofs.Bits.{bit-and, bit-or, bit-not}
-use Rattle.sheet.proofs.PrefixWord.{comes-by, bit-without}
-use Rattle.sheet.proofs.WordTests.{bits, bits-without, closes-bit}
+use Rattle.relation.specs.Relation.{bitOf, closesIn, turned}
+use Rattle.relation.specs.Words.{operatorsBy, without, SetOf}
+use Rattle.relation.proofs.Bits.{bit-and, bit-or, bit-not}
+use Rattle.relation.proofs.WordSets.{comes-by, bit-without}
+use Rattle.relation.proofs.WordTests.{bits, bits-without, closes-bit}
 use Rattle.witness.specs.Faults.{faultOf, onlyIn, inNone}
 
 -- ---- sets

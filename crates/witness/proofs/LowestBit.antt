@@ -12,8 +12,8 @@ use lib.Dec.{eqb}
 use Rattle.expression.specs.Limits.{mostOperators}
 use Rattle.disambiguation.specs.Below.{firstBelow}
 use Rattle.disambiguation.proofs.FirstBelow.{IsFirst, first-only}
-use Rattle.sheet.specs.Relation.{bitOf}
-use Rattle.sheet.proofs.Bits.{bit-lowest, bit-above}
+use Rattle.relation.specs.Relation.{bitOf}
+use Rattle.relation.proofs.Bits.{bit-lowest, bit-above}
 
 -- the zeros are counted up to the lowest one
 lowest : (w x : ℕ) → IsFirst w (bitOf x) (trailingZeros w x)

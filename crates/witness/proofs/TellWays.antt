@@ -17,10 +17,10 @@ use Rattle.disambiguation.specs.Below.{someBelow}
 use Rattle.disambiguation.specs.Verdict.{comes}
 use Rattle.disambiguation.specs.Witness.{Witness, sound, noTree, twoTrees, firstOverPair, lastOverPair, firstOverTriple, lastOverTriple, firstLeft, firstRight, firstThird, unevenPair, shownBy, noneOf, twoOf, twoOfThree, twoOfUneven, ofTriples, bothExclude, noneExcludes, witness}
 use Rattle.disambiguation.proofs.FirstBelow.{first-below, first-holds}
-use Rattle.sheet.specs.Layout.{operatorsBy}
-use Rattle.sheet.specs.Relation.{bitOf, closesIn, turned}
-use Rattle.sheet.proofs.PrefixWord.{comes-by}
-use Rattle.sheet.proofs.WordTests.{closes-bit}
+use Rattle.relation.specs.Relation.{bitOf, closesIn, turned}
+use Rattle.relation.specs.Words.{operatorsBy}
+use Rattle.relation.proofs.WordSets.{comes-by}
+use Rattle.relation.proofs.WordTests.{closes-bit}
 use Rattle.witness.specs.Faults.{faultOf}
 use Rattle.witness.specs.Shapes.{Tells}
 

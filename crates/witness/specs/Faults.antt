@@ -3,7 +3,7 @@ use Prim.Native.Nat.{ℕ}
 use mathlib.Core.Bool.{Bool, not, _&&_, _||_, cond}
 use Rattle.expression.specs.Token.{Operators}
 use Rattle.disambiguation.specs.Witness.{bothExclude, noneExcludes}
-use Rattle.sheet.specs.Relation.{bitOf}
+use Rattle.relation.specs.Relation.{bitOf}
 
 -- the fault of a pair: each excludes the other (dead), or neither does
 abbrev pub faultOf : Bool → Operators → (ℕ → ℕ → Bool) → (ℕ → ℕ → Bool) → ℕ → ℕ → Bool

@@ -5,12 +5,11 @@ ghost use Prim.Native.Nat.{_≤_, _<_};
 ghost use Rattle.expression.specs.Limits.{mostOperators};
 ghost use Rattle.disambiguation.specs.Below.{firstBelow};
 ghost use Rattle.disambiguation.specs.Witness.{firstLeft, firstRight, firstThird, unevenPair};
-ghost use Rattle.sheet.specs.Layout.{operatorsBy};
-ghost use Rattle.sheet.specs.Relation.{bitOf, closesIn, turned};
-ghost use Rattle.sheet.specs.BindingPowers.{SetOf};
+ghost use Rattle.relation.specs.Relation.{bitOf, closesIn, turned};
+ghost use Rattle.relation.specs.Words.{operatorsBy, SetOf};
 ghost use Rattle.witness.specs.Faults.{onlyIn, inNone, faultOf};
+use relation::words;
 use sheet::layout::SHEET_WORDS;
-use sheet::words;
 
 // The first below n that is in the set.
 fn first_in(n: usize, set: u32) -> usize

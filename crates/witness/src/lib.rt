@@ -4,15 +4,15 @@ ghost use Prim.Native.Nat.{_≤_};
 ghost use lib.ListN.{length};
 ghost use Rattle.expression.specs.Limits.{mostOperators};
 ghost use Rattle.disambiguation.specs.Witness.{ofTriples, witness};
-ghost use Rattle.sheet.specs.Layout.{operatorsBy};
-ghost use Rattle.sheet.specs.Relation.{closesIn, turned};
+ghost use Rattle.relation.specs.Relation.{closesIn, turned};
+ghost use Rattle.relation.specs.Words.{operatorsBy};
 ghost use Rattle.witness.specs.Shapes.{Tells};
 ghost use Rattle.witness.specs.Explaining.{mostExplained, Explains};
 use expression::refusal;
 use limits::MOST_EXPLAINED;
 use record::Answer;
+use relation::words;
 use sheet::layout::SHEET_WORDS;
-use sheet::words;
 
 mod faults;
 pub mod limits;

@@ -1,5 +1,5 @@
 -- `sheet::closes_before` meets its contract. Assumes nothing.
-use Rattle.sheet.proofs.Testing.{closes-before-ways}
+use Rattle.sheet.proofs.LayoutWays.{closes-before-ways}
 use Rattle.sheet.proofs.closes_before.Statement.{statement}
 use Rattle.sheet.proofs.closes_before.Tie as tie
 

@@ -1,5 +1,5 @@
 -- `sheet::is_in` meets its contract. Assumes nothing.
-use Rattle.sheet.proofs.Testing.{is-in-ways}
+use Rattle.sheet.proofs.LayoutWays.{is-in-ways}
 use Rattle.sheet.proofs.is_in.Statement.{statement}
 use Rattle.sheet.proofs.is_in.Tie as tie
 

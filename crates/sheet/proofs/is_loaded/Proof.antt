@@ -1,5 +1,5 @@
 -- `sheet::is_loaded` meets its contract. Assumes nothing.
-use Rattle.sheet.proofs.Testing.{is-loaded-ways}
+use Rattle.sheet.proofs.LayoutWays.{is-loaded-ways}
 use Rattle.sheet.proofs.is_loaded.Statement.{statement}
 use Rattle.sheet.proofs.is_loaded.Tie as tie
 

@@ -1,5 +1,5 @@
 -- `sheet::is_prefix` meets its contract. Assumes nothing.
-use Rattle.sheet.proofs.Testing.{is-prefix-ways}
+use Rattle.sheet.proofs.LayoutWays.{is-prefix-ways}
 use Rattle.sheet.proofs.is_prefix.Statement.{statement}
 use Rattle.sheet.proofs.is_prefix.Tie as tie
 

@@ -1,5 +1,5 @@
 -- `sheet::operator_count` meets its contract. Assumes nothing.
-use Rattle.sheet.proofs.Testing.{operator-count-ways}
+use Rattle.sheet.proofs.LayoutWays.{operator-count-ways}
 use Rattle.sheet.proofs.operator_count.Statement.{statement}
 use Rattle.sheet.proofs.operator_count.Tie as tie
 

@@ -1,5 +1,5 @@
 -- `sheet::some_prefix` meets its contract. Assumes nothing.
-use Rattle.sheet.proofs.Testing.{some-prefix-ways}
+use Rattle.sheet.proofs.LayoutWays.{some-prefix-ways}
 use Rattle.sheet.proofs.some_prefix.Statement.{statement}
 use Rattle.sheet.proofs.some_prefix.Tie as tie
 

@@ -3,7 +3,7 @@ use mathlib.Core.Path.{_≡_}
 use Prim.Native.Nat.{_-_, _≤_}
 use native.Mathlib.Omega.{arith}
 use Rattle.expression.specs.Limits.{mostOperators}
-use Rattle.sheet.specs.Kinds.{wordWhere}
+use Rattle.relation.specs.Words.{wordWhere}
 use Rattle.sheet.proofs.KindWays.{changed, changes-ways}
 use Rattle.sheet.proofs.kinds.changes.Statement.{statement}
 use Rattle.sheet.proofs.kinds.changes.Tie as tie

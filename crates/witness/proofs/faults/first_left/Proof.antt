@@ -1,7 +1,7 @@
 -- `witness::faults::first_left` meets its contract; in its loop, no operator before a has a pair of the fault. Assumes nothing.
 use Prim.Native.Nat.{_-_, _≤_}
-use Rattle.sheet.specs.Layout.{operatorsBy}
-use Rattle.sheet.specs.Relation.{closesIn, turned}
+use Rattle.relation.specs.Relation.{closesIn, turned}
+use Rattle.relation.specs.Words.{operatorsBy}
 use Rattle.witness.specs.Faults.{faultOf}
 use native.Mathlib.Omega.{arith}
 use Rattle.witness.proofs.FaultWays.{NoneBefore, left-ways}

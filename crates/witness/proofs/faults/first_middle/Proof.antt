@@ -1,8 +1,8 @@
 -- `witness::faults::first_middle` meets its contract; in its loop, every operator before b is level with a. Assumes nothing.
 use Prim.Native.Nat.{_-_, _≤_}
 use Rattle.disambiguation.specs.Witness.{uneven}
-use Rattle.sheet.specs.Layout.{operatorsBy}
-use Rattle.sheet.specs.Relation.{closesIn}
+use Rattle.relation.specs.Relation.{closesIn}
+use Rattle.relation.specs.Words.{operatorsBy}
 use native.Mathlib.Omega.{arith}
 use Rattle.witness.proofs.FaultWays.{NoneBefore, middle-ways}
 use Rattle.witness.proofs.faults.first_middle.Statement.{statement}

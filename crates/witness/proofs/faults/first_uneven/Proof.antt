@@ -1,8 +1,8 @@
 -- `witness::faults::first_uneven` meets its contract; in its loop, every operator before a is level with each. Assumes nothing.
 use Prim.Native.Nat.{_-_, _≤_}
 use Rattle.disambiguation.specs.Witness.{unevenPair}
-use Rattle.sheet.specs.Layout.{operatorsBy}
-use Rattle.sheet.specs.Relation.{closesIn}
+use Rattle.relation.specs.Relation.{closesIn}
+use Rattle.relation.specs.Words.{operatorsBy}
 use native.Mathlib.Omega.{arith}
 use Rattle.witness.proofs.FaultWays.{NoneBefore, left-ways}
 use Rattle.witness.proofs.faults.first_uneven.Statement.{statement}

@@ -1,0 +1,14 @@
+pub mod Below
+pub mod Bits
+pub mod WordSets
+pub mod WordTests
+pub mod WordWays
+pub mod Orderly
+pub mod Reading
+pub mod Marks
+pub mod Through
+pub mod Chaining
+pub mod ChainWays
+pub mod RelateWays
+pub mod Testing
+pub mod Verdicts
