@@ -31,7 +31,7 @@ use Rattle.evaluator.specs.Bytes.{anyMeaningless, anyBeyond}
 use Rattle.evaluator.specs.Walk.{Evaluable, IsValue}
 use Rattle.evaluator.specs.Evaluation.{EvaluatesOn, evaluated, checksIn, valueIn, recordAndTree, numberOf, ofRecord, evaluation}
 use Rattle.evaluator.specs.declared.Evaluation.{Evaluation}
-use Rattle.evaluator.proofs.Stopping.{read}
+use Rattle.meanings.proofs.Stopping.{read}
 use Rattle.evaluator.proofs.Lacking.{meanings-of-tree, readings-of-tree}
 
 -- a refusal is answered with the value 0

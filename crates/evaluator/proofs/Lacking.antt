@@ -29,7 +29,7 @@ use Rattle.disambiguation.proofs.BelowLaws.{allBelow-at}
 use Rattle.sheet.specs.Layout.{operatorsOf, prefixIn, somePrefix}
 use Rattle.sheet.proofs.Laws.{infix-in, prefix-in, none-prefix}
 use Rattle.record.specs.Checks.{strangerInRecord}
-use Rattle.evaluator.specs.Meanings.{meant, prefixMeant, isMissing}
+use Rattle.meanings.specs.Meanings.{meant, prefixMeant, isMissing}
 use Rattle.evaluator.specs.Value.{meaningIn, lacksMeaning, lacksReading}
 use Rattle.evaluator.specs.Bytes.{meaningless, beyond, anyMeaningless, allMeant, anyBeyond}
 

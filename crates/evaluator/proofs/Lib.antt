@@ -1,6 +1,3 @@
-pub mod Range
-pub mod Stopping
-pub mod Applying
 pub mod Lacking
 pub mod TreeByByte
 pub mod Walking

@@ -14,9 +14,9 @@ use Rattle.expression.proofs.Classes.{infix-byte, prefix-byte, reading-byte}
 use Rattle.expression.proofs.Tests.{both-false}
 use Rattle.record.specs.TreeAt.{TreeAt}
 use Rattle.record.proofs.Trees.{top-node, in-bracket, in-prefix, an-operator}
-use Rattle.evaluator.specs.Meanings.{meant, prefixMeant, isMissing}
+use Rattle.meanings.specs.Meanings.{meant, prefixMeant, isMissing}
+use Rattle.meanings.proofs.Applying.{over-nine, under-one, under-ten}
 use Rattle.evaluator.specs.Value.{meaningIn, prefixMeaningIn, lacksMeaning}
-use Rattle.evaluator.proofs.Applying.{over-nine, under-one, under-ten}
 
 -- ---- the number of a meaning tells the kind
 infix-number : (n : ℕ) → isMissing (meant n) ≡ false → (1 ≤ n) × (n < 10)

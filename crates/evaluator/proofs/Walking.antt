@@ -18,10 +18,10 @@ use Rattle.expression.proofs.Tests.{both-false}
 use Rattle.record.specs.TreeAt.{TreeAt}
 use Rattle.record.proofs.Trees.{ends-within}
 use Rattle.record.proofs.Standing.{onward}
-use Rattle.evaluator.specs.Meanings.{meant, prefixMeant, worked, workedOn}
+use Rattle.meanings.specs.Meanings.{meant, prefixMeant, worked, workedOn}
+use Rattle.meanings.proofs.Stopping.{read}
 use Rattle.evaluator.specs.Value.{value, lacksMeaning, lacksReading}
 use Rattle.evaluator.specs.Walk.{Evaluable, Values, IsValue}
-use Rattle.evaluator.proofs.Stopping.{read}
 use Rattle.evaluator.proofs.TreeByByte.{operands-meant, operand-meant, small-byte, is-leaf, is-bracket, is-numbered, is-infix, is-prefix}
 
 -- what falls: the bytes from a place on, twice, since a node may be entered as an operand first

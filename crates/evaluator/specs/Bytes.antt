@@ -8,7 +8,7 @@ use Rattle.expression.specs.Limits.{mostOperators}
 use Rattle.expression.specs.Token.{firstReading}
 use Rattle.disambiguation.specs.Below.{allBelow}
 use Rattle.sheet.specs.Layout.{prefixIn}
-use Rattle.evaluator.specs.Meanings.{isMissing}
+use Rattle.meanings.specs.Meanings.{isMissing}
 use Rattle.evaluator.specs.Value.{meaningIn, prefixMeaningIn, indexOf}
 
 -- the byte is an operator without a meaning of the kind that the sheet has it as

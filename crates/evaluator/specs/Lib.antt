@@ -1,4 +1,3 @@
-pub mod Meanings
 pub mod Value
 pub mod Bytes
 pub mod Walk

@@ -9,7 +9,7 @@ use lib.ListN.{length, getD}
 use Rattle.expression.specs.Refusal.{Check, noMeaning, noReading}
 use Rattle.expression.specs.Token.{firstReading}
 use Rattle.expression.specs.Tree.{Tree, reading, bracket, binary, prefix}
-use Rattle.evaluator.specs.Meanings.{Meaning, PrefixMeaning, meant, prefixMeant, isMissing, worked, workedOn}
+use Rattle.meanings.specs.Meanings.{Meaning, PrefixMeaning, meant, prefixMeant, isMissing, worked, workedOn}
 
 -- The meaning of infix operator o: byte o of the lent meanings tells. An operator beyond them has 0 there, which is no meaning.
 abbrev pub meaningIn : List ℕ → ℕ → Option Meaning

@@ -5,9 +5,8 @@ ghost use lib.Dec.{leb};
 ghost use Rattle.expression.specs.Lists.{anyHolds};
 ghost use Rattle.sheet.specs.Layout.{operatorsOf};
 ghost use Rattle.record.specs.Checks.{strangerInRecord};
-ghost use Rattle.evaluator.specs.Meanings.{meant, isMissing};
+ghost use Rattle.meanings.specs.Meanings.{meant, isMissing};
 ghost use Rattle.evaluator.specs.Bytes.{meaningless, anyMeaningless, allMeant, anyBeyond};
-use crate::meanings;
 use expression::token;
 use sheet::layout::SHEET_WORDS;
 

@@ -11,8 +11,6 @@ use places::limits::STORE_BYTES;
 use sheet::layout::SHEET_WORDS;
 
 mod checks;
-mod ends;
-mod meanings;
 mod walk;
 
 // The number of an evaluation, and the value of the tree; 0 after a refusal.

@@ -3,7 +3,6 @@ ghost use Prim.Native.Nat.{_<_};
 ghost use lib.ListN.{getD};
 ghost use Rattle.expression.specs.Token.{firstReading};
 ghost use Rattle.evaluator.specs.Walk.{Evaluable, Values, IsValue};
-use crate::meanings;
 use expression::token;
 
 // The place moves past the tree. The lists are lent by one pointer each. This is compiled into the walk below, so a reading takes no call.

@@ -1,8 +1,8 @@
 -- `evaluator::checks::any_missing` meets its contract; in its loop, what is found so far and what stands from the place on make up the answer. Assumes nothing.
 use Prim.Native.Nat.{_-_}
 use lib.ListN.{length}
-use Rattle.evaluator.specs.Meanings.{meant, isMissing}
 use Rattle.expression.proofs.Looking.{Looked}
+use Rattle.meanings.specs.Meanings.{meant, isMissing}
 use Rattle.evaluator.proofs.Lacking.{looking-ways}
 use Rattle.evaluator.proofs.checks.any_missing.Statement.{statement}
 use Rattle.evaluator.proofs.checks.any_missing.Tie as tie

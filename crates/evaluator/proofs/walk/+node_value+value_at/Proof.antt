@@ -10,8 +10,8 @@ use Rattle.evaluator.proofs.walk.+node_value+value_at.Lts-node_value as
 use Rattle.evaluator.proofs.walk.value_at.Reads as value-at
 use Rattle.evaluator.proofs.walk.value_at.Kinds as value-at-kinds
 use Rattle.evaluator.proofs.walk.+node_value+value_at.Lts-value_at as value-at-lts
-use Rattle.evaluator.proofs.meanings.apply.Reads as apply
-use Rattle.evaluator.proofs.meanings.apply_prefix.Reads as apply-prefix
+use Rattle.meanings.proofs.apply.Reads as apply
+use Rattle.meanings.proofs.apply_prefix.Reads as apply-prefix
 use Rattle.evaluator.proofs.walk.+node_value+value_at.{statement}
 use Rattle.evaluator.proofs.walk.+node_value+value_at.Tie.{close}
 

@@ -1,7 +1,0 @@
--- `evaluator::meanings::at_most` meets its contract. Assumes nothing.
-use Rattle.evaluator.proofs.Applying.{meaning-ways}
-use Rattle.evaluator.proofs.meanings.at_most.Statement.{statement}
-use Rattle.evaluator.proofs.meanings.at_most.Tie as tie
-
-pub at-most-spec : {M : Type 1} → statement M
-at-most-spec = tie.close (tie.spec (λ c κs. search meaning-ways) (λ c. search meaning-ways))

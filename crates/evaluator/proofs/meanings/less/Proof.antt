@@ -1,7 +1,0 @@
--- `evaluator::meanings::less` meets its contract. Assumes nothing.
-use Rattle.evaluator.proofs.Applying.{meaning-ways}
-use Rattle.evaluator.proofs.meanings.less.Statement.{statement}
-use Rattle.evaluator.proofs.meanings.less.Tie as tie
-
-pub less-spec : {M : Type 1} → statement M
-less-spec = tie.close (tie.spec (λ c κs. search meaning-ways) (λ c. search meaning-ways))

@@ -1,7 +1,0 @@
--- `evaluator::meanings::minus` meets its contract. Assumes nothing.
-use Rattle.evaluator.proofs.Applying.{meaning-ways}
-use Rattle.evaluator.proofs.meanings.minus.Statement.{statement}
-use Rattle.evaluator.proofs.meanings.minus.Tie as tie
-
-pub minus-spec : {M : Type 1} → statement M
-minus-spec = tie.close (tie.spec (λ c κs. search meaning-ways) (λ c. search meaning-ways))

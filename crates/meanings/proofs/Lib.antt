@@ -1,0 +1,4 @@
+pub mod Range
+pub mod Stopping
+pub mod Applying
+pub mod Examples
