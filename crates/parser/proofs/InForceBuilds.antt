@@ -12,7 +12,7 @@ use Rattle.expression.proofs.RecordsAndTrees.{record-injective}
 use Rattle.expression.proofs.RowsAndTrees.{row-exactly-if-yielded}
 use Rattle.expression.proofs.Lengths.{same-row-same-length}
 use Rattle.disambiguation.specs.Rules.{Rule, R}
-use Rattle.disambiguation.specs.Conflicts.{conflictCount, ConflictFreeTree}
+use Rattle.disambiguation.specs.Conflicts.{ConflictFreeTree}
 use Rattle.disambiguation.specs.Repair.{repair}
 use Rattle.disambiguation.proofs.Accepted.{accepted-passes, repair-is, only-one}
 use Rattle.sheet.specs.Relation.{closesIn}
@@ -50,16 +50,6 @@ module _ (s : List ℕ) (ops : Operators) (rules : List Rule) (in-force : InForc
   built-keeps-length t h =
       let c = repair-is ops rules (accepted-passes ops rules (in-force .accepts)) t h in
       ap length (built-repairs t h) ∙ same-row-same-length (class ops) (brackets ops) (repair ops (R rules) t) t (c .over) h (c .yields)
-
-  -- it is the record itself exactly if the tree has no conflict;
-  pub built-same-exactly-if : (t : Tree) → Over (class ops) t → (built ops (closesIn s) (yield t) ≡ recordOf t) ↔ (conflictCount rules t ≡ 0)
-  built-same-exactly-if t h = (
-    λ e.
-        let c = repair-is ops rules (accepted-passes ops rules (in-force .accepts)) t h in
-        let same = record-injective (class ops) (brackets ops) (repair ops (R rules) t) t (c .over) h (sym (built-repairs t h) ∙ e) in
-        ap (conflictCount rules) (sym same) ∙ c .free,
-    λ e. built-is (yield t) t (record { over = h; yields = refl; free = e }),
-  )
 
   -- and two trees repair to the same bytes exactly if their rows are the same.
   pub built-equal-exactly-if : (t u : Tree) → Over (class ops) t → Over (class ops) u → (built ops (closesIn s) (yield t) ≡ built ops (closesIn s) (yield u)) ↔ (yield t ≡ yield u)
