@@ -8,7 +8,7 @@ use borrow.Author.Tests.{lt-ltb}
 use lib.ListN.{length, take, length-append}
 use lib.Seq.{length-take-le}
 use Rattle.run.specs.Panel.{Panel}
-use Rattle.frame.specs.Lines.{mostCharacters, isLong, lineCall, lineBytes, lineReply, lineAfter}
+use Rattle.frame.specs.Lines.{mostCharacters, isLong, lineBytes, lineReply}
 use Rattle.panel.specs.Contracts.{mostKept}
 
 long-line : (l more : List ℕ) → mostCharacters < length l → isLong (l ++ more) ≡ true
@@ -21,7 +21,3 @@ module _ (p : Panel) (line more : List ℕ) (h : mostKept ≤ length line) where
   pub cut-reply : lineReply p (take mostKept line ++ more) ≡ lineReply p (line ++ more)
   unfolding lineReply lineBytes
   cut-reply = rw (kept-long, long-line line more (omega arith))
-
-  pub cut-after : lineAfter p (take mostKept line ++ more) ≡ lineAfter p (line ++ more)
-  unfolding lineAfter lineCall
-  cut-after = rw (kept-long, long-line line more (omega arith))
