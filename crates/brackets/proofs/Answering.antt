@@ -22,7 +22,7 @@ use Rattle.expression.proofs.Lengths.{record-length}
 use Rattle.expression.proofs.Numbers.{first-refused, first-short, first-roomy, record-numbered, record-accepted, repair-number}
 use Rattle.sheet.specs.Layout.{operatorsOf}
 use Rattle.sheet.specs.Relation.{closesIn}
-use Rattle.record.specs.Held.{base}
+use Rattle.record.specs.Front.{base}
 use Rattle.record.specs.TreeAt.{TreeAt}
 use Rattle.record.specs.Counts.{excludedLeft}
 use Rattle.record.specs.declared.Answer.{Answer}
@@ -37,7 +37,7 @@ use Rattle.brackets.proofs.Fewest.{enclosed-shortens}
 use Rattle.brackets.proofs.OperandRows.{plain-row}
 
 -- the record was repaired into a buffer with room for every record
-module _ (sheet bytes out zeros : List ℕ) {held : List ℕ} {y : Answer} (room : mostRecordBytes ≤ length zeros) (repairs : AnswersRepair sheet bytes zeros held y) where
+module _ (sheet bytes out zeros : List ℕ) {whole : List ℕ} {y : Answer} (room : mostRecordBytes ≤ length zeros) (repairs : AnswersRepair sheet bytes zeros whole y) where
   abbrev ops : Operators
   ops = operatorsOf sheet
 
@@ -87,10 +87,10 @@ module _ (sheet bytes out zeros : List ℕ) {held : List ℕ} {y : Answer} (room
           known .fits,
         )
 
-    held-is : held ≡ recordOf tree ++ drop (length (recordOf tree)) zeros
+    held-is : whole ≡ recordOf tree ++ drop (length (recordOf tree)) zeros
     held-is = repairs .output ∙ ap (λ n. outputAfter n (built ops (closesIn sheet) row) zeros) zero ∙ ap (λ s. s ++ drop (length s) zeros) (made .1 .recorded)
 
-    at-front : TreeAt ops held 0 tree (length (recordOf tree))
+    at-front : TreeAt ops whole 0 tree (length (recordOf tree))
     at-front =
         record {
           over = made .1 .over;
@@ -104,20 +104,20 @@ module _ (sheet bytes out zeros : List ℕ) {held : List ℕ} {y : Answer} (room
     size-is : y .length ≡ length (recordOf tree)
     size-is = repairs .measured ∙ ap (λ n. lengthAfter n (built ops (closesIn sheet) row)) zero ∙ ap length (made .1 .recorded)
 
-    fills : TreeAt ops held 0 tree (y .length)
-    fills = subst (TreeAt ops held 0 tree) (sym size-is) at-front
+    fills : TreeAt ops whole 0 tree (y .length)
+    fills = subst (TreeAt ops whole 0 tree) (sym size-is) at-front
 
     size-fits : y .length ≤ mostRecordBytes
     size-fits = omega (arith, size-is, record-length (class ops) (brackets ops) tree (made .1 .over), ap recordBytes (made .1 .yields-row), known .same-length, bytes-fit)
 
-    pub front-fills : Fills sheet held (y .length)
+    pub front-fills : Fills sheet whole (y .length)
     front-fills = record { tree = tree; stands = fills; within = size-fits }
 
-    pub front-stands : {marks : List ℕ} → Marked sheet held marks 0 (y .length) → StandsWithRoom sheet held marks 0 opening rightSide 0
+    pub front-stands : {marks : List ℕ} → Marked sheet whole marks 0 (y .length) → StandsWithRoom sheet whole marks 0 opening rightSide 0
     front-stands m = record { tree = tree; to = y .length; stands = fills; within = size-fits; marked = m; sided = refl; room = omega (arith, fits) }
 
     -- the walk wrote it to the front of a buffer with room for every row
-    module _ (blank : List ℕ) {written : List ℕ} {w : ℕ} (walked : Shortens sheet held 0 opening rightSide blank 0 written w) where
+    module _ (blank : List ℕ) {written : List ℕ} {w : ℕ} (walked : Shortens sheet whole 0 opening rightSide blank 0 written w) where
       length-is : w % base ≡ length (shortestOf sheet bytes)
       length-is = walked .wrote tree (length (recordOf tree)) at-front (omega (arith, fits)) .1 ∙ omega (arith, ap length answer-is)
 

@@ -16,7 +16,7 @@ use Rattle.expression.specs.Token.{opening}
 use Rattle.expression.specs.Tree.{Tree, binary}
 use Rattle.sheet.specs.Layout.{operatorsOf}
 use Rattle.sheet.specs.Relation.{closesIn}
-use Rattle.record.specs.Held.{base}
+use Rattle.record.specs.Front.{base}
 use Rattle.record.specs.Node.{nodeAt}
 use Rattle.record.specs.TreeAt.{TreeAt}
 use Rattle.record.specs.Counts.{seesEdge}

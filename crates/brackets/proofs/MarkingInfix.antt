@@ -14,7 +14,7 @@ use Rattle.expression.specs.Token.{opening}
 use Rattle.expression.specs.Tree.{Tree, binary}
 use Rattle.expression.proofs.Tests.{at-most-one}
 use Rattle.sheet.specs.Layout.{operatorsOf}
-use Rattle.record.specs.Held.{base}
+use Rattle.record.specs.Front.{base}
 use Rattle.record.specs.Node.{nodeAt}
 use Rattle.record.specs.TreeAt.{TreeAt}
 use Rattle.record.specs.declared.Node.{Node}

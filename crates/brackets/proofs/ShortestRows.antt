@@ -56,7 +56,7 @@ module _ (ops : Operators) (rules : List Rule) (one-tree : (row : List ℕ) (t u
         let (u, d, same) = other-tree other m in
         omega (arith, fewest-tokens (L rules) (R rules) t u (d .free) same, ap length (d .yields))
 
-    only-of-row : OfInfix ops rules row → (other : List ℕ) → MeanTheSame ops rules row other → length other ≡ length (yield answer) → other ≡ yield answer
+    only-of-row : OfInfix ops row → (other : List ℕ) → MeanTheSame ops rules row other → length other ≡ length (yield answer) → other ≡ yield answer
     only-of-row f other m e =
         let (u, d, same) = other-tree other m in
         let plain = plain-bare t (plain-of-row (class ops) t (c .over) (rw (← c .yields) at f)) in

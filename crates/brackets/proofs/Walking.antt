@@ -20,7 +20,7 @@ use Rattle.disambiguation.proofs.BelowLaws.{and-true}
 use Rattle.sheet.specs.Layout.{operatorsOf}
 use Rattle.sheet.specs.Relation.{closesIn}
 use Rattle.sheet.proofs.Laws.{closes-below}
-use Rattle.record.specs.Held.{base}
+use Rattle.record.specs.Front.{base}
 use Rattle.record.specs.Node.{nodeAt}
 use Rattle.record.specs.TreeAt.{TreeAt}
 use Rattle.record.specs.Counts.{excludedLeft, seesEdge}

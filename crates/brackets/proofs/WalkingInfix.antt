@@ -17,7 +17,7 @@ use Rattle.expression.specs.Tree.{Tree, binary}
 use Rattle.expression.proofs.Classes.{infix-byte, by-class}
 use Rattle.expression.proofs.Tests.{at-most-one}
 use Rattle.sheet.specs.Layout.{operatorsOf}
-use Rattle.record.specs.Held.{base}
+use Rattle.record.specs.Front.{base}
 use Rattle.record.specs.Node.{nodeOf, nodeAt}
 use Rattle.record.specs.TreeAt.{TreeAt}
 use Rattle.record.specs.declared.Node.{Node}

@@ -11,7 +11,7 @@ use Rattle.expression.specs.Tree.{Tree, binary}
 use Rattle.disambiguation.specs.Edges.{prefixes}
 use Rattle.sheet.specs.Layout.{operatorsOf}
 use Rattle.sheet.specs.Relation.{closesIn}
-use Rattle.record.specs.Held.{base}
+use Rattle.record.specs.Front.{base}
 use Rattle.record.specs.TreeAt.{TreeAt}
 use Rattle.record.specs.Counts.{excludedLeft, seesEdge}
 use Rattle.brackets.specs.Enclosed.{rightOf}

@@ -12,7 +12,7 @@ use Rattle.expression.specs.Tree.{Tree, yield}
 use Rattle.disambiguation.specs.Edges.{seenFromRight, seenFromLeft}
 use Rattle.sheet.specs.Layout.{operatorsOf}
 use Rattle.sheet.specs.Relation.{closesIn}
-use Rattle.record.specs.Held.{base}
+use Rattle.record.specs.Front.{base}
 use Rattle.record.specs.TreeAt.{TreeAt}
 use Rattle.record.specs.declared.Node.{Node}
 use Rattle.record.specs.declared.Node.the-variants as node

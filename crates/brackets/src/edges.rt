@@ -10,8 +10,8 @@ use expression::limits::MOST_RECORD_BYTES;
 use expression::token;
 use record::Node;
 use record::conflicts;
-use record::held::BASE;
-use record::held::NO_TREE;
+use record::walks::BASE;
+use record::walks::NO_TREE;
 use sheet::layout::SHEET_WORDS;
 
 // Some byte is a prefix operator. The loop has no branch, so that bytes can be tested side by side.
@@ -38,10 +38,10 @@ pub fn has_prefix(sheet: &[u32; SHEET_WORDS], bytes: &[u8]) -> bool
 }
 
 // The node at a place.
-pub fn top_at(sheet: &[u32; SHEET_WORDS], held: &[u8; MOST_RECORD_BYTES], at: usize) -> Node
-    ensures { λ r. ⌜ r ≡ nodeAt (operatorsOf (now (sheet .entry))) (now (held .entry)) at ⌝ }
+pub fn top_at(sheet: &[u32; SHEET_WORDS], whole: &[u8; MOST_RECORD_BYTES], at: usize) -> Node
+    ensures { λ r. ⌜ r ≡ nodeAt (operatorsOf (now (sheet .entry))) (now (whole .entry)) at ⌝ }
 {
-    record::node_at(sheet, &held[..], at)
+    record::node_at(sheet, &whole[..], at)
 }
 
 // Who sees the right edge of operator o's tree, which stands under the operator above: none where it is bracketed there.
@@ -59,25 +59,25 @@ fn seer_past(sheet: &[u32; SHEET_WORDS], above: u8, o: u8, seer: u8) -> u8
 // shows the seer such a conflict, else 0. A byte that is no operator is given where there is none above, or no seer.
 pub fn mark_edges(
     sheet: &[u32; SHEET_WORDS],
-    held: &[u8; MOST_RECORD_BYTES],
+    whole: &[u8; MOST_RECORD_BYTES],
     at: usize,
     above: u8,
     seer: u8,
     marks: &mut [u8; MOST_RECORD_BYTES],
 ) -> usize
-    requires { ⌜ Stands (now sheet) (now held) at ⌝ }
+    requires { ⌜ Stands (now sheet) (now whole) at ⌝ }
     requires { ⌜ length (now marks) ≡ mostRecordBytes ⌝ }
-    ensures { λ r. ⌜ MarksEdges (now (sheet .entry)) (now (held .entry)) at above seer (now (marks .entry)) (now (marks .exit)) r ⌝ }
+    ensures { λ r. ⌜ MarksEdges (now (sheet .entry)) (now (whole .entry)) at above seer (now (marks .entry)) (now (marks .exit)) r ⌝ }
 {
-    let node = top_at(sheet, held, at);
+    let node = top_at(sheet, whole, at);
     if let Node::Reading(_) = node {
         return (at + 1) * BASE;
     }
     if let Node::Bracket = node {
-        return mark_edges(sheet, held, at + 1, above, seer, marks);
+        return mark_edges(sheet, whole, at + 1, above, seer, marks);
     }
     if let Node::Prefix(p) = node {
-        let inner = mark_edges(sheet, held, at + 1, p, seer, marks);
+        let inner = mark_edges(sheet, whole, at + 1, p, seer, marks);
         if conflicts::sees_edge(sheet, seer, p) {
             return inner / BASE * BASE + 1;
         }
@@ -86,26 +86,26 @@ pub fn mark_edges(
     let Node::Operator(o) = node else {
         return NO_TREE;
     };
-    let left = mark_edges(sheet, held, at + 1, token::OPENING, o, marks);
+    let left = mark_edges(sheet, whole, at + 1, token::OPENING, o, marks);
     marks[at] = (left % BASE) as u8;
     let next = seer_past(sheet, above, o, seer);
-    mark_edges(sheet, held, left / BASE, o, next, marks)
+    mark_edges(sheet, whole, left / BASE, o, next, marks)
 }
 
 // The marks of a record, which is the first `size` bytes. They are all 0 at first, and stay so, without a walk, where the record
 // has no prefix operator.
 pub fn mark_record(
     sheet: &[u32; SHEET_WORDS],
-    held: &[u8; MOST_RECORD_BYTES],
+    whole: &[u8; MOST_RECORD_BYTES],
     size: usize,
     marks: &mut [u8; MOST_RECORD_BYTES],
 )
-    requires { ⌜ Fills (now sheet) (now held) size ⌝ }
+    requires { ⌜ Fills (now sheet) (now whole) size ⌝ }
     requires { ⌜ now marks ≡ replicate mostRecordBytes 0 ⌝ }
-    ensures { λ _. ⌜ Marked (now (sheet .entry)) (now (held .entry)) (now (marks .exit)) 0 size ⌝ }
+    ensures { λ _. ⌜ Marked (now (sheet .entry)) (now (whole .entry)) (now (marks .exit)) 0 size ⌝ }
 {
-    let all = &held[..];
+    let all = &whole[..];
     if has_prefix(sheet, &all[0..size]) {
-        mark_edges(sheet, held, 0, token::OPENING, token::OPENING, marks);
+        mark_edges(sheet, whole, 0, token::OPENING, token::OPENING, marks);
     }
 }

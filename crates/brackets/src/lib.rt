@@ -4,7 +4,7 @@ use expression::limits;
 use expression::refusal;
 use expression::token;
 use record::Answer;
-use record::held::BASE;
+use record::walks::BASE;
 use sheet::layout::SHEET_WORDS;
 
 mod edges;
@@ -14,8 +14,8 @@ mod walk;
 pub fn shortest_row(sheet: &[u32; SHEET_WORDS], bytes: &[u8], out: &mut [u8]) -> Answer
     ensures { λ r. ⌜ AnswersShortest (now (sheet .entry)) (now (bytes .entry)) (now (out .entry)) (now (out .exit)) r ⌝ }
 {
-    let mut held = [0u8; limits::MOST_RECORD_BYTES];
-    let repaired = parser::repair_record(sheet, bytes, &mut held);
+    let mut whole = [0u8; limits::MOST_RECORD_BYTES];
+    let repaired = parser::repair_record(sheet, bytes, &mut whole);
     let number = repaired.number;
     if number != refusal::ACCEPTED {
         return Answer {
@@ -25,11 +25,11 @@ pub fn shortest_row(sheet: &[u32; SHEET_WORDS], bytes: &[u8], out: &mut [u8]) ->
     }
     let size = repaired.length;
     let mut marks = [0u8; limits::MOST_RECORD_BYTES];
-    edges::mark_record(sheet, &held, size, &mut marks);
+    edges::mark_record(sheet, &whole, size, &mut marks);
     let mut row = [0u8; limits::MOST_TOKENS];
     let written = walk::write_operand(
         sheet,
-        &held,
+        &whole,
         &marks,
         0,
         token::OPENING,

@@ -9,9 +9,9 @@ use expression::limits::MOST_TOKENS;
 use expression::token;
 use record::Node;
 use record::conflicts;
-use record::held::BASE;
-use record::held::NO_TREE;
-use record::held::set_two;
+use record::walks::BASE;
+use record::walks::NO_TREE;
+use record::walks::set_two;
 use sheet::layout::SHEET_WORDS;
 
 // The side of a left operand is its mark: this one where its right edge shows a conflict with the operator above it, else 0.
@@ -21,10 +21,10 @@ const SHOWN: u8 = 1;
 pub const RIGHT: u8 = 2;
 
 // The byte at a place if it is a reading, else 0. It tells less than the node, and is compiled into the walk.
-fn leaf_at(sheet: &[u32; SHEET_WORDS], held: &[u8; MOST_RECORD_BYTES], at: usize) -> u8
-    ensures { λ r. ⌜ r ≡ leafByte (nodeAt (operatorsOf (now (sheet .entry))) (now (held .entry)) at) ⌝ }
+fn leaf_at(sheet: &[u32; SHEET_WORDS], whole: &[u8; MOST_RECORD_BYTES], at: usize) -> u8
+    ensures { λ r. ⌜ r ≡ leafByte (nodeAt (operatorsOf (now (sheet .entry))) (now (whole .entry)) at) ⌝ }
 {
-    let all = &held[..];
+    let all = &whole[..];
     if all.len() <= at {
         return 0;
     }
@@ -50,7 +50,7 @@ fn shows(sheet: &[u32; SHEET_WORDS], above: u8, right: bool, o: u8) -> bool
 // the base, and that after its row. A reading on the left, as in most trees, takes no call.
 pub fn write_operand(
     sheet: &[u32; SHEET_WORDS],
-    held: &[u8; MOST_RECORD_BYTES],
+    whole: &[u8; MOST_RECORD_BYTES],
     marks: &[u8; MOST_RECORD_BYTES],
     at: usize,
     above: u8,
@@ -58,45 +58,45 @@ pub fn write_operand(
     out: &mut [u8; MOST_TOKENS],
     to: usize,
 ) -> usize
-    requires { ⌜ StandsWithRoom (now sheet) (now held) (now marks) at above side to ⌝ }
-    ensures { λ r. ⌜ Shortens (now (sheet .entry)) (now (held .entry)) at above side (now (out .entry)) to (now (out .exit)) r ⌝ }
+    requires { ⌜ StandsWithRoom (now sheet) (now whole) (now marks) at above side to ⌝ }
+    ensures { λ r. ⌜ Shortens (now (sheet .entry)) (now (whole .entry)) at above side (now (out .entry)) to (now (out .exit)) r ⌝ }
 {
     if side == SHOWN {
         out[to] = token::OPENING;
-        let inner = write_operand(sheet, held, marks, at, token::OPENING, RIGHT, out, to + 1);
+        let inner = write_operand(sheet, whole, marks, at, token::OPENING, RIGHT, out, to + 1);
         out[inner % BASE] = token::CLOSING;
         return inner + 1;
     }
-    let node = top_at(sheet, held, at);
+    let node = top_at(sheet, whole, at);
     if let Node::Reading(a) = node {
         out[to] = a;
         return (at + 1) * BASE + (to + 1);
     }
     if let Node::Bracket = node {
-        return write_operand(sheet, held, marks, at + 1, above, side, out, to);
+        return write_operand(sheet, whole, marks, at + 1, above, side, out, to);
     }
     if let Node::Prefix(p) = node {
         out[to] = p;
-        return write_operand(sheet, held, marks, at + 1, p, RIGHT, out, to + 1);
+        return write_operand(sheet, whole, marks, at + 1, p, RIGHT, out, to + 1);
     }
     let Node::Operator(o) = node else {
         return NO_TREE;
     };
     if shows(sheet, above, side == RIGHT, o) {
         out[to] = token::OPENING;
-        let inner = write_operand(sheet, held, marks, at, token::OPENING, RIGHT, out, to + 1);
+        let inner = write_operand(sheet, whole, marks, at, token::OPENING, RIGHT, out, to + 1);
         out[inner % BASE] = token::CLOSING;
         return inner + 1;
     }
-    let a = leaf_at(sheet, held, at + 1);
+    let a = leaf_at(sheet, whole, at + 1);
     if a != 0 {
         let past = at + 2;
         let next = to + 1;
         set_two(out, to, next, a, o);
-        return write_operand(sheet, held, marks, past, o, RIGHT, out, next + 1);
+        return write_operand(sheet, whole, marks, past, o, RIGHT, out, next + 1);
     }
-    let left = write_operand(sheet, held, marks, at + 1, o, marks[at], out, to);
+    let left = write_operand(sheet, whole, marks, at + 1, o, marks[at], out, to);
     let seam = left % BASE;
     out[seam] = o;
-    write_operand(sheet, held, marks, left / BASE, o, RIGHT, out, seam + 1)
+    write_operand(sheet, whole, marks, left / BASE, o, RIGHT, out, seam + 1)
 }

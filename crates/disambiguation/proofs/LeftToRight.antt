@@ -6,14 +6,14 @@ use mathlib.Core.List.{List, [], _∷_, _++_}
 use Rattle.expression.specs.Token.{Class}
 use Rattle.expression.specs.Tree.{Tree}
 use Rattle.expression.proofs.Cond.{by-cond}
-use Rattle.disambiguation.specs.LeftToRight.{Frame, operatorOf, fill, Stack, bottom, opened, waiting, State, close, remains, step, run}
+use Rattle.disambiguation.specs.LeftToRight.{Pending, operatorOf, fill, Stack, bottom, opened, waiting, State, close, remains, step, run}
 
 pub run-append : (closes : ℕ → ℕ → Bool) (k : ℕ → Class) (xs ys : List ℕ) (m : State) → run closes k (xs ++ ys) m ≡ run closes k ys (run closes k xs m)
 run-append closes k [] ys m = refl
 run-append closes k (x ∷ xs) ys m = run-append closes k xs ys (step closes k x m)
 
 -- What stays true where one more closes stays true where any number do.
-pub close-keeps : (P : Stack → Tree → Type 0) → ((f : Frame) (s : Stack) (t : Tree) → P (waiting f s) t → P s (fill f t))
+pub close-keeps : (P : Stack → Tree → Type 0) → ((f : Pending) (s : Stack) (t : Tree) → P (waiting f s) t → P s (fill f t))
     → (p : ℕ → Bool) (s : Stack) (t : Tree) → P s t → P ((close p s t) .0) ((close p s t) .1)
 close-keeps P one p bottom t h = h
 close-keeps P one p (opened s) t h = h

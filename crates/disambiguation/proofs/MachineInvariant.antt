@@ -8,7 +8,7 @@ use Rattle.expression.specs.Token.{Class, Infix, Prefix, opening}
 use Rattle.expression.specs.Tree.{Tree, reading, bracket, binary, prefix, yield, Over}
 use Rattle.expression.proofs.Cond.{by-cond}
 use Rattle.disambiguation.specs.Edges.{rightEdge, seenFromRight, seenFromLeft}
-use Rattle.disambiguation.specs.LeftToRight.{Frame, after, ahead, operatorOf, fill, Stack, bottom, opened, waiting, close, remains, everything, before}
+use Rattle.disambiguation.specs.LeftToRight.{Pending, after, ahead, operatorOf, fill, Stack, bottom, opened, waiting, close, remains, everything, before}
 use Rattle.disambiguation.proofs.Free.{None, Free}
 use Rattle.disambiguation.proofs.LeftToRight.{close-keeps, Holds}
 
@@ -65,7 +65,7 @@ module _ (closes : ℕ → ℕ → Bool) where
       pub good : Good s
       pub reads : tokensOf s ++ yield t ≡ tokens
 
-    filled : (f : Frame) (s : Stack) (t : Tree) (tokens : List ℕ) → Stands (waiting f s) t tokens → Stands s (fill f t) tokens
+    filled : (f : Pending) (s : Stack) (t : Tree) (tokens : List ℕ) → Stands (waiting f s) t tokens → Stands s (fill f t) tokens
     filled (after l o) s t tokens h =
         let g = h .good in
         record {
@@ -93,7 +93,7 @@ module _ (closes : ℕ → ℕ → Bool) where
   close-holds b (opened s) t = tt
   close-holds b (waiting f s) t = by-cond (λ (x : Stack × Tree). Holds closes (x .0) b) (closes (operatorOf f) b) (λ _. close-holds b s (fill f t)) (λ q. q)
 
-  filled-edge : (P : ℕ → Type 0) (f : Frame) (t : Tree) → P (operatorOf f) → All P (rightEdge t) → All P (rightEdge (fill f t))
+  filled-edge : (P : ℕ → Type 0) (f : Pending) (t : Tree) → P (operatorOf f) → All P (rightEdge t) → All P (rightEdge (fill f t))
   filled-edge P (after l o) t h g = (h, g)
   filled-edge P (ahead p) t h g = (h, g)
 

@@ -7,15 +7,15 @@ use Rattle.expression.specs.Token.{Class, Infix, Prefix, Opening, Closing, Read
 use Rattle.expression.specs.Tree.{Tree, reading, bracket, binary, prefix}
 
 -- an operator that waits for its right operand, with what stands left of it; a prefix operator that waits for its operand
-pub data Frame : Type 0 where
-  after : Tree → ℕ → Frame
-  ahead : ℕ → Frame
+pub data Pending : Type 0 where
+  after : Tree → ℕ → Pending
+  ahead : ℕ → Pending
 
-abbrev pub operatorOf : Frame → ℕ
+abbrev pub operatorOf : Pending → ℕ
 operatorOf (after l o) = o
 operatorOf (ahead p) = p
 
-abbrev pub fill : Frame → Tree → Tree
+abbrev pub fill : Pending → Tree → Tree
 fill (after l o) t = binary o l t
 fill (ahead p) t = prefix p t
 
@@ -23,7 +23,7 @@ fill (ahead p) t = prefix p t
 pub data Stack : Type 0 where
   bottom : Stack
   opened : Stack → Stack
-  waiting : Frame → Stack → Stack
+  waiting : Pending → Stack → Stack
 
 -- an operand is due; one has been read; no row begins so
 pub data State : Type 0 where

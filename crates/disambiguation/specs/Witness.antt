@@ -19,10 +19,10 @@ pub data Witness : Type 0 where
   twoTrees : Tree → Tree → Witness
 
 -- in bytes: the verdict, the row, and after 5 the records of the two trees
-abbrev pub told : Witness → List ℕ
-told sound = accepted ∷ []
-told (noTree t) = dead ∷ yield t
-told (twoTrees t u) = double ∷ yield t ++ recordOf t ++ recordOf u
+abbrev pub witnessBytes : Witness → List ℕ
+witnessBytes sound = accepted ∷ []
+witnessBytes (noTree t) = dead ∷ yield t
+witnessBytes (twoTrees t u) = double ∷ yield t ++ recordOf t ++ recordOf u
 
 -- ---- the trees of a row that begins with operator a
 module _ (isPrefix : Bool) (a : ℕ) where

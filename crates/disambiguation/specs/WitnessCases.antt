@@ -7,7 +7,7 @@ use Rattle.expression.specs.Token.{infixKind, prefixKind}
 use Rattle.disambiguation.specs.Rules.{left, right}
 use Rattle.disambiguation.specs.Cases.{Sheet, infixes, ops, rules, undecided, excluded, empty, falling, round}
 use Rattle.disambiguation.specs.ChainCases.{roundBySides}
-use Rattle.disambiguation.specs.Witness.{witnessOf, told}
+use Rattle.disambiguation.specs.Witness.{witnessOf, witnessBytes}
 
 -- three operators of which 00 closes before 02 alone, and all others yield
 abbrev pub yielding : Sheet
@@ -46,4 +46,4 @@ witnessCases =
     ∷ []
 
 abbrev pub Answered : Sheet × List ℕ → Type 0
-Answered (s, answer) = told (witnessOf (ops s) (rules s)) ≡ answer
+Answered (s, answer) = witnessBytes (witnessOf (ops s) (rules s)) ≡ answer

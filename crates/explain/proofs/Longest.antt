@@ -13,11 +13,11 @@ use Rattle.expression.proofs.Numbers.{Numbered, first-enough}
 use Rattle.disambiguation.specs.Rules.{Rule, L, R}
 use Rattle.disambiguation.specs.SheetChecks.{rulesIn, operatorsIn, orderChecks}
 use Rattle.disambiguation.specs.Verdict.{comes}
-use Rattle.disambiguation.specs.Witness.{Witness, noTree, twoTrees, told, firstOverPair, lastOverPair, firstOverTriple, lastOverTriple, firstLeft, firstRight, firstThird, unevenPair, bothExclude, noneExcludes, ofTriples, witness, witnessOf}
+use Rattle.disambiguation.specs.Witness.{Witness, noTree, twoTrees, witnessBytes, firstOverPair, lastOverPair, firstOverTriple, lastOverTriple, firstLeft, firstRight, firstThird, unevenPair, bothExclude, noneExcludes, ofTriples, witness, witnessOf}
 use Rattle.witness.specs.Explaining.{mostExplained, explainChecks, explained}
 
 abbrev Short : Witness → Type 0
-Short w = length (told w) ≤ mostExplained
+Short w = length (witnessBytes w) ≤ mostExplained
 
 -- what is told of a pair, and of three operators
 short-none : (isPrefix : Bool) (a b : ℕ) → Short (noTree (firstOverPair isPrefix a b))

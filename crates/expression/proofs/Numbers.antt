@@ -18,10 +18,11 @@ use Rattle.expression.specs.Tree.{Tree, yield, recordOf, Over}
 use Rattle.expression.specs.Grammar.{Row}
 use Rattle.expression.specs.RowTest.{isRow}
 use Rattle.expression.specs.Decode.{treeOf}
-use Rattle.expression.specs.Checks.{isNone, rowTokens, shortCheck, rowChecks, recordChecks, rowNumber, recordNumber, repairNumber}
+use Rattle.expression.specs.Checks.{isNone, rowTokens, recordBytes, shortCheck, rowChecks, recordChecks, rowNumber, buildNumber, recordNumber, repairNumber}
 use Rattle.expression.proofs.Classes.{brackets}
 use Rattle.expression.proofs.RecordsAndTrees.{treeOf-record, record-treeOf}
 use Rattle.expression.proofs.RowTestDecides.{isRow-exactly-if-row}
+use Rattle.expression.proofs.Lengths.{few-bytes}
 use Rattle.expression.proofs.Strangers.{row-has-no-stranger, record-has-no-stranger}
 
 -- no number of the list is 0
@@ -152,7 +153,12 @@ module _ (ops : Operators) where
         ),
   )
 
-  -- a repair with room for every record
+  -- a build and a repair with room for every record
+  pub build-number : (row : List ℕ) (room : ℕ) → mostRecordBytes ≤ room → buildNumber ops row room ≡ rowNumber ops row
+  unfolding buildNumber rowNumber
+  build-number row room h =
+      first-enough (rowChecks ops row) (recordBytes row) room (row-numbered row) (λ e. let k = row-accepted row .0 e .0 in omega (arith, few-bytes row))
+
   pub repair-number : (bytes : List ℕ) (room : ℕ) → mostRecordBytes ≤ room → repairNumber ops bytes room ≡ recordNumber ops bytes
   unfolding repairNumber recordNumber
   repair-number bytes room h =

@@ -15,7 +15,7 @@ use Rattle.expression.specs.Decode.{treeOf}
 use Rattle.expression.specs.Operand.{rowOf}
 use Rattle.expression.specs.Checks.{rowChecks, recordChecks, rowNumber, recordNumber}
 use Rattle.expression.proofs.Lengths.{few-bytes}
-use Rattle.expression.proofs.Numbers.{first-passed, given-after, row-accepted, record-accepted, repair-number}
+use Rattle.expression.proofs.Numbers.{first-passed, given-after, row-accepted, record-accepted, build-number, repair-number}
 use Rattle.sheet.specs.Layout.{operatorsOf}
 use Rattle.sheet.specs.Relation.{closesIn}
 use Rattle.record.specs.Answers.{countIn}
@@ -33,7 +33,6 @@ use Rattle.run.specs.Panel.{panel, placeCheck, rebuilt}
 use Rattle.run.specs.Steps.{putRowNumber, placesAfterRow, putRecordNumber, placesAfterRecord, putClaimNumber, placesAfterClaim, dropNumber, placesAfterDrop, after, reply}
 use Rattle.monitor.specs.Contracts.{Puts, Drops, storedIf, Stores, StoresRow, StoresRecord, StoresClaim, rebuiltAt}
 use Rattle.run.proofs.Places.{empty-true, empty-false}
-use Rattle.run.proofs.ClaimedTrees.{build-number}
 
 -- ---- what passes fits a place
 rebuilt-fits : (sheet bytes : List ℕ) → recordNumber (operatorsOf sheet) bytes ≡ 0 → length (rebuilt sheet bytes) ≤ mostRecordBytes

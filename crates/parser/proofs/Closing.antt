@@ -11,7 +11,7 @@ use Rattle.expression.specs.Limits.{mostOperators}
 use Rattle.expression.specs.Token.{opening, Operators, class}
 use Rattle.expression.specs.Tree.{Tree, bracket, recordOf, Over}
 use Rattle.expression.proofs.Classes.{infix-byte, prefix-byte}
-use Rattle.disambiguation.specs.LeftToRight.{Frame, after, ahead, operatorOf, fill, Stack, bottom, opened, waiting, State, due, have, stuck, close, everything, whole, finish}
+use Rattle.disambiguation.specs.LeftToRight.{Pending, after, ahead, operatorOf, fill, Stack, bottom, opened, waiting, State, due, have, stuck, close, everything, whole, finish}
 use Rattle.disambiguation.proofs.LeftToRight.{close-keeps}
 use Rattle.parser.specs.Notes.{note, byteIn, backIn, notesOf, notesBelow, notesAt}
 use Rattle.parser.specs.Reading.{OverBelow, Waits}
@@ -22,7 +22,7 @@ pub close-over : (ops : Operators) (p : ℕ → Bool) (s : Stack) (t : Tree) →
     → OverBelow ops ((close p s t) .0) × Over (class ops) ((close p s t) .1)
 close-over ops p s t hs ht = close-keeps (λ x y. OverBelow ops x × Over (class ops) y) filled p s t (hs, ht)
   where
-    filled : (f : Frame) (x : Stack) (y : Tree) → OverBelow ops (waiting f x) × Over (class ops) y → OverBelow ops x × Over (class ops) (fill f y)
+    filled : (f : Pending) (x : Stack) (y : Tree) → OverBelow ops (waiting f x) × Over (class ops) y → OverBelow ops x × Over (class ops) (fill f y)
     filled (after l o) x y h = (h .0 .2, (h .0 .0, h .0 .1, h .1))
     filled (ahead p) x y h = (h .0 .1, (h .0 .0, h .1))
 
@@ -42,7 +42,7 @@ pub length-notesAt : (s : Stack) (t : Tree) → length (notesAt (have s t)) ≡ 
 length-notesAt s t = length-append (notesBelow s) (notesOf 0 t) ∙ ap (λ n. length (notesBelow s) + n) (length-notesOf 0 t)
 
 -- ---- the notes
-fill-notes : (f : Frame) (s : Stack) (t : Tree) → notesAt (have (waiting f s) t) ≡ notesAt (have s (fill f t))
+fill-notes : (f : Pending) (s : Stack) (t : Tree) → notesAt (have (waiting f s) t) ≡ notesAt (have s (fill f t))
 fill-notes (after l o) s t =
     let n : ℕ = note o 0 (length (recordOf l)) in
     append-assoc (notesBelow s ++ notesOf 1 l) (n ∷ []) (notesOf 0 t) ∙ append-assoc (notesBelow s) (notesOf 1 l) (n ∷ notesOf 0 t)

@@ -16,7 +16,7 @@ use Rattle.expression.proofs.Lengths.{count-append}
 use Rattle.disambiguation.specs.Edges.{prefixes, onTop}
 use Rattle.sheet.specs.Layout.{operatorsOf}
 use Rattle.sheet.specs.Relation.{closesIn}
-use Rattle.record.specs.Held.{front, base}
+use Rattle.record.specs.Front.{front, base}
 use Rattle.record.specs.Node.{nodeAt}
 use Rattle.record.specs.TreeAt.{TreeAt}
 use Rattle.record.specs.Counts.{excludedLeft, seesEdge, showsTop, shown, tallyEnd, tallyCount, Counts}
@@ -107,18 +107,18 @@ none-here sheet above seer before never =
       small = λ e. absurd (e refl);
     }
 
-pub past-end : (sheet : List ℕ) (size : ℕ) (held : List ℕ) (from above seer before : ℕ) → size ≤ from → Counts sheet (front size held) from above seer before noTree
-past-end sheet size held from above seer before h = none-here sheet above seer before (λ t to x. none-past (operatorsOf sheet) size held from h t x)
+pub past-end : (sheet : List ℕ) (size : ℕ) (whole : List ℕ) (from above seer before : ℕ) → size ≤ from → Counts sheet (front size whole) from above seer before noTree
+past-end sheet size whole from above seer before h = none-here sheet above seer before (λ t to x. none-past (operatorsOf sheet) size whole from h t x)
 
-pub a-leaf : (sheet : List ℕ) (size : ℕ) (held : List ℕ) (from above seer before : ℕ) {a : ℕ} {x : Node} → size ≤ mostRecordBytes → before ≤ from → from < size
-    → x ≡ nodeAt (operatorsOf sheet) (front size held) from → x ≡ node.Reading a → Counts sheet (front size held) from above seer before ((from + 1) * base + before)
-a-leaf sheet size held from above seer before {a} most low here found is =
+pub a-leaf : (sheet : List ℕ) (size : ℕ) (whole : List ℕ) (from above seer before : ℕ) {a : ℕ} {x : Node} → size ≤ mostRecordBytes → before ≤ from → from < size
+    → x ≡ nodeAt (operatorsOf sheet) (front size whole) from → x ≡ node.Reading a → Counts sheet (front size whole) from above seer before ((from + 1) * base + before)
+a-leaf sheet size whole from above seer before {a} most low here found is =
     let end : tallyEnd ((from + 1) * base + before) ≡ from + 1 = omega arith in
     record {
       counted = λ t to h.
-          let u = a-reading (operatorsOf sheet) (front size held) from found is t h in
+          let u = a-reading (operatorsOf sheet) (front size whole) from found is t h in
           (omega (arith, u .1), omega (arith, ap (shown sheet above seer) (u .0)));
-      found = λ e. (reading a, rw (sym end) at (leaf-at (operatorsOf sheet) (front size held) from found is));
+      found = λ e. (reading a, rw (sym end) at (leaf-at (operatorsOf sheet) (front size whole) from found is));
       small = λ e. omega arith;
     }
 
@@ -171,17 +171,17 @@ module _ (sheet bytes : List ℕ) (from above seer before : ℕ) {x : Node} (fou
       }
 
 -- The left operand is counted within a byte less.
-module _ (sheet : List ℕ) (size : ℕ) (held : List ℕ) (from above seer before : ℕ) {x : Node} (found : x ≡ nodeAt (operatorsOf sheet) (front size held) from) (o shows l : ℕ)
-    (is : x ≡ node.Operator o) (h : Counts sheet (front (size - 1) held) (from + 1) opening o (before + shows) l) where
-  pub left-refused : l ≡ noTree → Counts sheet (front size held) from above seer before noTree
-  left-refused e = none-here sheet above seer before (λ t to k. let u = operands-in (operatorsOf sheet) size held from found is t k in not-counted (u .0) e h (u .4))
+module _ (sheet : List ℕ) (size : ℕ) (whole : List ℕ) (from above seer before : ℕ) {x : Node} (found : x ≡ nodeAt (operatorsOf sheet) (front size whole) from) (o shows l : ℕ)
+    (is : x ≡ node.Operator o) (h : Counts sheet (front (size - 1) whole) (from + 1) opening o (before + shows) l) where
+  pub left-refused : l ≡ noTree → Counts sheet (front size whole) from above seer before noTree
+  left-refused e = none-here sheet above seer before (λ t to k. let u = operands-in (operatorsOf sheet) size whole from found is t k in not-counted (u .0) e h (u .4))
 
-  pub an-infix : {r : ℕ} → shows ≡ oneIf (showsTop sheet above seer o) → (l ≡ noTree → ⊥) → Counts sheet (front size held) (tallyEnd l) o seer (tallyCount l) r
-      → Counts sheet (front size held) from above seer before r
+  pub an-infix : {r : ℕ} → shows ≡ oneIf (showsTop sheet above seer o) → (l ≡ noTree → ⊥) → Counts sheet (front size whole) (tallyEnd l) o seer (tallyCount l) r
+      → Counts sheet (front size whole) from above seer before r
   an-infix shows-is some g =
       record {
         counted = λ t to k.
-            let u = operands-in (operatorsOf sheet) size held from found is t k in
+            let u = operands-in (operatorsOf sheet) size whole from found is t k in
             let a = h .counted (u .0) (u .2) (u .4) in
             let b = g .counted (u .1) to (rw (sym (a .0)) at (u .5)) in
             let small = infix-byte (operatorsOf sheet) o (rw (u .3) at (k .over) .0) .0 in
@@ -189,7 +189,7 @@ module _ (sheet : List ℕ) (size : ℕ) (held : List ℕ) (from above seer befo
         found = λ e.
             let (u, a) = h .found some in
             let (v, b) = g .found e in
-            (binary o u v, joined-in (operatorsOf sheet) size held from found is u v a b);
+            (binary o u v, joined-in (operatorsOf sheet) size whole from found is u v a b);
         small = g .small;
       }
 

@@ -1,4 +1,4 @@
--- A record held at the front of more bytes. Assumes nothing.
+-- A record at the front of more bytes. Assumes nothing.
 use Prim.Native.Nat.{ℕ, _-_, _≤_}
 use native.Mathlib.Nat.{sub-zero}
 use native.Mathlib.Omega.{arith}
@@ -8,24 +8,24 @@ use lib.ListN.{length, take, drop, length-take}
 use lib.Seq.{take-all, take-at}
 use Rattle.expression.specs.Limits.{mostRecordBytes}
 use Rattle.expression.specs.Token.{Operators}
-use Rattle.record.specs.Held.{front}
+use Rattle.record.specs.Front.{front}
 use Rattle.record.specs.Node.{nodeAt}
 use Rattle.record.specs.declared.Node.{Node}
 
-pub front-short : (size : ℕ) (held : List ℕ) → length (front size held) ≤ size
+pub front-short : (size : ℕ) (whole : List ℕ) → length (front size whole) ≤ size
 unfolding front
-front-short size held = omega (arith, length-take size held)
+front-short size whole = omega (arith, length-take size whole)
 
-pub front-fits : (size : ℕ) (held : List ℕ) → size ≤ mostRecordBytes → length (front size held) ≤ mostRecordBytes
-front-fits size held h = omega (arith, front-short size held)
+pub front-fits : (size : ℕ) (whole : List ℕ) → size ≤ mostRecordBytes → length (front size whole) ≤ mostRecordBytes
+front-fits size whole h = omega (arith, front-short size whole)
 
--- a copy of the record is held at the front
-pub front-copied : (bytes held rest : List ℕ) → held ≡ take (length bytes) bytes ++ rest → front (length bytes) held ≡ bytes
+-- a copy of the record stands at the front
+pub front-copied : (bytes whole rest : List ℕ) → whole ≡ take (length bytes) bytes ++ rest → front (length bytes) whole ≡ bytes
 unfolding front
-front-copied bytes held rest e =
+front-copied bytes whole rest e =
     ap (take (length bytes)) (e ∙ ap (λ b. b ++ rest) (take-all (length bytes) bytes (omega arith))) ∙ take-at bytes rest (length bytes) refl
 
 -- the part from the start on
-pub from-start : (ops : Operators) (size at : ℕ) (held : List ℕ) {x : Node} → x ≡ nodeAt ops (take (size - 0) (drop 0 held)) at → x ≡ nodeAt ops (front size held) at
+pub from-start : (ops : Operators) (size at : ℕ) (whole : List ℕ) {x : Node} → x ≡ nodeAt ops (take (size - 0) (drop 0 whole)) at → x ≡ nodeAt ops (front size whole) at
 unfolding front
-from-start ops size at held e = e ∙ ap (λ k. nodeAt ops (take k held) at) (sub-zero size)
+from-start ops size at whole e = e ∙ ap (λ k. nodeAt ops (take k whole) at) (sub-zero size)

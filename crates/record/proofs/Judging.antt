@@ -16,7 +16,7 @@ use Rattle.expression.specs.Tree.{Tree}
 use Rattle.expression.specs.Decode.{treeOf}
 use Rattle.expression.specs.Checks.{recordNumber}
 use Rattle.sheet.specs.Layout.{operatorsOf}
-use Rattle.record.specs.Held.{front}
+use Rattle.record.specs.Front.{front}
 use Rattle.record.specs.Checks.{strangerInRecord, rowLength}
 use Rattle.record.specs.Counts.{conflictsIn, tallyEnd, tallyCount, Counts}
 use Rattle.record.specs.Answers.{judgement}
@@ -39,10 +39,10 @@ module _ (sheet bytes : List ℕ) where
     pub strange : {r : Judgement} → s ≡ true → r ≡ record { number = stranger; count = 0 } → r ≡ judgement sheet bytes
     strange q e = e ∙ refused stranger (numbering.strange (operatorsOf sheet) bytes fits tested q) (λ z. omega arith)
 
-    module _ (q : s ≡ false) (held : List ℕ) (v : ℕ) (rest : List ℕ) (copied : held ≡ take (length bytes) bytes ++ rest)
-        (h : Counts sheet (front (length bytes) held) 0 opening opening 0 v) where
+    module _ (q : s ≡ false) (copy : List ℕ) (v : ℕ) (rest : List ℕ) (copied : copy ≡ take (length bytes) bytes ++ rest)
+        (h : Counts sheet (front (length bytes) copy) 0 opening opening 0 v) where
       on-bytes : Counts sheet bytes 0 opening opening 0 v
-      on-bytes = rw (front-copied bytes held rest copied) at h
+      on-bytes = rw (front-copied bytes copy rest copied) at h
 
       none : ((t : Tree) → treeOf (class (operatorsOf sheet)) bytes ≡ some t → ⊥) → record { number = noTree; count = 0 } ≡ judgement sheet bytes
       none never = refused noTree (numbering.none-number (operatorsOf sheet) bytes fits tested q never) (λ z. omega arith)

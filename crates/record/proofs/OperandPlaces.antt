@@ -21,7 +21,7 @@ use Rattle.expression.proofs.Classes.{brackets}
 use Rattle.expression.proofs.Lengths.{row-length-of-record}
 use Rattle.expression.proofs.RecordsAndTrees.{record-treeOf}
 use Rattle.expression.proofs.Numbers.{record-accepted}
-use Rattle.record.specs.Held.{front, base}
+use Rattle.record.specs.Front.{front, base}
 use Rattle.record.specs.Node.{nodeAt}
 use Rattle.record.specs.TreeAt.{TreeAt}
 use Rattle.record.specs.Checks.{rowLength}
@@ -87,10 +87,10 @@ module _ (ops : Operators) (right : Bool) (bytes : List ℕ) where
           right-place = λ r l. right-at r;
         }
 
-  -- the record is held at the front of a copy
-  module _ (held rest : List ℕ) (copied : held ≡ take (length bytes) bytes ++ rest) {x : Node} (seen : x ≡ nodeAt ops (front (length bytes) held) 0) where
-    same : front (length bytes) held ≡ bytes
-    same = front-copied bytes held rest copied
+  -- the record stands at the front of a copy
+  module _ (whole rest : List ℕ) (copied : whole ≡ take (length bytes) bytes ++ rest) {x : Node} (seen : x ≡ nodeAt ops (front (length bytes) whole) 0) where
+    same : front (length bytes) whole ≡ bytes
+    same = front-copied bytes whole rest copied
 
     found : x ≡ nodeAt ops bytes 0
     found = seen ∙ ap (λ b. nodeAt ops b 0) same
@@ -121,7 +121,7 @@ module _ (ops : Operators) (right : Bool) (bytes : List ℕ) where
       only-right : {p : Part} → right ≡ true → p ≡ record { from = 0; to = 0 } → OperandAt ops right bytes p
       only-right r = nowhere (λ t a. let (u, e, y) = one .only t (a .stands) in ap (operandRecord right) e ∙ one .part u ∙ rw r)
 
-      module _ (w : ℕ) (walked : Reaches ops (front (length bytes) held) 1 w) where
+      module _ (w : ℕ) (walked : Reaches ops (front (length bytes) whole) 1 w) where
         inside : Reaches ops bytes 1 w
         inside = rw same at walked
 
@@ -140,10 +140,10 @@ module _ (ops : Operators) (right : Bool) (bytes : List ℕ) where
       pub bracket-right : {p : Part} → right ≡ true → p ≡ record { from = 0; to = 0 } → OperandAt ops right bytes p
       bracket-right = only-right (of-bracket is)
 
-      pub bracket-cut : {p : Part} (w : ℕ) → Reaches ops (front (length bytes) held) 1 w → (w ≡ length bytes * base → ⊥) → p ≡ record { from = 0; to = 0 } → OperandAt ops right bytes p
+      pub bracket-cut : {p : Part} (w : ℕ) → Reaches ops (front (length bytes) whole) 1 w → (w ≡ length bytes * base → ⊥) → p ≡ record { from = 0; to = 0 } → OperandAt ops right bytes p
       bracket-cut w walked = only-cut (of-bracket is) w walked
 
-      pub bracket-left : {v : ℕ} (w : ℕ) → Reaches ops (front (length bytes) held) 1 w → length bytes ≤ mostRecordBytes → v ≡ rowLength bytes → v ≤ mostTokens → right ≡ false
+      pub bracket-left : {v : ℕ} (w : ℕ) → Reaches ops (front (length bytes) whole) 1 w → length bytes ≤ mostRecordBytes → v ≡ rowLength bytes → v ≤ mostTokens → right ≡ false
           → w ≡ length bytes * base → OperandAt ops right bytes (record { from = 1; to = length bytes })
       bracket-left w walked = only-left (of-bracket is) w walked
 
@@ -151,26 +151,26 @@ module _ (ops : Operators) (right : Bool) (bytes : List ℕ) where
       pub prefix-right : {p : Part} → right ≡ true → p ≡ record { from = 0; to = 0 } → OperandAt ops right bytes p
       prefix-right = only-right (of-prefix is)
 
-      pub prefix-cut : {p : Part} (w : ℕ) → Reaches ops (front (length bytes) held) 1 w → (w ≡ length bytes * base → ⊥) → p ≡ record { from = 0; to = 0 } → OperandAt ops right bytes p
+      pub prefix-cut : {p : Part} (w : ℕ) → Reaches ops (front (length bytes) whole) 1 w → (w ≡ length bytes * base → ⊥) → p ≡ record { from = 0; to = 0 } → OperandAt ops right bytes p
       prefix-cut w walked = only-cut (of-prefix is) w walked
 
-      pub prefix-left : {v : ℕ} (w : ℕ) → Reaches ops (front (length bytes) held) 1 w → length bytes ≤ mostRecordBytes → v ≡ rowLength bytes → v ≤ mostTokens → right ≡ false
+      pub prefix-left : {v : ℕ} (w : ℕ) → Reaches ops (front (length bytes) whole) 1 w → length bytes ≤ mostRecordBytes → v ≡ rowLength bytes → v ≤ mostTokens → right ≡ false
           → w ≡ length bytes * base → OperandAt ops right bytes (record { from = 1; to = length bytes })
       prefix-left w walked = only-left (of-prefix is) w walked
 
     pub some-bytes : {o : ℕ} → x ≡ node.Operator o → 1 ≤ length bytes
     some-bytes is = let d = within-as ops bytes 0 found is refl in omega arith
 
-    module _ {o : ℕ} (is : x ≡ node.Operator o) (l : ℕ) (left : Reaches ops (front (length bytes - 1) held) 1 l) where
+    module _ {o : ℕ} (is : x ≡ node.Operator o) (l : ℕ) (left : Reaches ops (front (length bytes - 1) whole) 1 l) where
       -- the operands of an accepted record, as the walks find them
       operands : (t : Tree) → Accepted ops bytes t
-          → (m : Tree) × (r : Tree) × (mid : ℕ) × (t ≡ binary o m r) × TreeAt ops (front (length bytes - 1) held) 1 m mid × TreeAt ops (front (length bytes) held) mid r (length bytes)
-      operands t a = operands-in ops (length bytes) held 0 seen is t (subst (λ b. TreeAt ops b 0 t (length bytes)) (sym same) (a .stands))
+          → (m : Tree) × (r : Tree) × (mid : ℕ) × (t ≡ binary o m r) × TreeAt ops (front (length bytes - 1) whole) 1 m mid × TreeAt ops (front (length bytes) whole) mid r (length bytes)
+      operands t a = operands-in ops (length bytes) whole 0 seen is t (subst (λ b. TreeAt ops b 0 t (length bytes)) (sym same) (a .stands))
 
       pub left-cut : {p : Part} → l ≡ noTree → p ≡ record { from = 0; to = 0 } → OperandAt ops right bytes p
       left-cut e = nowhere (λ t a. let u = operands t a in not-reached (u .0) e left (u .4))
 
-      module _ (w : ℕ) (some : l ≡ noTree → ⊥) (walked : Reaches ops (front (length bytes) held) (reachedEnd l) w) where
+      module _ (w : ℕ) (some : l ≡ noTree → ⊥) (walked : Reaches ops (front (length bytes) whole) (reachedEnd l) w) where
         pub right-cut : {p : Part} → (w ≡ length bytes * base → ⊥) → p ≡ record { from = 0; to = 0 } → OperandAt ops right bytes p
         right-cut n =
             nowhere (λ t a.
@@ -186,8 +186,8 @@ module _ (ops : Operators) (right : Bool) (bytes : List ℕ) where
           both =
               let (m, a) = left .found some in
               let (r, b) = walked .found (λ z. omega arith) in
-              let c : TreeAt ops (front (length bytes) held) (reachedEnd l) r (length bytes) = rw end at b in
-              (m, r, rw same at (joined-in ops (length bytes) held 0 seen is m r a c), rw same at (widened ops (length bytes) held 0 seen is m a), rw same at c)
+              let c : TreeAt ops (front (length bytes) whole) (reachedEnd l) r (length bytes) = rw end at b in
+              (m, r, rw same at (joined-in ops (length bytes) whole 0 seen is m r a c), rw same at (widened ops (length bytes) whole 0 seen is m a), rw same at c)
 
           pub operator-right : right ≡ true → OperandAt ops right bytes (record { from = reachedEnd l; to = length bytes })
           operator-right r =

@@ -7,7 +7,7 @@ use borrow.Author.Needs.{needs}
 use Rattle.expression.specs.Refusal.{noTree}
 use Rattle.expression.specs.Token.{Operators}
 use Rattle.expression.specs.Tree.{Tree, reading, bracket, binary, prefix}
-use Rattle.record.specs.Held.{front, base}
+use Rattle.record.specs.Front.{front, base}
 use Rattle.record.specs.Node.{nodeAt}
 use Rattle.record.specs.TreeAt.{TreeAt}
 use Rattle.record.specs.Reach.{reachedEnd, Reaches}
@@ -25,8 +25,8 @@ not-reached {to = to} t e h x = absurd (omega (arith, h .reached t to x))
 none-here : {ops : Operators} {bytes : List ℕ} {from : ℕ} → ((t : Tree) (to : ℕ) → TreeAt ops bytes from t to → ⊥) → Reaches ops bytes from noTree
 none-here never = record { reached = λ t to k. absurd (never t to k); found = λ e. absurd (e refl) }
 
-pub past-end : (ops : Operators) (size : ℕ) (held : List ℕ) (from : ℕ) → size ≤ from → Reaches ops (front size held) from noTree
-past-end ops size held from h = none-here (λ t to x. none-past ops size held from h t x)
+pub past-end : (ops : Operators) (size : ℕ) (whole : List ℕ) (from : ℕ) → size ≤ from → Reaches ops (front size whole) from noTree
+past-end ops size whole from h = none-here (λ t to x. none-past ops size whole from h t x)
 
 module _ (ops : Operators) (bytes : List ℕ) (from : ℕ) {x : Node} (found : x ≡ nodeAt ops bytes from) where
   pub a-leaf : {a : ℕ} → x ≡ node.Reading a → Reaches ops bytes from ((from + 1) * base)
@@ -70,22 +70,22 @@ module _ (ops : Operators) (bytes : List ℕ) (from : ℕ) {x : Node} (found : x
       }
 
 -- The left operand is read within a byte less.
-module _ (ops : Operators) (size : ℕ) (held : List ℕ) (from : ℕ) {x : Node} (found : x ≡ nodeAt ops (front size held) from) {o : ℕ} (l : ℕ) (is : x ≡ node.Operator o)
-    (h : Reaches ops (front (size - 1) held) (from + 1) l) where
-  pub left-refused : l ≡ noTree → Reaches ops (front size held) from noTree
-  left-refused e = none-here (λ t to k. let u = operands-in ops size held from found is t k in not-reached (u .0) e h (u .4))
+module _ (ops : Operators) (size : ℕ) (whole : List ℕ) (from : ℕ) {x : Node} (found : x ≡ nodeAt ops (front size whole) from) {o : ℕ} (l : ℕ) (is : x ≡ node.Operator o)
+    (h : Reaches ops (front (size - 1) whole) (from + 1) l) where
+  pub left-refused : l ≡ noTree → Reaches ops (front size whole) from noTree
+  left-refused e = none-here (λ t to k. let u = operands-in ops size whole from found is t k in not-reached (u .0) e h (u .4))
 
-  pub an-infix : {r : ℕ} → (l ≡ noTree → ⊥) → Reaches ops (front size held) (reachedEnd l) r → Reaches ops (front size held) from r
+  pub an-infix : {r : ℕ} → (l ≡ noTree → ⊥) → Reaches ops (front size whole) (reachedEnd l) r → Reaches ops (front size whole) from r
   an-infix some g =
       record {
         reached = λ t to k.
-            let u = operands-in ops size held from found is t k in
+            let u = operands-in ops size whole from found is t k in
             let e : u .2 ≡ reachedEnd l = omega (arith, h .reached (u .0) (u .2) (u .4)) in
             g .reached (u .1) to (rw e at (u .5));
         found = λ e.
             let (u, a) = h .found some in
             let (v, b) = g .found e in
-            (binary o u v, joined-in ops size held from found is u v a b);
+            (binary o u v, joined-in ops size whole from found is u v a b);
       }
 
 -- what the calls ask

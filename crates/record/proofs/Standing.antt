@@ -12,7 +12,7 @@ use Rattle.expression.specs.Tree.{Tree, reading, bracket, binary, prefix, recor
 use Rattle.expression.specs.Decode.{treeOf}
 use Rattle.expression.proofs.Classes.{brackets}
 use Rattle.expression.proofs.RecordsAndTrees.{treeOf-record}
-use Rattle.record.specs.Held.{front}
+use Rattle.record.specs.Front.{front}
 use Rattle.record.specs.Node.{nodeOf, nodeAt}
 use Rattle.record.specs.TreeAt.{TreeAt}
 use Rattle.record.specs.declared.Node.{Node}
@@ -147,28 +147,28 @@ module _ (ops : Operators) (a b : List ℕ) (from : ℕ) (t : Tree) (to : ℕ) w
               ∙ take-at (recordOf t ++ drop to a) b (length (drop from a)) as-long;
         }
 
--- A tree at the front of held bytes stands in every front that reaches its end.
-pub in-front : (ops : Operators) (held : List ℕ) (size other from : ℕ) (t : Tree) (to : ℕ) → TreeAt ops (front size held) from t to → to ≤ other
-    → TreeAt ops (front other held) from t to
+-- A tree at the front of some bytes stands in every front that reaches its end.
+pub in-front : (ops : Operators) (whole : List ℕ) (size other from : ℕ) (t : Tree) (to : ℕ) → TreeAt ops (front size whole) from t to → to ≤ other
+    → TreeAt ops (front other whole) from t to
 unfolding front
-in-front ops held size other from t to x h =
-    let all : TreeAt ops held from t to = rw (take-append-drop size held) at (with-more ops (take size held) (drop size held) from t to x) in
-    let w = ends-within ops held from t to all in
-    with-less ops (take other held) (drop other held) from t to (rw (sym (take-append-drop other held)) at all) (omega (arith, length-take other held))
+in-front ops whole size other from t to x h =
+    let all : TreeAt ops whole from t to = rw (take-append-drop size whole) at (with-more ops (take size whole) (drop size whole) from t to x) in
+    let w = ends-within ops whole from t to all in
+    with-less ops (take other whole) (drop other whole) from t to (rw (sym (take-append-drop other whole)) at all) (omega (arith, length-take other whole))
 
 -- The operands of an operator: the left one leaves a byte.
-module _ (ops : Operators) (size : ℕ) (held : List ℕ) (from : ℕ) {x : Node} (found : x ≡ nodeAt ops (front size held) from) {o : ℕ} (is : x ≡ node.Operator o) where
-  pub operands-in : (t : Tree) {to : ℕ} → TreeAt ops (front size held) from t to
-      → (l : Tree) × (r : Tree) × (mid : ℕ) × (t ≡ binary o l r) × TreeAt ops (front (size - 1) held) (from + 1) l mid × TreeAt ops (front size held) mid r to
+module _ (ops : Operators) (size : ℕ) (whole : List ℕ) (from : ℕ) {x : Node} (found : x ≡ nodeAt ops (front size whole) from) {o : ℕ} (is : x ≡ node.Operator o) where
+  pub operands-in : (t : Tree) {to : ℕ} → TreeAt ops (front size whole) from t to
+      → (l : Tree) × (r : Tree) × (mid : ℕ) × (t ≡ binary o l r) × TreeAt ops (front (size - 1) whole) (from + 1) l mid × TreeAt ops (front size whole) mid r to
   operands-in t {to} k =
-      let (l, r, mid, e, a, b) = an-operator ops (front size held) from found is t k in
-      let w = ends-within ops (front size held) mid r to b in
-      (l, r, mid, e, in-front ops held size (size - 1) (from + 1) l mid a (omega (arith, onward ops (front size held) mid r b, front-short size held)), b)
+      let (l, r, mid, e, a, b) = an-operator ops (front size whole) from found is t k in
+      let w = ends-within ops (front size whole) mid r to b in
+      (l, r, mid, e, in-front ops whole size (size - 1) (from + 1) l mid a (omega (arith, onward ops (front size whole) mid r b, front-short size whole)), b)
 
-  pub widened : (l : Tree) {at mid : ℕ} → TreeAt ops (front (size - 1) held) at l mid → TreeAt ops (front size held) at l mid
+  pub widened : (l : Tree) {at mid : ℕ} → TreeAt ops (front (size - 1) whole) at l mid → TreeAt ops (front size whole) at l mid
   widened l {at} {mid} a =
-      in-front ops held (size - 1) size at l mid a (omega (arith, ends-within ops (front (size - 1) held) at l mid a, front-short (size - 1) held))
+      in-front ops whole (size - 1) size at l mid a (omega (arith, ends-within ops (front (size - 1) whole) at l mid a, front-short (size - 1) whole))
 
-  pub joined-in : (l r : Tree) {mid to : ℕ} → TreeAt ops (front (size - 1) held) (from + 1) l mid → TreeAt ops (front size held) mid r to
-      → TreeAt ops (front size held) from (binary o l r) to
-  joined-in l r a b = operator-at ops (front size held) from found is l r (widened l a) b
+  pub joined-in : (l r : Tree) {mid to : ℕ} → TreeAt ops (front (size - 1) whole) (from + 1) l mid → TreeAt ops (front size whole) mid r to
+      → TreeAt ops (front size whole) from (binary o l r) to
+  joined-in l r a b = operator-at ops (front size whole) from found is l r (widened l a) b

@@ -12,7 +12,7 @@ use Rattle.expression.specs.Tree.{Tree, reading, bracket, binary, prefix, recor
 use Rattle.expression.specs.Decode.{treeOf}
 use Rattle.expression.proofs.Classes.{brackets}
 use Rattle.expression.proofs.RecordsAndTrees.{record-treeOf}
-use Rattle.record.specs.Held.{front}
+use Rattle.record.specs.Front.{front}
 use Rattle.record.specs.Node.{nodeOf, nodeAt}
 use Rattle.record.specs.TreeAt.{TreeAt}
 use Rattle.record.specs.declared.Node.{Node}
@@ -156,5 +156,5 @@ module _ (ops : Operators) (bytes : List ℕ) (from : ℕ) {x : Node} (found : x
       go (prefix p u) q = let z : _≡_ {A = ℕ} 0 1 = cc in absurd (omega arith)
 
 -- past the end of the record no tree stands
-pub none-past : (ops : Operators) (size : ℕ) (held : List ℕ) (from : ℕ) → size ≤ from → (t : Tree) {to : ℕ} → TreeAt ops (front size held) from t to → ⊥
-none-past ops size held from h t x = no-tree ops (front size held) from (past ops (front size held) from (omega (arith, front-short size held))) refl t x
+pub none-past : (ops : Operators) (size : ℕ) (whole : List ℕ) (from : ℕ) → size ≤ from → (t : Tree) {to : ℕ} → TreeAt ops (front size whole) from t to → ⊥
+none-past ops size whole from h t x = no-tree ops (front size whole) from (past ops (front size whole) from (omega (arith, front-short size whole))) refl t x

@@ -14,7 +14,7 @@ use Rattle.expression.specs.Limits.{mostTokens, mostRecordBytes}
 use Rattle.expression.specs.Token.{opening, closing, Operators}
 use Rattle.expression.specs.Tree.{Tree, reading, bracket, binary, prefix, yield}
 use Rattle.expression.proofs.Stores.{sets-append}
-use Rattle.record.specs.Held.{front, base}
+use Rattle.record.specs.Front.{front, base}
 use Rattle.record.specs.Node.{nodeAt}
 use Rattle.record.specs.TreeAt.{TreeAt}
 use Rattle.record.specs.Rows.{writtenEnd, writtenLast, Writes}
@@ -58,9 +58,9 @@ none-here before after never =
       found = λ e. absurd (e refl);
     }
 
-pub past-end : (ops : Operators) (size : ℕ) (held : List ℕ) (from : ℕ) (before : List ℕ) (at : ℕ) → size ≤ from → Writes ops (front size held) from before at before noTree
-past-end ops size held from before at h =
-    none-here before before (λ t to x room. none-past ops size held from h t x)
+pub past-end : (ops : Operators) (size : ℕ) (whole : List ℕ) (from : ℕ) (before : List ℕ) (at : ℕ) → size ≤ from → Writes ops (front size whole) from before at before noTree
+past-end ops size whole from before at h =
+    none-here before before (λ t to x room. none-past ops size whole from h t x)
 
 pub full : (ops : Operators) (bytes : List ℕ) (from : ℕ) (before : List ℕ) (at : ℕ) → mostTokens ≤ at → Writes ops bytes from before at before noTree
 full ops bytes from before at h = none-here before before (λ t to x room. omega (arith, yield-positive t))
@@ -164,27 +164,27 @@ module _ (ops : Operators) (bytes : List ℕ) (from : ℕ) {x : Node} (found : x
         }
 
 -- The left operand is written within a byte less.
-module _ (ops : Operators) (size : ℕ) (held : List ℕ) (from : ℕ) {x : Node} (found : x ≡ nodeAt ops (front size held) from) (before : List ℕ) (at : ℕ)
-    (after : List ℕ) (w : ℕ) {o : ℕ} (is : x ≡ node.Operator o) (h : Writes ops (front (size - 1) held) (from + 1) before at after w) where
-  pub left-refused : w ≡ noTree → Writes ops (front size held) from before at after noTree
+module _ (ops : Operators) (size : ℕ) (whole : List ℕ) (from : ℕ) {x : Node} (found : x ≡ nodeAt ops (front size whole) from) (before : List ℕ) (at : ℕ)
+    (after : List ℕ) (w : ℕ) {o : ℕ} (is : x ≡ node.Operator o) (h : Writes ops (front (size - 1) whole) (from + 1) before at after w) where
+  pub left-refused : w ≡ noTree → Writes ops (front size whole) from before at after noTree
   left-refused e =
       none-here before after λ t to k room.
-      let u = operands-in ops size held from found is t k in
+      let u = operands-in ops size whole from found is t k in
       not-written (u .0) e h (u .4) (omega (arith, operator-tokens o t (u .0) (u .1) (u .3)))
 
-  pub left-full : mostTokens ≤ writtenLast w → Writes ops (front size held) from before at after noTree
+  pub left-full : mostTokens ≤ writtenLast w → Writes ops (front size whole) from before at after noTree
   left-full over =
       none-here before after λ t to k room.
-      let u = operands-in ops size held from found is t k in
+      let u = operands-in ops size whole from found is t k in
       let m = operator-tokens o t (u .0) (u .1) (u .3) in
       omega (arith, h .wrote (u .0) (u .2) (u .4) (omega arith) .1)
 
-  pub an-infix : {r : ℕ} (last : List ℕ) → (w ≡ noTree → ⊥) → Writes ops (front size held) (writtenEnd w) (set after (writtenLast w) o) (writtenLast w + 1) last r
-      → Writes ops (front size held) from before at last r
+  pub an-infix : {r : ℕ} (last : List ℕ) → (w ≡ noTree → ⊥) → Writes ops (front size whole) (writtenEnd w) (set after (writtenLast w) o) (writtenLast w + 1) last r
+      → Writes ops (front size whole) from before at last r
   an-infix last some g =
       record {
         wrote = λ t to k room.
-            let u = operands-in ops size held from found is t k in
+            let u = operands-in ops size whole from found is t k in
             let m = operator-tokens o t (u .0) (u .1) (u .3) in
             let a = h .wrote (u .0) (u .2) (u .4) (omega arith) in
             let b = g .wrote (u .1) to (rw (sym (a .0)) at (u .5)) (omega (arith, a .1)) in (
@@ -198,7 +198,7 @@ module _ (ops : Operators) (size : ℕ) (held : List ℕ) (from : ℕ) {x : Node
             let (u, y, room) = h .found some in
             let (v, z, more) = g .found e in
             let a = h .wrote u (writtenEnd w) y room in
-            (binary o u v, joined-in ops size held from found is u v y z, omega (arith, a .1, operator-tokens o (binary o u v) u v refl));
+            (binary o u v, joined-in ops size whole from found is u v y z, omega (arith, a .1, operator-tokens o (binary o u v) u v refl));
       }
 
 -- what the sums and the measure ask

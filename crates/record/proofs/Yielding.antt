@@ -19,7 +19,7 @@ use Rattle.expression.specs.Decode.{treeOf}
 use Rattle.expression.proofs.Classes.{brackets}
 use Rattle.expression.proofs.Lengths.{row-length-of-record}
 use Rattle.expression.proofs.Numbers.{first-append, first-refused}
-use Rattle.record.specs.Held.{front}
+use Rattle.record.specs.Front.{front}
 use Rattle.record.specs.Checks.{strangerInRecord, rowLength}
 use Rattle.record.specs.Rows.{writtenEnd, Writes}
 use Rattle.record.specs.Answers.{Yields}
@@ -59,10 +59,10 @@ module _ (ops : Operators) (bytes before : List ℕ) where
     pub strange : {r : Answer} → s ≡ true → r ≡ record { number = stranger; length = 0 } → Yields ops bytes before before r
     strange q e = refused stranger (numbering.strange ops bytes fits tested q) (λ z. omega arith) e
 
-    module _ {tokens : ℕ} (q : s ≡ false) (v : tokens ≡ rowLength bytes) (low : tokens ≤ mostTokens) (held rest zeros row : List ℕ) (w : ℕ)
-        (copied : held ≡ take (length bytes) bytes ++ rest) (h : Writes ops (front (length bytes) held) 0 zeros 0 row w) where
+    module _ {tokens : ℕ} (q : s ≡ false) (v : tokens ≡ rowLength bytes) (low : tokens ≤ mostTokens) (copy rest zeros row : List ℕ) (w : ℕ)
+        (copied : copy ≡ take (length bytes) bytes ++ rest) (h : Writes ops (front (length bytes) copy) 0 zeros 0 row w) where
       on-bytes : Writes ops bytes 0 zeros 0 row w
-      on-bytes = rw (front-copied bytes held rest copied) at h
+      on-bytes = rw (front-copied bytes copy rest copied) at h
 
       has-room : (t : Tree) → treeOf (class ops) bytes ≡ some t → 0 + length (yield t) ≤ mostTokens
       has-room t read = omega (arith, v, ap rowTokens read, row-length-of-record (class ops) (brackets ops) bytes t read)

@@ -12,7 +12,7 @@ use Rattle.disambiguation.specs.Edges.{onTop, prefixes}
 use Rattle.disambiguation.specs.Conflicts.{conflicts}
 use Rattle.sheet.specs.Layout.{operatorsOf}
 use Rattle.sheet.specs.Relation.{closesIn}
-use Rattle.record.specs.Held.{base}
+use Rattle.record.specs.Front.{base}
 use Rattle.record.specs.TreeAt.{TreeAt}
 
 -- L(o,b) is excluded where b does not close before o, and R(o,b) where o closes before b.

@@ -1,5 +1,5 @@
 pub mod Node
-pub mod Held
+pub mod Front
 pub mod TreeAt
 pub mod Reach
 pub mod Checks

@@ -5,7 +5,7 @@ use mathlib.Core.List.{List}
 use Rattle.expression.specs.Refusal.{noTree}
 use Rattle.expression.specs.Token.{Operators}
 use Rattle.expression.specs.Tree.{Tree}
-use Rattle.record.specs.Held.{base}
+use Rattle.record.specs.Front.{base}
 use Rattle.record.specs.TreeAt.{TreeAt}
 
 -- An answer is one word: the number 7 where no tree stands; else the place after the tree times the base.

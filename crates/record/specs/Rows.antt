@@ -8,7 +8,7 @@ use Rattle.expression.specs.Limits.{mostTokens}
 use Rattle.expression.specs.Refusal.{noTree}
 use Rattle.expression.specs.Token.{Operators}
 use Rattle.expression.specs.Tree.{Tree, yield}
-use Rattle.record.specs.Held.{base}
+use Rattle.record.specs.Front.{base}
 use Rattle.record.specs.TreeAt.{TreeAt}
 
 -- An answer is one word: the number 7 where no tree stands or its row has no room; else the place after the tree in the record times the base,

@@ -3,12 +3,12 @@ ghost use mathlib.Core.Path.{_≡_};
 ghost use Prim.Native.Nat.{_≤_};
 ghost use Rattle.expression.specs.Lists.{oneIf};
 ghost use Rattle.expression.specs.Limits.{mostRecordBytes};
-ghost use Rattle.record.specs.Held.{front};
+ghost use Rattle.record.specs.Front.{front};
 ghost use Rattle.record.specs.Counts.{seesEdge, showsTop, Counts};
 use crate::Node;
-use crate::held::BASE;
-use crate::held::NO_TREE;
-use crate::held::node_in;
+use crate::walks::BASE;
+use crate::walks::NO_TREE;
+use crate::walks::node_in;
 use expression::limits::MOST_OPERATORS;
 use expression::limits::MOST_RECORD_BYTES;
 use expression::token;
@@ -59,7 +59,7 @@ fn on_top(sheet: &[u32; SHEET_WORDS], above: u8, seer: u8, o: u8) -> usize
 // A reading on the left, as in most trees, takes no call. A left operand leaves a byte for the right one.
 pub fn count_at(
     sheet: &[u32; SHEET_WORDS],
-    held: &[u8; MOST_RECORD_BYTES],
+    whole: &[u8; MOST_RECORD_BYTES],
     size: usize,
     at: usize,
     above: u8,
@@ -68,33 +68,33 @@ pub fn count_at(
 ) -> usize
     requires { ⌜ size ≤ mostRecordBytes ⌝ }
     requires { ⌜ count ≤ at ⌝ }
-    ensures { λ r. ⌜ Counts (now (sheet .entry)) (front size (now (held .entry))) at above seer count r ⌝ }
+    ensures { λ r. ⌜ Counts (now (sheet .entry)) (front size (now (whole .entry))) at above seer count r ⌝ }
 {
     if size <= at {
         return NO_TREE;
     }
-    let node = node_in(sheet, held, size, at);
+    let node = node_in(sheet, whole, size, at);
     if let Node::Reading(_) = node {
         return (at + 1) * BASE + count;
     }
     if let Node::Bracket = node {
-        return count_at(sheet, held, size, at + 1, NONE, NONE, count);
+        return count_at(sheet, whole, size, at + 1, NONE, NONE, count);
     }
     if let Node::Prefix(p) = node {
         let seen = on_edge(sheet, seer, p);
-        return count_at(sheet, held, size, at + 1, p, seer, count + seen);
+        return count_at(sheet, whole, size, at + 1, p, seer, count + seen);
     }
     let Node::Operator(o) = node else {
         return NO_TREE;
     };
-    let top = node_in(sheet, held, size, at + 1);
+    let top = node_in(sheet, whole, size, at + 1);
     let shown = on_top(sheet, above, seer, o);
     if let Node::Reading(_) = top {
-        return count_at(sheet, held, size, at + 2, o, seer, count + shown);
+        return count_at(sheet, whole, size, at + 2, o, seer, count + shown);
     }
-    let left = count_at(sheet, held, size - 1, at + 1, NONE, o, count + shown);
+    let left = count_at(sheet, whole, size - 1, at + 1, NONE, o, count + shown);
     if left == NO_TREE {
         return NO_TREE;
     }
-    count_at(sheet, held, size, left / BASE, o, seer, left % BASE)
+    count_at(sheet, whole, size, left / BASE, o, seer, left % BASE)
 }

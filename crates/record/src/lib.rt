@@ -13,10 +13,10 @@ use sheet::layout::SHEET_WORDS;
 mod checks;
 pub mod conflicts;
 mod ends;
-pub mod held;
 mod listing;
 pub mod operands;
 mod rows;
+pub mod walks;
 
 // What stands at a place of a record; an Operator is infix. Other: no byte, or one that begins no tree under the sheet's operators.
 pub enum Node {
@@ -104,14 +104,14 @@ pub fn yield_row(sheet: &[u32; SHEET_WORDS], bytes: &[u8], out: &mut [u8]) -> An
     if limits::MOST_TOKENS < tokens {
         return unanswered(record_number(sheet, bytes));
     }
-    let mut held = [0u8; limits::MOST_RECORD_BYTES];
-    bytes::copy(bytes, &mut held);
+    let mut whole = [0u8; limits::MOST_RECORD_BYTES];
+    bytes::copy(bytes, &mut whole);
     let mut row = [0u8; limits::MOST_TOKENS];
-    let written = rows::write_row(sheet, &held, bytes.len(), 0, &mut row, 0);
-    if written == held::NO_TREE {
+    let written = rows::write_row(sheet, &whole, bytes.len(), 0, &mut row, 0);
+    if written == walks::NO_TREE {
         return unanswered(refusal::NO_TREE);
     }
-    if written / held::BASE != bytes.len() {
+    if written / walks::BASE != bytes.len() {
         return unanswered(refusal::NO_TREE);
     }
     if out.len() < tokens {
@@ -151,21 +151,21 @@ pub fn judge(sheet: &[u32; SHEET_WORDS], bytes: &[u8]) -> Judgement
     if checks::has_stranger(sheet, bytes) {
         return unjudged(refusal::STRANGER);
     }
-    let mut held = [0u8; limits::MOST_RECORD_BYTES];
-    bytes::copy(bytes, &mut held);
+    let mut whole = [0u8; limits::MOST_RECORD_BYTES];
+    bytes::copy(bytes, &mut whole);
     let tally = conflicts::count_at(
         sheet,
-        &held,
+        &whole,
         bytes.len(),
         0,
         token::OPENING,
         token::OPENING,
         0,
     );
-    if tally == held::NO_TREE {
+    if tally == walks::NO_TREE {
         return unjudged(refusal::NO_TREE);
     }
-    if tally / held::BASE != bytes.len() {
+    if tally / walks::BASE != bytes.len() {
         return unjudged(refusal::NO_TREE);
     }
     let tokens = checks::row_length(bytes);
@@ -174,7 +174,7 @@ pub fn judge(sheet: &[u32; SHEET_WORDS], bytes: &[u8]) -> Judgement
     }
     Judgement {
         number: refusal::ACCEPTED,
-        count: (tally % held::BASE) as u8,
+        count: (tally % walks::BASE) as u8,
     }
 }
 

@@ -5,9 +5,9 @@ ghost use Rattle.record.specs.Operands.{OperandAt};
 use crate::Node;
 use crate::checks;
 use crate::ends;
-use crate::held::BASE;
-use crate::held::NO_TREE;
-use crate::held::node_in;
+use crate::walks::BASE;
+use crate::walks::NO_TREE;
+use crate::walks::node_in;
 use expression::limits;
 use sheet::layout::SHEET_WORDS;
 
@@ -36,15 +36,15 @@ pub fn operand_part(sheet: &[u32; SHEET_WORDS], bytes: &[u8], right: bool) -> Pa
     if limits::MOST_TOKENS < checks::row_length(bytes) {
         return nowhere();
     }
-    let mut held = [0u8; limits::MOST_RECORD_BYTES];
-    bytes::copy(bytes, &mut held);
+    let mut whole = [0u8; limits::MOST_RECORD_BYTES];
+    bytes::copy(bytes, &mut whole);
     let size = bytes.len();
-    let node = node_in(sheet, &held, size, 0);
+    let node = node_in(sheet, &whole, size, 0);
     if let Node::Bracket = node {
         if right {
             return nowhere();
         }
-        if ends::end_at(sheet, &held, size, 1) != size * BASE {
+        if ends::end_at(sheet, &whole, size, 1) != size * BASE {
             return nowhere();
         }
         return Part { from: 1, to: size };
@@ -53,7 +53,7 @@ pub fn operand_part(sheet: &[u32; SHEET_WORDS], bytes: &[u8], right: bool) -> Pa
         if right {
             return nowhere();
         }
-        if ends::end_at(sheet, &held, size, 1) != size * BASE {
+        if ends::end_at(sheet, &whole, size, 1) != size * BASE {
             return nowhere();
         }
         return Part { from: 1, to: size };
@@ -61,12 +61,12 @@ pub fn operand_part(sheet: &[u32; SHEET_WORDS], bytes: &[u8], right: bool) -> Pa
     let Node::Operator(_) = node else {
         return nowhere();
     };
-    let left = ends::end_at(sheet, &held, size - 1, 1);
+    let left = ends::end_at(sheet, &whole, size - 1, 1);
     if left == NO_TREE {
         return nowhere();
     }
     let mid = left / BASE;
-    if ends::end_at(sheet, &held, size, mid) != size * BASE {
+    if ends::end_at(sheet, &whole, size, mid) != size * BASE {
         return nowhere();
     }
     if right {

@@ -12,13 +12,12 @@ use lib.Seq.{take-at}
 use borrow.Author.Tests.{lt-ltb, eq-eqb}
 use Rattle.expression.specs.Limits.{mostTokens, mostRecordBytes}
 use Rattle.expression.specs.Refusal.{accepted, place, conflict}
-use Rattle.expression.specs.Token.{Operators, class}
+use Rattle.expression.specs.Token.{class}
 use Rattle.expression.specs.Grammar.{Row}
 use Rattle.expression.specs.Tree.{Tree, recordOf, Over}
 use Rattle.expression.specs.Tree as tree
-use Rattle.expression.specs.Checks.{recordBytes, rowChecks, rowNumber, buildNumber}
-use Rattle.expression.proofs.Lengths.{few-bytes}
-use Rattle.expression.proofs.Numbers.{first-enough, row-numbered, row-accepted}
+use Rattle.expression.specs.Checks.{rowNumber, buildNumber}
+use Rattle.expression.proofs.Numbers.{row-accepted, build-number}
 use Rattle.sheet.specs.Relation.{closesIn}
 use Rattle.parser.specs.Build.{built}
 use Rattle.parser.proofs.InForceBuilds.{one-tree}
@@ -38,12 +37,6 @@ use Rattle.run.proofs.Replies.{place-passed}
 use Rattle.run.proofs.Histories.{stands}
 use Rattle.run.proofs.Placed.{same-ops, same-rules, sheet-in-force, answered-by}
 use Rattle.run.proofs.Filling.{holds-last-put}
-
--- ---- the number with room for every record
-pub build-number : (ops : Operators) (row : List ℕ) (room : ℕ) → mostRecordBytes ≤ room → buildNumber ops row room ≡ rowNumber ops row
-unfolding buildNumber rowNumber
-build-number ops row room h =
-    first-enough (rowChecks ops row) (recordBytes row) room (row-numbered ops row) (λ e. let k = row-accepted ops row .0 e .0 in omega (arith, few-bytes row))
 
 module _ (cs : List Call) (k : ℕ) (row bytes : List ℕ) where
   abbrev claim : Call

@@ -91,7 +91,7 @@ module _ (cs : List Call) where
     pub ladder : Ladder (ops cs) (R (rules cs))
     -- A parser by the powers that are answered reads each row of infix operators, of any length, as its conflict-free tree: within the lengths, what the panel
     -- builds.
-    pub parsed : (row : List ℕ) → Row (ops cs) row → OfInfix (ops cs) (rules cs) row
+    pub parsed : (row : List ℕ) → Row (ops cs) row → OfInfix (ops cs) row
         → (t : Tree) × ConflictFreeTree (ops cs) (rules cs) row t
         × (readByPowers (class (ops cs)) (λ a. powersIn (panelAfter cs .sheet) a .left) (λ a. powersIn (panelAfter cs .sheet) a .right) row ≡ some t)
 

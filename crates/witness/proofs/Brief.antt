@@ -7,12 +7,12 @@ use lib.Dec.{ltb}
 use lib.ListN.{length}
 use Rattle.expression.specs.Token.{Operators}
 use Rattle.disambiguation.specs.Verdict.{comes}
-use Rattle.disambiguation.specs.Witness.{Witness, sound, noTree, twoTrees, told, firstOverPair, lastOverPair, firstOverTriple, lastOverTriple, firstLeft, firstRight, firstThird, shownBy, noneOf, twoOf, twoOfUneven, unevenPair, ofTriples, bothExclude, noneExcludes, witness}
+use Rattle.disambiguation.specs.Witness.{Witness, sound, noTree, twoTrees, witnessBytes, firstOverPair, lastOverPair, firstOverTriple, lastOverTriple, firstLeft, firstRight, firstThird, shownBy, noneOf, twoOf, twoOfUneven, unevenPair, ofTriples, bothExclude, noneExcludes, witness}
 use Rattle.disambiguation.specs.Shown.{AsLong}
 use Rattle.witness.specs.Explaining.{mostExplained}
 
 abbrev pub Brief : Witness → Type 0
-Brief w = (length (told w) ≤ mostExplained) × AsLong w
+Brief w = (length (witnessBytes w) ≤ mostExplained) × AsLong w
 
 brief-pair : (p : Bool) (a b : ℕ) → Brief (noTree (firstOverPair p a b)) × Brief (twoTrees (firstOverPair p a b) (lastOverPair p a b))
 brief-pair true a b = ((omega arith, tt), (omega arith, (refl, refl)))

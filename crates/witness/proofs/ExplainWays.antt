@@ -14,7 +14,7 @@ use Rattle.expression.specs.Refusal.{first, accepted, short}
 use Rattle.expression.proofs.Numbers.{first-refused, first-short, first-roomy}
 use Rattle.disambiguation.specs.Rules.{L, R}
 use Rattle.disambiguation.specs.SheetChecks.{rulesIn, operatorsIn, orderChecks}
-use Rattle.disambiguation.specs.Witness.{witness, witnessOf, told}
+use Rattle.disambiguation.specs.Witness.{witness, witnessOf, witnessBytes}
 use Rattle.relation.specs.Relation.{closesIn, turned}
 use Rattle.relation.specs.Words.{operatorsBy}
 use Rattle.relation.specs.Relating.{closesWords, yieldsWords}
@@ -49,9 +49,9 @@ module _ {r word : ℕ} (n : ℕ) (bytes t u out : List ℕ) (reads : ReadsSheet
         ∙ ap (λ ops. witness ops (L (rulesIn n bytes)) (R (rulesIn n bytes))) (ap (operatorsBy n) (reads .word-is zero) ∙ operators-read n bytes order)
 
     module _ (text : List ℕ) {size : ℕ} (tells : Tells (witness (operatorsBy n word) (turned (closesIn u)) (closesIn t)) text size) where
-      told-is : told (witness (operatorsBy n word) (turned (closesIn u)) (closesIn t)) ≡ explained n bytes
+      told-is : witnessBytes (witness (operatorsBy n word) (turned (closesIn u)) (closesIn t)) ≡ explained n bytes
       unfolding explained
-      told-is = ap told witness-is
+      told-is = ap witnessBytes witness-is
 
       size-is : size ≡ length (explained n bytes)
       size-is = tells .measured ∙ ap length told-is

@@ -19,7 +19,7 @@ use Rattle.expression.specs.Token.{operators}
 use Rattle.expression.proofs.Numbers.{first-refused}
 use Rattle.disambiguation.specs.Rules.{Rule}
 use Rattle.disambiguation.specs.SheetChecks.{rulesOf, ruleBytes, strangeKind, strangeRule, orderChecks, listOrderChecks}
-use Rattle.disambiguation.specs.Witness.{witnessOf, told}
+use Rattle.disambiguation.specs.Witness.{witnessOf, witnessBytes}
 use Rattle.disambiguation.proofs.RuleBytes.{kinds-back, rules-in, list-checks}
 use Rattle.record.specs.declared.Answer.{Answer}
 use Rattle.witness.specs.Explaining.{AnswersWith, explained, Explains, explainedList, ExplainsList, listSizeNumber, LaidOut}
@@ -64,7 +64,7 @@ rule-count (k ∷ a ∷ b ∷ rest) = omega (arith, rule-count rest)
 -- the answer of lists is that of their bytes
 pub list-answer : (n : ℕ) (kinds : List ℕ) (rules : List Rule) → length kinds ≡ n → explained n (kinds ++ ruleBytes rules) ≡ explainedList n kinds rules
 unfolding explained explainedList
-list-answer n kinds rules as-many = ap₂ (λ ks rs. told (witnessOf (operators n ks) rs)) (kinds-back n kinds rules as-many) (rules-in n kinds rules as-many)
+list-answer n kinds rules as-many = ap₂ (λ ks rs. witnessBytes (witnessOf (operators n ks) rs)) (kinds-back n kinds rules as-many) (rules-in n kinds rules as-many)
 
 -- ---- lay_out
 pub laid-out : (kinds rules bytes first part : List ℕ) → length kinds + length rules ≤ length bytes → first ≡ take (length kinds) kinds ++ drop (length kinds) bytes

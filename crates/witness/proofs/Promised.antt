@@ -15,7 +15,7 @@ use Rattle.expression.proofs.Numbers.{Numbered, first-passed, passed-first, fir
 use Rattle.expression.proofs.Tests.{both-false}
 use Rattle.disambiguation.specs.Rules.{Rule, L, R}
 use Rattle.disambiguation.specs.SheetChecks.{rulesIn, operatorsIn, orderChecks, InOrder, listOrderChecks, ListInOrder}
-use Rattle.disambiguation.specs.Witness.{witnessOf, told}
+use Rattle.disambiguation.specs.Witness.{witnessOf, witnessBytes}
 use Rattle.disambiguation.proofs.Shown.{witness-shown}
 use Rattle.record.specs.declared.Answer.{Answer}
 use Rattle.sheet.proofs.Ordered.{order-numbered, ordered}
@@ -24,7 +24,7 @@ use Rattle.witness.proofs.Brief.{Brief, witness-brief}
 
 -- checks that are passed, and the witness of the operators and rules as the answer, with room for every answer
 given : (order : List Check) (ops : Operators) (rules : List Rule) (out later : List ℕ) (r : Answer) → Passed order → Numbered order → ops .count ≤ mostOperators
-    → mostExplained ≤ length out → AnswersWith order (told (witnessOf ops rules)) out later r → ExplainedBy ops rules out later r
+    → mostExplained ≤ length out → AnswersWith order (witnessBytes (witnessOf ops rules)) out later r → ExplainedBy ops rules out later r
 given order ops rules out later r passed numbered few room k =
     record {
       answered = (zero, k .measured ∙ ap (λ n. lengthAfter n answer) zero, k .output ∙ ap (λ n. outputAfter n answer out) zero);
@@ -34,7 +34,7 @@ given order ops rules out later r passed numbered few room k =
     }
   where
     answer : List ℕ
-    answer = told (witnessOf ops rules)
+    answer = witnessBytes (witnessOf ops rules)
 
     brief : Brief (witnessOf ops rules)
     brief = witness-brief ops (L rules) (R rules)

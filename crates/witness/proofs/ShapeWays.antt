@@ -14,7 +14,7 @@ use Rattle.expression.specs.Limits.{mostOperators}
 use Rattle.expression.specs.Refusal.{dead, double}
 use Rattle.expression.specs.Token.{firstReading}
 use Rattle.expression.specs.Tree.{yield, recordOf}
-use Rattle.disambiguation.specs.Witness.{Witness, sound, noTree, twoTrees, firstOverPair, lastOverPair, firstOverTriple, lastOverTriple, told}
+use Rattle.disambiguation.specs.Witness.{Witness, sound, noTree, twoTrees, firstOverPair, lastOverPair, firstOverTriple, lastOverTriple, witnessBytes}
 use Rattle.disambiguation.proofs.BelowLaws.{and-true}
 use Rattle.witness.specs.Explaining.{mostExplained}
 use Rattle.witness.specs.Shapes.{isThere, moved, fitted, Puts, Fits, Tells}
@@ -126,7 +126,7 @@ module _ (c : ℕ) (h : c < mostOperators) where
   stays = le-ltb firstReading c (omega arith)
 
 -- a row, and two records behind it
-tells : (w : Witness) {text later : List ℕ} {r : ℕ} (p : Bool) (shape : List ℕ) → fitted p shape ≡ told w → length shape ≤ mostExplained → Fits p shape text 0 later r → Tells w later r
+tells : (w : Witness) {text later : List ℕ} {r : ℕ} (p : Bool) (shape : List ℕ) → fitted p shape ≡ witnessBytes w → length shape ≤ mostExplained → Fits p shape text 0 later r → Tells w later r
 tells w p shape e h f = record { measured = omega (arith, f .measured, ap length e); inside = omega (arith, f .few); written = f .written ∙ e }
 
 by-parts : (p : Bool) (row first second : List ℕ) {row′ first′ second′ : List ℕ} → fitted p row ≡ row′ → fitted p first ≡ first′ → fitted p second ≡ second′

@@ -12,7 +12,7 @@ use Rattle.expression.specs.Refusal.{Check, first, accepted, oversize, torn}
 use Rattle.expression.specs.Token.{Operators, operators}
 use Rattle.disambiguation.specs.Rules.{Rule}
 use Rattle.disambiguation.specs.SheetChecks.{rulesIn, operatorsIn, orderChecks, listOrderChecks}
-use Rattle.disambiguation.specs.Witness.{witnessOf, told}
+use Rattle.disambiguation.specs.Witness.{witnessOf, witnessBytes}
 use Rattle.disambiguation.specs.Shown.{Shown, AsLong}
 use Rattle.record.specs.declared.Answer.{Answer}
 
@@ -36,22 +36,22 @@ AnswersBy answer before after r = (r .number ≡ accepted) × (r .length ≡ len
 
 -- The answer of a sheet: of n and the bytes after it,
 unfoldable pub explained : ℕ → List ℕ → List ℕ
-explained n bytes = told (witnessOf (operatorsIn n bytes) (rulesIn n bytes))
+explained n bytes = witnessBytes (witnessOf (operatorsIn n bytes) (rulesIn n bytes))
 
 abbrev pub Explains : ℕ → List ℕ → List ℕ → List ℕ → Answer → Type 0
 Explains n bytes = AnswersWith (orderChecks n bytes) (explained n bytes)
 
 -- and with its kinds and rules as lists.
 unfoldable pub explainedList : ℕ → List ℕ → List Rule → List ℕ
-explainedList n kinds rules = told (witnessOf (operators n kinds) rules)
+explainedList n kinds rules = witnessBytes (witnessOf (operators n kinds) rules)
 
 abbrev pub ExplainsList : ℕ → List ℕ → List Rule → List ℕ → List ℕ → Answer → Type 0
 ExplainsList n kinds rules = AnswersWith (listOrderChecks n kinds rules) (explainedList n kinds rules)
 
 -- Of a sheet in order, by its operators and rules: the answer is their witness in bytes, 22 at most, with both records as long as the row, and it shows why the sheet is refused.
 pub record ExplainedBy (ops : Operators) (rules : List Rule) (before after : List ℕ) (r : Answer) : Type 0 where
-  pub answered : AnswersBy (told (witnessOf ops rules)) before after r
-  pub short : length (told (witnessOf ops rules)) ≤ mostExplained
+  pub answered : AnswersBy (witnessBytes (witnessOf ops rules)) before after r
+  pub short : length (witnessBytes (witnessOf ops rules)) ≤ mostExplained
   pub as-long : AsLong (witnessOf ops rules)
   pub shown : Shown ops rules (witnessOf ops rules)
 

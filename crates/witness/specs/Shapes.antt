@@ -6,7 +6,7 @@ use mathlib.Core.List.{List, [], _∷_, _++_}
 use lib.Dec.{eqb, ltb}
 use lib.ListN.{length, take}
 use Rattle.expression.specs.Token.{firstReading}
-use Rattle.disambiguation.specs.Witness.{Witness, told}
+use Rattle.disambiguation.specs.Witness.{Witness, witnessBytes}
 use Rattle.witness.specs.Explaining.{mostExplained}
 
 -- a byte of a shape is there, unless it is the operand before a prefix operator
@@ -35,6 +35,6 @@ Puts isPrefix c = Fits isPrefix (c ∷ [])
 
 -- The text begins with a witness, of r bytes.
 pub record Tells (w : Witness) (text : List ℕ) (r : ℕ) : Type 0 where
-  pub measured : r ≡ length (told w)
+  pub measured : r ≡ length (witnessBytes w)
   pub inside : r ≤ mostExplained
-  pub written : take r text ≡ told w
+  pub written : take r text ≡ witnessBytes w

@@ -10,7 +10,7 @@ use Rattle.brackets.proofs.walk.write_operand.Reads as write-operand
 use Rattle.brackets.proofs.walk.write_operand.Kinds as write-operand-kinds
 use Rattle.brackets.proofs.walk.+write_operand.Lts-write_operand as write-operand-lts
 use Rattle.brackets.proofs.walk.shows.Reads as shows
-use Rattle.record.proofs.held.set_two.Reads as set-two
+use Rattle.record.proofs.walks.set_two.Reads as set-two
 use Rattle.brackets.proofs.walk.leaf_at.Reads as leaf-at
 use Rattle.brackets.proofs.edges.top_at.Reads as top-at
 use Rattle.brackets.proofs.walk.+write_operand.{statement}

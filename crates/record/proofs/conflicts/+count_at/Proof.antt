@@ -10,7 +10,7 @@ use Rattle.record.proofs.conflicts.count_at.Kinds as count-at-kinds
 use Rattle.record.proofs.conflicts.+count_at.Lts-count_at as count-at-lts
 use Rattle.record.proofs.conflicts.on_edge.Reads as on-edge
 use Rattle.record.proofs.conflicts.on_top.Reads as on-top
-use Rattle.record.proofs.held.node_in.Reads as node-in
+use Rattle.record.proofs.walks.node_in.Reads as node-in
 use Rattle.record.proofs.conflicts.+count_at.{statement}
 use Rattle.record.proofs.conflicts.+count_at.Tie.{close}
 

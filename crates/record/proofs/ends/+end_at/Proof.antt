@@ -8,7 +8,7 @@ use Rattle.record.proofs.Reaching.{mid-falls, end-at-ways}
 use Rattle.record.proofs.ends.end_at.Reads as end-at
 use Rattle.record.proofs.ends.end_at.Kinds as end-at-kinds
 use Rattle.record.proofs.ends.+end_at.Lts-end_at as end-at-lts
-use Rattle.record.proofs.held.node_in.Reads as node-in
+use Rattle.record.proofs.walks.node_in.Reads as node-in
 use Rattle.record.proofs.ends.+end_at.{statement}
 use Rattle.record.proofs.ends.+end_at.Tie.{close}
 

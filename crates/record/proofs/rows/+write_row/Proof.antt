@@ -8,8 +8,8 @@ use Rattle.record.proofs.Writing.{mid-falls, write-row-ways}
 use Rattle.record.proofs.rows.write_row.Reads as write-row
 use Rattle.record.proofs.rows.write_row.Kinds as write-row-kinds
 use Rattle.record.proofs.rows.+write_row.Lts-write_row as write-row-lts
-use Rattle.record.proofs.held.set_two.Reads as set-two
-use Rattle.record.proofs.held.node_in.Reads as node-in
+use Rattle.record.proofs.walks.set_two.Reads as set-two
+use Rattle.record.proofs.walks.node_in.Reads as node-in
 use Rattle.record.proofs.rows.+write_row.{statement}
 use Rattle.record.proofs.rows.+write_row.Tie.{close}
 

@@ -1,9 +1,9 @@
--- `record::held::node_in` meets its contract. Assumes nothing.
+-- `record::walks::node_in` meets its contract. Assumes nothing.
 use native.Mathlib.Omega.{arith}
 use borrow.Author.Needs.{needs}
 use Rattle.record.proofs.Holding.{from-start}
-use Rattle.record.proofs.held.node_in.Statement.{statement}
-use Rattle.record.proofs.held.node_in.Tie as tie
+use Rattle.record.proofs.walks.node_in.Statement.{statement}
+use Rattle.record.proofs.walks.node_in.Tie as tie
 
 pub node-in-spec : {M : Type 1} → statement M
 node-in-spec =

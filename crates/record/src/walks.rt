@@ -1,11 +1,11 @@
-// A record held at the front of as many bytes as a record has at most, and the row that a walk writes: a walk is lent them by one pointer each,
+// What the walks share: a record at the front of as many bytes as a record has at most, and the row that a walk writes: a walk is lent them by one pointer each,
 // and its last call becomes a loop.
 ghost use mathlib.Core.Path.{_≡_};
 ghost use Prim.Native.Nat.{_<_, _≤_};
 ghost use lib.ListN.{set};
 ghost use Rattle.expression.specs.Limits.{mostTokens, mostRecordBytes};
 ghost use Rattle.sheet.specs.Layout.{operatorsOf};
-ghost use Rattle.record.specs.Held.{front};
+ghost use Rattle.record.specs.Front.{front};
 ghost use Rattle.record.specs.Node.{nodeAt};
 use crate::Node;
 use crate::node_at;
@@ -21,14 +21,14 @@ pub const NO_TREE: usize = expression::refusal::NO_TREE as usize;
 // The node at a place of the record, which is the first `size` bytes.
 pub fn node_in(
     sheet: &[u32; SHEET_WORDS],
-    held: &[u8; limits::MOST_RECORD_BYTES],
+    whole: &[u8; limits::MOST_RECORD_BYTES],
     size: usize,
     at: usize,
 ) -> Node
     requires { ⌜ size ≤ mostRecordBytes ⌝ }
-    ensures { λ r. ⌜ r ≡ nodeAt (operatorsOf (now (sheet .entry))) (front size (now (held .entry))) at ⌝ }
+    ensures { λ r. ⌜ r ≡ nodeAt (operatorsOf (now (sheet .entry))) (front size (now (whole .entry))) at ⌝ }
 {
-    let all = &held[..];
+    let all = &whole[..];
     node_at(sheet, &all[0..size], at)
 }
 
