@@ -38,7 +38,7 @@ module _ (L R : ℕ → ℕ → Bool) (k : ℕ → Class) where
         different = λ q. let z = d q in omega arith;
       }
 
-  -- The bytes of readings are readings; a is prefix, or infix, as witnessBytes.
+  -- The bytes of readings are readings; a is prefix, or infix, as told.
   module _ (reads : (c : ℕ) → firstReading ≤ c → c ≤ lastReading → k c ≡ Reading) where
     x : k 0x80 ≡ Reading
     x = reads 0x80 (omega arith) (omega arith)

@@ -62,7 +62,7 @@ module _ (b : Book) where
   blank-means Else k rest f =
       when Else (isBlank (b .slots k)) empty (first rest) (decides-blank (b .slots k)) (λ e. let (row, q) = not-blank (b .slots k) e in f row q)
 
-  -- there is an answer, and all that are askedOutcome have this length
+  -- there is an answer, and all that the book gives have this length
   room-means : (q : Question) (size : ℕ) → (a : List ℕ) → AnswerIs b q a → ((a : List ℕ) → AnswerIs b q a → length a ≡ size)
       → WithRoom b q (first (shortCheck size (length (lentBefore q)) ∷ []))
   room-means q size a t long =
