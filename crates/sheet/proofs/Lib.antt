@@ -3,6 +3,8 @@ pub mod KindWays
 pub mod LayoutWays
 pub mod Ordered
 pub mod Loading
+pub mod ListWays
+pub mod ListLaws
 pub mod PowerWords
 pub mod PowerWays
 pub mod PowerLaws

@@ -16,6 +16,7 @@ use relation::words;
 
 mod kinds;
 pub mod layout;
+pub mod lists;
 pub mod powers;
 
 // The count of the sheet's operators, n.

@@ -1,14 +1,11 @@
 -- Why a sheet is refused: the number and the answer of the question (docs/REFERENCE.md, section 13). Assumes nothing.
-use Prim.Native.Nat.{ℕ, _+_, _≤_}
+use Prim.Native.Nat.{ℕ, _≤_}
 use mathlib.Core.Path.{_≡_}
-use mathlib.Core.Bool.{not, _||_}
 use mathlib.Core.List.{List, [], _∷_, _++_}
-use lib.Dec.{eqb, ltb}
-use lib.ListN.{length, take, drop}
+use lib.ListN.{length, drop}
 use Rattle.expression.specs.Checks.{shortCheck}
 use Rattle.expression.specs.Lent.{outputAfter, lengthAfter}
-use Rattle.expression.specs.Limits.{mostOperators, mostRules}
-use Rattle.expression.specs.Refusal.{Check, first, accepted, oversize, torn}
+use Rattle.expression.specs.Refusal.{Check, first, accepted}
 use Rattle.expression.specs.Token.{Operators, operators}
 use Rattle.disambiguation.specs.Rules.{Rule}
 use Rattle.disambiguation.specs.SheetChecks.{rulesIn, operatorsIn, orderChecks, listOrderChecks}
@@ -54,12 +51,3 @@ pub record ExplainedBy (ops : Operators) (rules : List Rule) (before after : Lis
   pub short : length (witnessBytes (witnessOf ops rules)) ≤ mostExplained
   pub as-long : AsLong (witnessOf ops rules)
   pub shown : Shown ops rules (witnessOf ops rules)
-
--- ---- inside the call with lists
--- 1 and 2: the checks of n, of the number of kinds and of the number of rules
-unfoldable pub listSizeNumber : ℕ → ℕ → ℕ → ℕ
-listSizeNumber n kinds rules = first ((ltb mostOperators n || ltb mostRules rules, oversize) ∷ (not (eqb kinds n), torn) ∷ [])
-
--- the bytes begin with the kinds and the rules' bytes
-abbrev pub LaidOut : List ℕ → List ℕ → List ℕ → Type 0
-LaidOut kinds rules bytes = take (length kinds + length rules) bytes ≡ kinds ++ rules

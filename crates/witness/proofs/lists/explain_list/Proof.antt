@@ -7,15 +7,11 @@ pub explain-list-spec : {M : Type 1} → statement M
 explain-list-spec =
     tie.close
     (tie.spec
-    (λ c κs. search explain-list-ways)
-    (λ c. search explain-list-ways)
-    (λ c. search explain-list-ways)
-    (λ c. search explain-list-ways)
-    (λ c. search explain-list-ways)
-    (λ c. search explain-list-ways)
-    (λ c. search explain-list-ways)
     (λ c. search explain-list-ways)
     (λ c κs. search explain-list-ways)
+    (λ c. search explain-list-ways)
+    (λ c. search explain-list-ways)
+    (λ c. search explain-list-ways)
     (λ c. search explain-list-ways)
     (λ c. search explain-list-ways)
     (λ c. search explain-list-ways)
