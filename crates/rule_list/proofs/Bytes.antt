@@ -9,9 +9,10 @@ use lib.Seq.{take-suc, take-suc-set, take-length, drop-set-add}
 use Rattle.expression.specs.Limits.{mostOperators, mostRules}
 use Rattle.expression.specs.Refusal.{oversize}
 use Rattle.disambiguation.specs.SheetChecks.{ruleBytes}
+use Rattle.sheet.specs.Lists.{bufferBytes}
 use Rattle.run.specs.Call.{stageList}
 use Rattle.monitor.specs.Contracts.{Stages}
-use Rattle.rule_list.specs.Records.{rulesIn, bufferBytes, putAt, StagesList}
+use Rattle.rule_list.specs.Records.{rulesIn, putAt, StagesList}
 use Rattle.rule_list.specs.declared.Rule.{Rule}
 use Rattle.rule_list.proofs.Refusals.{over-rules}
 

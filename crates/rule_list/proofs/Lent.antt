@@ -32,9 +32,10 @@ use denote.Triple.Walked.{says, Stays, stay-dropped, stay-none-slice, gave-ref, 
 use denote.Exit.{yes}
 use Rattle.expression.specs.Limits.{mostRules}
 use Rattle.sheet.specs.Layout.{sheetWords}
+use Rattle.sheet.specs.Lists.{bufferBytes}
 use Rattle.run.specs.Call.{stageList}
 use Rattle.monitor.specs.Contracts.{Stages}
-use Rattle.rule_list.specs.Records.{rulesIn, bufferBytes}
+use Rattle.rule_list.specs.Records.{rulesIn}
 use Rattle.rule_list.specs.declared.Rule.{Rule}
 use Rattle.rule_list.proofs.Bytes.{noRule, writtenTo}
 use Rattle.rule_list.proofs.Rule as T

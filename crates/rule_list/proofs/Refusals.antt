@@ -6,11 +6,15 @@ use mathlib.Core.Bool.{or-true}
 use mathlib.Core.List.{List}
 use lib.Dec.{ltb}
 use lib.ListN.{length}
-use borrow.Author.Tests.{lt-ltb, le-ltb, ne-eqb}
+use borrow.Author.Tests.{lt-ltb, ne-eqb}
 use Rattle.expression.specs.Limits.{mostOperators, mostRules}
-use Rattle.expression.specs.Refusal.{accepted, oversize, torn}
-use Rattle.disambiguation.specs.Rules.{Rule}
+use Rattle.expression.specs.Refusal.{Check, accepted, oversize}
+use Rattle.expression.specs.Token.{operators}
+use Rattle.disambiguation.specs.Rules.{Rule, L, R}
+use Rattle.disambiguation.specs.Verdict.{ruleChecks}
 use Rattle.disambiguation.specs.SheetChecks.{listNumber}
+use Rattle.sheet.specs.Lists.{kindsNumber}
+use Rattle.sheet.proofs.ListLaws.{kinds-refused}
 use Rattle.run.specs.Call.{stageList}
 use Rattle.monitor.specs.Contracts.{Stages}
 use Rattle.run.specs.Steps.{stagedAfter}
@@ -24,14 +28,14 @@ module _ (staged : List ℕ) (n : ℕ) (kinds : List ℕ) (rules : List Rule) wh
         changes = λ sheet store. record { numbered = sym e; stands = rw (ne-eqb (listNumber n kinds rules) accepted (λ z. h (sym e ∙ z))); kept = λ _. refl };
       }
 
-  pub over-operators : mostOperators < n → Stages staged (stageList n kinds rules) oversize staged
-  unfolding listNumber
-  over-operators many = refused oversize (rw (lt-ltb mostOperators n many)) (λ e. omega arith)
-
   pub over-rules : mostRules < length rules → Stages staged (stageList n kinds rules) oversize staged
   unfolding listNumber
   over-rules many = refused oversize (rw (lt-ltb mostRules (length rules) many, or-true (ltb mostOperators n))) (λ e. omega arith)
 
-  pub other-kinds : n ≤ mostOperators → length rules ≤ mostRules → (length kinds ≡ n → ⊥) → Stages staged (stageList n kinds rules) torn staged
+  pub other-kinds : {number : ℕ} → number ≡ kindsNumber n (length kinds) → length rules ≤ mostRules → (number ≡ accepted → ⊥)
+      → Stages staged (stageList n kinds rules) number staged
   unfolding listNumber
-  other-kinds few fit other = refused torn (rw (le-ltb mostOperators n few, le-ltb mostRules (length rules) fit, ne-eqb (length kinds) n other)) (λ e. omega arith)
+  other-kinds {number} number-is fit h = refused number (kinds-refused n kinds rules rest fit (λ z. h (number-is ∙ z)) ∙ sym number-is) h
+    where
+      rest : List Check
+      rest = ruleChecks (operators n kinds) (L rules) (R rules)

@@ -3,7 +3,7 @@ use Prim.Native.Nat.{ℕ, _+_, _*_}
 use mathlib.Core.Path.{_≡_}
 use mathlib.Core.List.{List, [], _∷_}
 use lib.ListN.{set, take, drop}
-use Rattle.expression.specs.Limits.{mostOperators, mostRuleBytes}
+use Rattle.expression.specs.Limits.{mostOperators}
 use Rattle.disambiguation.specs.Rules as rules
 use Rattle.disambiguation.specs.SheetChecks.{ruleBytes}
 use Rattle.run.specs.Call.{stageList}
@@ -17,10 +17,6 @@ ruleOf r = rules.rule (r .kind) (r .first) (r .second)
 unfoldable pub rulesIn : List Rule → List rules.Rule
 rulesIn [] = []
 rulesIn (r ∷ rs) = ruleOf r ∷ rulesIn rs
-
--- the buffer: room for a kind byte of every operator, and then for the bytes of the most rules
-abbrev pub bufferBytes : ℕ
-bufferBytes = mostOperators + mostRuleBytes
 
 -- the buffer with the bytes of record i at their place
 abbrev pub putAt : List ℕ → ℕ → Rule → List ℕ

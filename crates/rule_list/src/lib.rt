@@ -5,7 +5,7 @@ ghost use Rattle.rule_list.specs.Records.{rulesIn};
 use expression::limits;
 use expression::refusal;
 use sheet::layout::SHEET_WORDS;
-use written::BUFFER_BYTES;
+use sheet::lists::BUFFER_BYTES;
 
 mod written;
 

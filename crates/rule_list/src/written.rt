@@ -7,11 +7,9 @@ use crate::Rule;
 use expression::limits;
 use expression::refusal;
 use sheet::layout::SHEET_WORDS;
-
-// Room for a kind byte of every operator, and then for the bytes of the most rules.
-const KIND_BYTES: usize = limits::MOST_OPERATORS as usize;
-
-pub const BUFFER_BYTES: usize = KIND_BYTES + limits::MOST_RULE_BYTES;
+use sheet::lists;
+use sheet::lists::BUFFER_BYTES;
+use sheet::lists::KIND_BYTES;
 
 // Writes the three bytes of record i at their place.
 pub fn put_rule(bytes: &mut [u8; BUFFER_BYTES], i: usize, rule: Rule)
@@ -35,16 +33,13 @@ pub fn stage_written(
     requires { ⌜ count ≤ mostRules ⌝ }
     ensures { λ r. ⌜ StagesList (now (staged .entry)) n (now (kinds .entry)) (now (bytes .entry)) count r (now (staged .exit)) ⌝ }
 {
-    if (limits::MOST_OPERATORS as u32) < n {
-        return refusal::OVERSIZE;
+    let number = lists::kinds_number(n, kinds.len());
+    if number != refusal::ACCEPTED {
+        return number;
     }
-    if kinds.len() != n as usize {
-        return refusal::TORN;
-    }
-    let from = KIND_BYTES - kinds.len();
-    let to = KIND_BYTES + count * limits::BYTES_OF_RULE;
     let all: &mut [u8] = bytes;
-    bytes::copy(kinds, &mut all[from..KIND_BYTES]);
+    let from = lists::put_kinds(kinds, all);
+    let to = KIND_BYTES + count * limits::BYTES_OF_RULE;
     let written = &all[..];
     monitor::stage(staged, n, &written[from..to])
 }

@@ -49,7 +49,7 @@ use Rattle.rule_list.proofs.Rule as T
 use Rattle.rule_list.proofs.Rule.Laws as T′
 use Rattle.rule_list.proofs.Bytes.{list-over}
 use Rattle.sheet.specs.Layout.{sheetWords}
-use Rattle.rule_list.specs.Records.{bufferBytes}
+use Rattle.sheet.specs.Lists.{bufferBytes}
 use Rattle.rule_list.proofs.Lent.{Words, Buffer, zeros, stayed, PutRule, StageWritten, Passed, list, count, stagedAt, kindsAt, rulesAt, at, Post, last-value, exits}
 use Rattle.rule_list.proofs.written.put_rule.Symbol as put-rule-def
 use Rattle.rule_list.proofs.written.put_rule.Symbol.{name as #put-rule}

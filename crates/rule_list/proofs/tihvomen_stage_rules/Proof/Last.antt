@@ -36,7 +36,8 @@ use denote.Triple.Statement.{Triple}
 use denote.Triple.Call.{calls-at}
 use denote.Triple.Clauses.{ensured, Lasts, lasts}
 use Rattle.expression.specs.Limits.{mostRules}
-use Rattle.rule_list.specs.Records.{bufferBytes, StagesList}
+use Rattle.sheet.specs.Lists.{bufferBytes}
+use Rattle.rule_list.specs.Records.{StagesList}
 use Rattle.rule_list.proofs.Bytes.{list-staged}
 use Rattle.rule_list.proofs.Rule as T
 use Rattle.rule_list.proofs.Lent.{Buffer, zeros, StageWritten, Passed, list, count, after, buffer, Post, to-stage, goes-stage, exits}

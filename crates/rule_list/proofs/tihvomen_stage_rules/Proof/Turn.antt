@@ -41,7 +41,7 @@ use Rattle.rule_list.proofs.Bytes.{noRule}
 use Rattle.rule_list.proofs.Rule as T
 use Rattle.rule_list.proofs.Rule.Laws as T′
 use Rattle.sheet.specs.Layout.{sheetWords}
-use Rattle.rule_list.specs.Records.{bufferBytes}
+use Rattle.sheet.specs.Lists.{bufferBytes}
 use Rattle.rule_list.proofs.Lent.{Words, Buffer, PutRule, vals, Passed, list, count, stagedAt, kindsAt, rulesAt, after, buffer, Post, to-put, goes-put}
 use Rattle.rule_list.proofs.written.put_rule as put-rule
 use Rattle.rule_list.proofs.written.put_rule.Symbol.{name as #put-rule}

@@ -7,16 +7,11 @@ pub stage-written-spec : {M : Type 1} → statement M
 stage-written-spec =
     tie.close
     (tie.spec
-    (λ c. search stage-written-ways)
-    (λ c. search stage-written-ways)
-    (λ c. search stage-written-ways)
-    (λ c. search stage-written-ways)
-    (λ c. search stage-written-ways)
-    (λ c. search stage-written-ways)
-    (λ c. search stage-written-ways)
-    (λ c. search stage-written-ways)
+    (λ c κs. search stage-written-ways)
     (λ c. search stage-written-ways)
     (λ c κs. search stage-written-ways)
+    (λ c. search stage-written-ways)
+    (λ c. search stage-written-ways)
     (λ c. search stage-written-ways)
     (λ c. search stage-written-ways)
     (λ c. search stage-written-ways)
