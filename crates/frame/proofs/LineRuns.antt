@@ -14,6 +14,7 @@ use Rattle.run.specs.Run.{panelAfter, bookAfter, Each}
 use Rattle.run.proofs.Stands.{Stands, same-number}
 use Rattle.run.proofs.Replies.{tells, answered}
 use Rattle.run.proofs.Histories.{stands}
+use Rattle.run.proofs.MeaningsBook.{reply-means}
 use Rattle.run.proofs.Demand1.{demand-1}
 use Rattle.run.proofs.Demand3.{demand-3}
 use Rattle.hexadecimal.specs.Text.{bytesOf, textOf}
@@ -67,7 +68,7 @@ module _ (p : Panel) where
 
 module _ (p : Panel) (b : Book) (s : Stands p b) where
   said-to : (q : Question) → askedNumber b q ≡ accepted → SaidTo b q (answerBytes p q)
-  said-to (judge bytes) z = let (t, r, e) = answered p b s (judge bytes) .count .0 z in (t, r, ap (λ n. n ∷ []) e)
+  said-to (judge bytes) z = let (t, r, e) = answered p b s (judge bytes) .count .accepted (same-number p b s (ask (judge bytes)) ∙ z) in (t, r, ap (λ n. n ∷ []) e)
   said-to (fetchRecord k out) z = tells p b s (fetchRecord k out) z
   said-to (fetchRow k out) z = tells p b s (fetchRow k out) z
   said-to (image k out) z = tells p b s (image k out) z
@@ -90,9 +91,13 @@ module _ (p : Panel) (b : Book) (s : Stands p b) where
   says-frame : (call : Option Call) → SaysFrame b call (frameReply p call)
   says-frame none = refl
   says-frame (some c) =
-      let e = same-number p b s c in
-      let answer = ifAccepted (outcome p c .number) (answerOf p c) [] in
-      (answer, ap (λ n. n ∷ answer) e, (λ z. rw (e ∙ z) (said c z), λ h. rw (ne-eqb (outcome p c .number) 0 (λ z. h (sym e ∙ z)))))
+      let number = outcome p c .number in (
+        number,
+        ifAccepted number (answerOf p c) [],
+        refl,
+        reply-means p b s c,
+        record { accepted = λ z. rw z (said c (sym (same-number p b s c) ∙ z)); refused = λ h. rw (ne-eqb number 0 h) },
+      )
 
   -- Where the panel stands for the book, the reply to a line is the book's.
   says : (line : List ℕ) → Says b line (lineReply p line)

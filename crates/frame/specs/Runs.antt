@@ -9,10 +9,12 @@ use Rattle.expression.specs.Tree.{Tree}
 use Rattle.disambiguation.specs.Conflicts.{conflictCount}
 use Rattle.run.specs.Call.{Question, Call, stage, stageList, switch, putRow, putRecord, putClaim, drop, ask, fetchRecord, fetchRow, image, build, repair, judge, yield, operand, shortestRow}
 use Rattle.run.specs.Panel.{Panel, fresh}
-use Rattle.run.specs.Book.{Book, bookNumber}
+use Rattle.run.specs.Book.{Book}
 use Rattle.run.specs.Run.{bookAfter, Each}
 use Rattle.run.specs.Promises.{Demand3}
-use Rattle.run.specs.Answers.{Records, AnswerIs, Valued}
+use Rattle.run.specs.AnswerBytes.{Records, AnswerIs}
+use Rattle.run.specs.Meaning.{Means}
+use Rattle.run.specs.Answers.{Valued}
 use Rattle.hexadecimal.specs.Text.{bytesOf, textOf}
 use Rattle.frame.specs.Lines.{isLong, textCall, lineCall, lineBytes, lineReply, lineAfter}
 use Rattle.frame.specs.Meaning.{MeansLine}
@@ -55,10 +57,10 @@ module _ (b : Book) where
   Said (drop k) answer = answer ≡ []
   Said (ask q) answer = SaidTo q answer
 
-  -- the call's number, then on success those bytes
+  -- the number that the call's conditions give, then on success those bytes
   abbrev pub SaysFrame : Option Call → List ℕ → Type 0
   SaysFrame none bytes = bytes ≡ frame ∷ []
-  SaysFrame (some c) bytes = (answer : List ℕ) × (bytes ≡ bookNumber b c ∷ answer) × Valued (bookNumber b c) (Said c) [] answer
+  SaysFrame (some c) bytes = (number : ℕ) × (answer : List ℕ) × (bytes ≡ number ∷ answer) × Means b c number × Valued number (Said c) [] answer
 
   abbrev pub SaysLine : (long : Bool) → List ℕ → List ℕ → Type 0
   SaysLine true line bytes = bytes ≡ oversize ∷ []

@@ -24,12 +24,12 @@ use Rattle.parser.specs.Build.{built}
 use Rattle.run.specs.Call.{Call, ask, build, repair, judge, yield}
 use Rattle.run.specs.Panel.{rebuilt}
 use Rattle.run.specs.Steps as steps
-use Rattle.run.specs.Answers.{Records}
+use Rattle.run.specs.AnswerBytes.{Records}
 use Rattle.run.specs.Run.{panelAfter, answer, bookAfter, AnsweredBy}
 use Rattle.run.specs.Promises.{Within, Demand2, ops, rules}
 use Rattle.run.proofs.Slots.{HeldTree, bytes-long, put-row-holds, put-record-holds}
 use Rattle.run.proofs.Stands.{same-number}
-use Rattle.run.proofs.Replies.{answers}
+use Rattle.run.proofs.Replies.{rest}
 use Rattle.run.proofs.Histories.{stands}
 use Rattle.run.proofs.Placed.{same-ops, same-rules, sheet-in-force, within-accepted, answered-by, repair-accepted}
 
@@ -85,7 +85,7 @@ module _ (cs : List Call) where
             answered-by cs (repair (recordOf t) out) (recordOf u) z e
 
     counted : (answer cs (ask (judge (recordOf t))) .number ≡ accepted) × (answer cs (ask (judge (recordOf t))) .count ≡ conflictCount (rules cs) t)
-    counted = (number, same (answers (panelAfter cs) (bookAfter cs) (stands cs) (ask (judge (recordOf t))) .rest .count .0 (sym (same-number (panelAfter cs) (bookAfter cs) (stands cs) (ask (judge (recordOf t)))) ∙ number)))
+    counted = (number, same (rest (panelAfter cs) (bookAfter cs) (stands cs) (ask (judge (recordOf t))) .count .accepted number))
       where
         number : answer cs (ask (judge (recordOf t))) .number ≡ accepted
         number = ap (λ m. recordNumber m (recordOf t)) same-operators ∙ fits

@@ -29,16 +29,20 @@ use Rattle.parser.specs.Build.{built}
 use Rattle.parser.proofs.InForceBuilds.{built-equal-exactly-if, built-keeps-length}
 use Rattle.run.specs.Call.{Call, Reply, stage, stageList, putRecord, repair}
 use Rattle.run.specs.Panel.{rebuilt}
+use Rattle.run.specs.Steps.{numbered, replyOf}
+use Rattle.run.specs.Book.{bookNumber}
 use Rattle.run.specs.Answers.{Answers}
 use Rattle.run.specs.Run.{panelAfter, answer, bookAfter, lastPut, Each, RepairsTo}
 use Rattle.run.specs.Meaning.{Means}
 use Rattle.run.specs.Promises.{Within, ForItsRules, Demand3, ops, rules}
-use Rattle.run.proofs.Replies.{answers}
-use Rattle.run.proofs.ListSheets.{as-many-in-order, list-same}
+use Rattle.run.proofs.Stands.{same-number}
+use Rattle.run.proofs.Replies.{rest}
+use Rattle.run.proofs.ListSheets.{as-many-in-order, list-same, list-after}
 use Rattle.run.proofs.Histories.{stands, book-in-force, book-slot}
 use Rattle.run.proofs.Placed.{same-ops, same-rules, sheet-in-force, exactly-one, within-accepted, answered-by, repair-accepted}
 use Rattle.run.proofs.MeaningsBook.{means}
 use Rattle.run.proofs.Filling.{holds-last-put, filled-exactly-if-put}
+use Rattle.run.proofs.OneNumber.{means-one}
 use Rattle.run.proofs.OneAnswer.{answers-same}
 use Rattle.run.proofs.SameLengths.{switch-keeps-lengths}
 
@@ -59,7 +63,7 @@ whole-output bytes out h = ap (λ x. bytes ++ x) (drop-of-length-le out h) ∙ a
 -- each answer of a list is the book's
 each-answered : (cs : List Call) → Each (λ before c. Answers (bookAfter before) c (answer before c)) cs
 each-answered [] = tt
-each-answered (c ∷ cs) = (answers (panelAfter cs) (bookAfter cs) (stands cs) c, each-answered cs)
+each-answered (c ∷ cs) = (record { number = means cs c; rest = rest (panelAfter cs) (bookAfter cs) (stands cs) c }, each-answered cs)
 
 -- and each number has its meaning
 each-means : (cs : List Call) → Each (λ before c. Means (bookAfter before) c (answer before c .number)) cs
@@ -74,6 +78,19 @@ module _ (cs : List Call) where
 
   book-answers-one : (c : Call) (r s : Reply) → Answers (bookAfter cs) c r → Answers (bookAfter cs) c s → r ≡ s
   book-answers-one = answers-same (bookAfter cs) (rw (same-ops cs, same-rules cs) (exactly-one cs))
+
+  book-number : (c : Call) (number : ℕ) → Means (bookAfter cs) c number ↔ (number ≡ bookNumber (bookAfter cs) c)
+  book-number c number =
+      let e = same-number (panelAfter cs) (bookAfter cs) (stands cs) c in
+      let own = subst (Means (bookAfter cs) c) e (means cs c) in
+      (λ m. means-one (bookAfter cs) c number (bookNumber (bookAfter cs) c) m own, λ q. subst (Means (bookAfter cs) c) (sym q) own)
+
+  both-forms : (m : ℕ) (kinds : List ℕ) (given : List Rule) → length kinds ≡ m
+      → (answer cs (stageList m kinds given) ≡ answer cs (stage m (kinds ++ ruleBytes given)))
+      × (panelAfter (stageList m kinds given ∷ cs) ≡ panelAfter (stage m (kinds ++ ruleBytes given) ∷ cs))
+  unfolding panelAfter
+  both-forms m kinds given as-many =
+      (ap (λ n. replyOf (numbered n) []) (sym (list-same m kinds given as-many)), sym (list-after m kinds given as-many (panelAfter cs)))
 
   -- ---- a sheet in order
   module _ (m : ℕ) (bytes : List ℕ) (order : InOrder m bytes) where
@@ -167,5 +184,7 @@ demand-3 cs =
       same-lengths = switch-keeps-lengths cs;
       refused = refused-exactly-if cs;
       refused-list = refused-list-exactly-if cs;
+      book-number = book-number cs;
+      both-forms = both-forms cs;
       same-bytes = same-bytes-exactly-if cs;
     }

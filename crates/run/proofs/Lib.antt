@@ -10,6 +10,7 @@ pub mod Keeping
 pub mod Histories
 pub mod Placed
 pub mod Filling
+pub mod OneNumber
 pub mod OneAnswer
 pub mod SameLengths
 pub mod Meanings

@@ -26,7 +26,7 @@ use Rattle.disambiguation.specs.Conflicts.{conflictCount}
 use Rattle.claims.specs.Claims.{sameBytes, claimChecks, countBy}
 use Rattle.claims.proofs.SameBytes.{same-exactly-if}
 use Rattle.run.specs.Book.{Book}
-use Rattle.run.specs.Answers.{Records}
+use Rattle.run.specs.AnswerBytes.{Records}
 use Rattle.run.specs.Meaning.{When, Accepted, SomeOf, OfRow, OfRecord, OfClaim}
 
 -- the test holds exactly if the condition does

@@ -34,7 +34,7 @@ use Rattle.run.specs.Call.{Question, Call, lentBefore, stage, stageList,
 use Rattle.run.specs.Panel.{Panel, placeCheck}
 use Rattle.run.specs.Steps.{reply}
 use Rattle.run.specs.Book.{Book, rowIn, isBlank, blankCheck, slotRow, SlotTree, askedNumber, bookNumber}
-use Rattle.run.specs.Answers.{Image, AnswerIs}
+use Rattle.run.specs.AnswerBytes.{Image, AnswerIs}
 use Rattle.run.specs.Run.{panelAfter, bookAfter, answer}
 use Rattle.run.specs.Meaning.{Accepted, AtPlace, NotBlank, WithRoom, OfRow, OfRecord, OfClaim, MeansAsked, Means}
 use Rattle.run.proofs.Slots.{Holds, not-blank}

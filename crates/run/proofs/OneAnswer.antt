@@ -21,8 +21,10 @@ use Rattle.brackets.specs.Enclosed.{enclosed}
 use Rattle.brackets.specs.SameMeaning.{ShortestRow}
 use Rattle.run.specs.Image.{imageOf}
 use Rattle.run.specs.Call.{Question, Call, lentBefore, stage, stageList, switch, putRow, putRecord, putClaim, drop, ask, fetchRecord, fetchRow, image, build, repair, judge, yield, operand, shortestRow, Reply}
-use Rattle.run.specs.Book.{Book, slotRow, askedNumber}
-use Rattle.run.specs.Answers.{Lent, Valued, Records, Image, AnswerIs, Count, Part, Silent, Rest, Answers}
+use Rattle.run.specs.Book.{Book, slotRow}
+use Rattle.run.specs.AnswerBytes.{Records, Image, AnswerIs}
+use Rattle.run.specs.Answers.{Lent, Valued, Count, Part, Silent, Rest, Answers}
+use Rattle.run.proofs.OneNumber.{OfOne, means-one}
 
 -- replies with the same fields
 same-reply : (r s : Reply) → r .number ≡ s .number → r .length ≡ s .length → r .output ≡ s .output → r .count ≡ s .count → r .part ≡ s .part → r ≡ s
@@ -33,16 +35,12 @@ same-reply r s n l o c p =
     ∙ ap (λ x. record { number = s .number; length = s .length; output = s .output; count = x; part = r .part }) c
     ∙ ap (λ x. record { number = s .number; length = s .length; output = s .output; count = s .count; part = x }) p
 
--- the statement holds of one thing only
-abbrev OfOne : {A : Type 0} → (A → Type 0) → Type 0
-OfOne {A} Is = (x y : A) → Is x → Is y → x ≡ y
-
 one-valued : {A : Type 0} (number : ℕ) (Is : A → Type 0) (refused : A) → OfOne Is → OfOne (Valued number Is refused)
 one-valued number Is refused one x y f g = go (ℕ-discrete number accepted)
   where
     go : Dec (number ≡ accepted) → x ≡ y
-    go (yes z) = one x y (f .0 z) (g .0 z)
-    go (no z) = f .1 z ∙ sym (g .1 z)
+    go (yes z) = one x y (f .accepted z) (g .accepted z)
+    go (no z) = f .refused z ∙ sym (g .refused z)
 
 one-lent : (number : ℕ) (Is : List ℕ → Type 0) → OfOne Is → (before : List ℕ) (m n : ℕ) (x y : List ℕ)
     → Lent number Is before m x → Lent number Is before n y → (m ≡ n) × (x ≡ y)
@@ -50,11 +48,11 @@ one-lent number Is one before m n x y f g = go (ℕ-discrete number accepted)
   where
     go : Dec (number ≡ accepted) → (m ≡ n) × (x ≡ y)
     go (yes z) =
-        let (a, ia, la, oa) = f .0 z in
-        let (b, ib, lb, ob) = g .0 z in
+        let (a, ia, la, oa) = f .accepted z in
+        let (b, ib, lb, ob) = g .accepted z in
         let e = one a b ia ib in
         (la ∙ ap length e ∙ sym lb, oa ∙ ap (λ w. w ++ lists.drop (length w) before) e ∙ sym ob)
-    go (no z) = (f .1 z .0 ∙ sym (g .1 z .0), f .1 z .1 ∙ sym (g .1 z .1))
+    go (no z) = (f .refused z .0 ∙ sym (g .refused z .0), f .refused z .1 ∙ sym (g .refused z .1))
 
 module _ (b : Book) (one : EveryRowHasExactlyOne (b .operators) (b .rules)) where
   one-tree : (row : List ℕ) → OfOne (ConflictFreeTree (b .operators) (b .rules) row)
@@ -82,43 +80,43 @@ module _ (b : Book) (one : EveryRowHasExactlyOne (b .operators) (b .rules)) wher
   one-image k none x y e d = e ∙ sym d
   one-image k (some row) x y e d = one-built (slotRow b k) (λ t. imageOf (recordOf t)) x y e d
 
-  one-told : (q : Question) → OfOne (AnswerIs b q)
-  one-told (fetchRecord k out) x y e d = one-built (slotRow b k) recordOf x y e d
-  one-told (fetchRow k out) x y e d = e ∙ sym d
-  one-told (image k out) x y e d = one-image k (b .slots k) x y e d
-  one-told (build row out) x y e d = one-built row recordOf x y e d
-  one-told (repair bytes out) x y (t, u, r, h, e) (t′, u′, r′, h′, d) =
+  one-answer : (q : Question) → OfOne (AnswerIs b q)
+  one-answer (fetchRecord k out) x y e d = one-built (slotRow b k) recordOf x y e d
+  one-answer (fetchRow k out) x y e d = e ∙ sym d
+  one-answer (image k out) x y e d = one-image k (b .slots k) x y e d
+  one-answer (build row out) x y e d = one-built row recordOf x y e d
+  one-answer (repair bytes out) x y (t, u, r, h, e) (t′, u′, r′, h′, d) =
       let same = ap tree.yield (one-recorded bytes t t′ r r′) in
       e ∙ ap recordOf (one-tree (tree.yield t) u u′ h (subst (λ row. ConflictFreeTree (b .operators) (b .rules) row u′) (sym same) h′)) ∙ sym d
-  one-told (judge bytes) x y e d = e ∙ sym d
-  one-told (yield bytes out) x y e d = one-read bytes tree.yield x y e d
-  one-told (operand right bytes) x y e d = e ∙ sym d
-  one-told (shortestRow bytes out) x y (t, r, h) (t′, r′, h′) =
+  one-answer (judge bytes) x y e d = e ∙ sym d
+  one-answer (yield bytes out) x y e d = one-read bytes tree.yield x y e d
+  one-answer (operand right bytes) x y e d = e ∙ sym d
+  one-answer (shortestRow bytes out) x y (t, r, h) (t′, r′, h′) =
       one-shortest (tree.yield t) x y h (subst (λ row. ShortestRow (b .operators) (b .rules) row y) (sym (ap tree.yield (one-recorded bytes t t′ r r′))) h′)
 
-  one-count : (q : Question) → OfOne (Count b q)
-  one-count (judge bytes) x y e d =
-      one-valued (askedNumber b (judge bytes)) (λ c. (t : Tree) × Records b bytes t × (c ≡ conflictCount (b .rules) t)) 0 (one-read bytes (conflictCount (b .rules))) x y e d
-  one-count (fetchRecord k out) x y e d = e ∙ sym d
-  one-count (fetchRow k out) x y e d = e ∙ sym d
-  one-count (image k out) x y e d = e ∙ sym d
-  one-count (build row out) x y e d = e ∙ sym d
-  one-count (repair bytes out) x y e d = e ∙ sym d
-  one-count (yield bytes out) x y e d = e ∙ sym d
-  one-count (operand right bytes) x y e d = e ∙ sym d
-  one-count (shortestRow bytes out) x y e d = e ∙ sym d
+  one-count : (q : Question) (number : ℕ) → OfOne (Count b q number)
+  one-count (judge bytes) number x y e d =
+      one-valued number (λ c. (t : Tree) × Records b bytes t × (c ≡ conflictCount (b .rules) t)) 0 (one-read bytes (conflictCount (b .rules))) x y e d
+  one-count (fetchRecord k out) number x y e d = e ∙ sym d
+  one-count (fetchRow k out) number x y e d = e ∙ sym d
+  one-count (image k out) number x y e d = e ∙ sym d
+  one-count (build row out) number x y e d = e ∙ sym d
+  one-count (repair bytes out) number x y e d = e ∙ sym d
+  one-count (yield bytes out) number x y e d = e ∙ sym d
+  one-count (operand right bytes) number x y e d = e ∙ sym d
+  one-count (shortestRow bytes out) number x y e d = e ∙ sym d
 
-  one-part : (q : Question) → OfOne (Part b q)
-  one-part (operand right bytes) x y e d =
-      one-valued (askedNumber b (operand right bytes)) (λ p. (t : Tree) × Records b bytes t × (p ≡ operandRecord right t)) [] (one-read bytes (operandRecord right)) x y e d
-  one-part (fetchRecord k out) x y e d = e ∙ sym d
-  one-part (fetchRow k out) x y e d = e ∙ sym d
-  one-part (image k out) x y e d = e ∙ sym d
-  one-part (build row out) x y e d = e ∙ sym d
-  one-part (repair bytes out) x y e d = e ∙ sym d
-  one-part (judge bytes) x y e d = e ∙ sym d
-  one-part (yield bytes out) x y e d = e ∙ sym d
-  one-part (shortestRow bytes out) x y e d = e ∙ sym d
+  one-part : (q : Question) (number : ℕ) → OfOne (Part b q number)
+  one-part (operand right bytes) number x y e d =
+      one-valued number (λ p. (t : Tree) × Records b bytes t × (p ≡ operandRecord right t)) [] (one-read bytes (operandRecord right)) x y e d
+  one-part (fetchRecord k out) number x y e d = e ∙ sym d
+  one-part (fetchRow k out) number x y e d = e ∙ sym d
+  one-part (image k out) number x y e d = e ∙ sym d
+  one-part (build row out) number x y e d = e ∙ sym d
+  one-part (repair bytes out) number x y e d = e ∙ sym d
+  one-part (judge bytes) number x y e d = e ∙ sym d
+  one-part (yield bytes out) number x y e d = e ∙ sym d
+  one-part (shortestRow bytes out) number x y e d = e ∙ sym d
 
   silent-same : (r s : Reply) → r .number ≡ s .number → Silent b r → Silent b s → r ≡ s
   silent-same r s n f g = same-reply r s n (f .length ∙ sym (g .length)) (f .output ∙ sym (g .output)) (f .count ∙ sym (g .count)) (f .part ∙ sym (g .part))
@@ -132,8 +130,11 @@ module _ (b : Book) (one : EveryRowHasExactlyOne (b .operators) (b .rules)) wher
   rest-same (putClaim k row bytes) r s e f g = silent-same r s e f g
   rest-same (drop k) r s e f g = silent-same r s e f g
   rest-same (ask q) r s e f g =
-      let (l, o) = one-lent (askedNumber b q) (AnswerIs b q) (one-told q) (lentBefore q) (r .length) (s .length) (r .output) (s .output) (f .output) (g .output) in
-      same-reply r s e l o (one-count q (r .count) (s .count) (f .count) (g .count)) (one-part q (r .part) (s .part) (f .part) (g .part))
+      let output = subst (λ n. Lent n (AnswerIs b q) (lentBefore q) (s .length) (s .output)) (sym e) (g .output) in
+      let count = subst (λ n. Count b q n (s .count)) (sym e) (g .count) in
+      let part = subst (λ n. Part b q n (s .part)) (sym e) (g .part) in
+      let (l, o) = one-lent (r .number) (AnswerIs b q) (one-answer q) (lentBefore q) (r .length) (s .length) (r .output) (s .output) (f .output) output in
+      same-reply r s e l o (one-count q (r .number) (r .count) (s .count) (f .count) count) (one-part q (r .number) (r .part) (s .part) (f .part) part)
 
   pub answers-same : (c : Call) → OfOne (Answers b c)
-  answers-same c r s f g = rest-same c r s (f .number ∙ sym (g .number)) (f .rest) (g .rest)
+  answers-same c r s f g = rest-same c r s (means-one b c (r .number) (s .number) (f .number) (g .number)) (f .rest) (g .rest)

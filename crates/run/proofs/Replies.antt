@@ -30,21 +30,22 @@ use Rattle.run.specs.Call.{Question, Call, lentBefore, stage, stageList,
 use Rattle.run.specs.Panel.{Panel, placeCheck}
 use Rattle.run.specs.Steps.{ops, askedOutcome, outcome, reply}
 use Rattle.run.specs.Book.{Book, rowIn, isBlank, blankCheck, slotRow, SlotTree, askedNumber}
-use Rattle.run.specs.Answers.{Lent, Valued, Records, Image, AnswerIs, Count, Part, Answered, Silent, Rest, Answers}
+use Rattle.run.specs.AnswerBytes.{Records, Image, AnswerIs}
+use Rattle.run.specs.Answers.{Lent, Valued, Count, Part, Answered, Silent, Rest}
 use Rattle.run.proofs.Slots.{HeldTree, Holds, row-back, put-row-holds, put-record-holds}
 use Rattle.run.proofs.Stands.{Stands, filled, same-operators, same-asked, same-number}
 
 -- an answer that is what it should be where the call is accepted
-lent-answer : (number given : ℕ) → given ≡ number → (Is : List ℕ → Type 0) (answer before : List ℕ) → (number ≡ accepted → Is answer)
-    → Lent number Is before (lengthAfter given answer) (outputAfter given answer before)
-lent-answer number given e Is answer before f = (
-  λ z. (answer, f z, ap (λ x. lengthAfter x answer) (e ∙ z), ap (λ x. outputAfter x answer before) (e ∙ z)),
-  λ h. let z = ne-eqb given 0 (λ z. h (sym e ∙ z)) in (rw z, rw z),
-)
+lent-answer : (number : ℕ) (Is : List ℕ → Type 0) (answer before : List ℕ) → (number ≡ accepted → Is answer)
+    → Lent number Is before (lengthAfter number answer) (outputAfter number answer before)
+lent-answer number Is answer before f =
+    record {
+      accepted = λ z. (answer, f z, ap (λ x. lengthAfter x answer) z, ap (λ x. outputAfter x answer before) z);
+      refused = λ h. let z = ne-eqb number 0 h in (rw z, rw z);
+    }
 
-valued : {A : Type 0} (number given : ℕ) → given ≡ number → (Is : A → Type 0) (refused value : A) → (number ≡ accepted → Is value)
-    → Valued number Is refused (cond (eqb given accepted) value refused)
-valued number given e Is refused value f = (λ z. rw (e ∙ z) (f z), λ h. rw (ne-eqb given 0 (λ z. h (sym e ∙ z))))
+valued : {A : Type 0} (number : ℕ) (Is : A → Type 0) (instead value : A) → (number ≡ accepted → Is value) → Valued number Is instead (cond (eqb number accepted) value instead)
+valued number Is instead value f = record { accepted = λ z. rw z (f z); refused = λ h. rw (ne-eqb number 0 h) }
 
 -- nothing is nothing, accepted or not
 no-length : (x : Bool) → _≡_ {A = ℕ} (cond x 0 0) 0
@@ -128,29 +129,29 @@ module _ (p : Panel) (b : Book) (s : Stands p b) where
       let same = shortest-by-rules (p .sheet) (b .operators) (b .rules) (s .in-force) bytes ∙ ap (shortestBy (b .operators) (b .rules)) q in
       (t, r, subst (ShortestRow (b .operators) (b .rules) (tree.yield t)) (sym same) (shortest-of-tree (b .operators) (b .rules) (s .in-force .accepts) t (r .0)))
 
-  judge-count : (bytes : List ℕ) → Count b (judge bytes) (askedOutcome p (judge bytes) .count)
+  judge-count : (bytes : List ℕ) → Count b (judge bytes) (askedOutcome p (judge bytes) .number) (askedOutcome p (judge bytes) .count)
   unfolding judgement
   judge-count bytes =
-      valued (askedNumber b (judge bytes)) (recordNumber (ops p) bytes) (same-asked p b s (judge bytes)) (λ c. (t : Tree) × Records b bytes t × (c ≡ conflictCount (b .rules) t)) 0
+      valued (recordNumber (ops p) bytes) (λ c. (t : Tree) × Records b bytes t × (c ≡ conflictCount (b .rules) t)) 0
       (countIn (p .sheet) (treeOf (class (ops p)) bytes))
       (λ z.
-      let (t, r, q) = recorded bytes z in (
+      let (t, r, q) = recorded bytes (sym (same-asked p b s (judge bytes)) ∙ z) in (
         t,
         r,
         ap (λ o. countIn (p .sheet) (treeOf (class o) bytes)) (same-operators p b s) ∙ ap (countIn (p .sheet)) q
             ∙ sym (count-by-relation (p .sheet) (b .operators) (b .rules) (s .in-force) t (r .0)),
       ))
 
-  operand-part : (right : Bool) (bytes : List ℕ) → Part b (operand right bytes) (askedOutcome p (operand right bytes) .part)
+  operand-part : (right : Bool) (bytes : List ℕ) → Part b (operand right bytes) (askedOutcome p (operand right bytes) .number) (askedOutcome p (operand right bytes) .part)
   unfolding operandPart
   operand-part right bytes =
-      valued (askedNumber b (operand right bytes)) (recordNumber (ops p) bytes) (same-asked p b s (operand right bytes)) (λ x. (t : Tree) × Records b bytes t × (x ≡ operandRecord right t)) []
+      valued (recordNumber (ops p) bytes) (λ x. (t : Tree) × Records b bytes t × (x ≡ operandRecord right t)) []
       (operandIn right (treeOf (class (ops p)) bytes))
       (λ z.
-      let (t, r, q) = recorded bytes z in
+      let (t, r, q) = recorded bytes (sym (same-asked p b s (operand right bytes)) ∙ z) in
       (t, r, ap (λ o. operandIn right (treeOf (class o) bytes)) (same-operators p b s) ∙ ap (operandIn right) q))
 
-  count : (q : Question) → Count b q (askedOutcome p q .count)
+  count : (q : Question) → Count b q (askedOutcome p q .number) (askedOutcome p q .count)
   count (judge bytes) = judge-count bytes
   count (fetchRecord k out) = refl
   count (fetchRow k out) = refl
@@ -161,7 +162,7 @@ module _ (p : Panel) (b : Book) (s : Stands p b) where
   count (operand right bytes) = refl
   count (shortestRow bytes out) = refl
 
-  part : (q : Question) → Part b q (askedOutcome p q .part)
+  part : (q : Question) → Part b q (askedOutcome p q .number) (askedOutcome p q .part)
   part (operand right bytes) = operand-part right bytes
   part (fetchRecord k out) = refl
   part (fetchRow k out) = refl
@@ -175,7 +176,7 @@ module _ (p : Panel) (b : Book) (s : Stands p b) where
   pub answered : (q : Question) → Answered b q (reply p (ask q))
   answered q =
       record {
-        output = lent-answer (askedNumber b q) (askedOutcome p q .number) (same-asked p b s q) (AnswerIs b q) (askedOutcome p q .answer) (lentBefore q) (tells q);
+        output = lent-answer (askedOutcome p q .number) (AnswerIs b q) (askedOutcome p q .answer) (lentBefore q) (λ z. tells q (sym (same-asked p b s q) ∙ z));
         count = count q;
         part = part q;
       }
@@ -184,7 +185,8 @@ module _ (p : Panel) (b : Book) (s : Stands p b) where
   silent : (number : ℕ) → Silent b (record { number = number; length = lengthAfter number []; output = outputAfter number [] []; count = 0; part = [] })
   silent number = record { length = no-length (eqb number accepted); output = no-output (eqb number accepted); count = refl; part = refl }
 
-  rest : (c : Call) → Rest b c (reply p c)
+  -- The reply but for its number.
+  pub rest : (c : Call) → Rest b c (reply p c)
   rest (stage n bytes) = silent (outcome p (stage n bytes) .number)
   rest (stageList n kinds rules) = silent (outcome p (stageList n kinds rules) .number)
   rest switch = silent (outcome p switch .number)
@@ -193,6 +195,3 @@ module _ (p : Panel) (b : Book) (s : Stands p b) where
   rest (putClaim k row bytes) = silent (outcome p (putClaim k row bytes) .number)
   rest (drop k) = silent (outcome p (drop k) .number)
   rest (ask q) = answered q
-
-  pub answers : (c : Call) → Answers b c (reply p c)
-  answers c = record { number = same-number p b s c; rest = rest c }

@@ -4,8 +4,9 @@ pub mod Call
 pub mod Panel
 pub mod Steps
 pub mod Book
-pub mod Answers
+pub mod AnswerBytes
 pub mod Meaning
+pub mod Answers
 pub mod Run
 pub mod Promises
 pub mod Requests

@@ -19,7 +19,7 @@ use Rattle.disambiguation.specs.SheetChecks.{rulesIn, operatorsIn}
 use Rattle.run.specs.Places.{placeCount}
 use Rattle.run.specs.Call.{Question, Call, lentBefore, stage, stageList, switch, putRow, putRecord, putClaim, drop, ask, fetchRecord, fetchRow, image, build, repair, judge, yield, operand, shortestRow}
 use Rattle.run.specs.Book.{Sheet, Book}
-use Rattle.run.specs.Answers.{Records, AnswerIs}
+use Rattle.run.specs.AnswerBytes.{Records, AnswerIs}
 
 -- Where the condition holds, the number is this one; where it does not, what follows tells the number.
 abbrev pub When : Type 0 → ℕ → (ℕ → Type 0) → ℕ → Type 0

@@ -6,7 +6,7 @@ use Prim.Native.Nat.{ℕ, _≤_}
 use mathlib.Core.Path.{_≡_}
 use mathlib.Core.Logic.{_↔_, _⊎_}
 use mathlib.Core.Option.{some}
-use mathlib.Core.List.{List, _∷_}
+use mathlib.Core.List.{List, _∷_, _++_}
 use lib.ListN.{length}
 use Rattle.expression.specs.Limits.{mostTokens, mostRecordBytes}
 use Rattle.expression.specs.Refusal.{accepted, dead, double}
@@ -17,12 +17,12 @@ use Rattle.expression.specs.Tree as tree
 use Rattle.disambiguation.specs.Rules.{Rule}
 use Rattle.disambiguation.specs.Conflicts.{conflictCount, ConflictFreeTree}
 use Rattle.disambiguation.specs.ExactlyOne.{SomeRowHasNone, SomeRowHasTwo, EveryRowHasExactlyOne}
-use Rattle.disambiguation.specs.SheetChecks.{rulesIn, operatorsIn, InOrder, ListInOrder}
+use Rattle.disambiguation.specs.SheetChecks.{ruleBytes, rulesIn, operatorsIn, InOrder, ListInOrder}
 use Rattle.sheet.specs.InForce.{InForce}
 use Rattle.run.specs.Call.{Call, Reply, lentTo, stage, stageList, switch, putRecord, ask, build, repair, judge, yield}
 use Rattle.run.specs.Panel.{Panel}
 use Rattle.run.specs.Steps.{after, reply}
-use Rattle.run.specs.Book.{sheetBy}
+use Rattle.run.specs.Book.{sheetBy, bookNumber}
 use Rattle.run.specs.Answers.{Answers}
 use Rattle.run.specs.Meaning.{Means}
 use Rattle.run.specs.Run.{panelAfter, answer, bookAfter, inForce, lastPut, Each, AnsweredBy, HoldsTree, Filled, RepairsTo}
@@ -90,8 +90,9 @@ module _ (cs : List Call) where
     pub answered : Each (λ before c. Answers (bookAfter before) c (answer before c)) cs
     -- and the book gives one answer.
     pub one-answer : (c : Call) (r s : Reply) → Answers (bookAfter cs) c r → Answers (bookAfter cs) c s → r ≡ s
-    -- Each number is given under its condition, and under nothing else.
+    -- Each number is given under its condition, and under nothing else; and so is the one by which the book finds that a call is accepted.
     pub numbers : Each (λ before c. Means (bookAfter before) c (answer before c .number)) cs
+    pub book-number : (c : Call) (number : ℕ) → Means (bookAfter cs) c number ↔ (number ≡ bookNumber (bookAfter cs) c)
     -- A switch keeps the length of every held record.
     pub same-lengths : (k : ℕ) (t u : Tree) → HoldsTree cs k t → HoldsTree (switch ∷ cs) k u → length (recordOf t) ≡ length (recordOf u)
     -- A sheet in order is refused for its rules exactly when some row of any length has no conflict-free tree under it, or two or more: in bytes,
@@ -100,6 +101,10 @@ module _ (cs : List Call) where
     -- and with its kinds and rules as lists.
     pub refused-list : (m : ℕ) (kinds : List ℕ) (given : List Rule) → ListInOrder m kinds given
         → ForItsRules (answer cs (stageList m kinds given) .number) ↔ SomeRowFails (operators m kinds) given
+    -- Both forms of a staging, with as many kinds as operators, give equal answers and leave the same panel.
+    pub both-forms : (m : ℕ) (kinds : List ℕ) (given : List Rule) → length kinds ≡ m
+        → (answer cs (stageList m kinds given) ≡ answer cs (stage m (kinds ++ ruleBytes given)))
+        × (panelAfter (stageList m kinds given ∷ cs) ≡ panelAfter (stage m (kinds ++ ruleBytes given) ∷ cs))
     -- Two trees over the operators of the sheet in force, within the lengths, repair to the same bytes exactly when their rows are the same.
     pub same-bytes : (t u : Tree) → Over (class ops) t → Over (class ops) u → Within t → Within u
         → ((bytes : List ℕ) × RepairsTo cs t bytes × RepairsTo cs u bytes) ↔ (tree.yield t ≡ tree.yield u)

@@ -35,6 +35,17 @@ numbered number = record { number = number; answer = []; count = 0; part = [] }
 abbrev pub answered : ℕ → List ℕ → Outcome
 answered number answer = record { number = number; answer = answer; count = 0; part = [] }
 
+-- The reply, where this was lent: the output past the answer's bytes, and after a refusal all of it, is as before.
+abbrev pub replyOf : Outcome → List ℕ → Reply
+replyOf o before =
+    record {
+      number = o .number;
+      length = lengthAfter (o .number) (o .answer);
+      output = outputAfter (o .number) (o .answer) before;
+      count = o .count;
+      part = o .part;
+    }
+
 module _ (p : Panel) where
   abbrev pub ops : Operators
   ops = operatorsOf (p .sheet)
@@ -126,13 +137,5 @@ module _ (p : Panel) where
   outcome (drop k) = numbered (dropNumber k)
   outcome (ask q) = askedOutcome q
 
-  -- The reply: the output past the answer's bytes, and after a refusal all of it, is as before.
   abbrev pub reply : Call → Reply
-  reply c =
-      record {
-        number = outcome c .number;
-        length = lengthAfter (outcome c .number) (outcome c .answer);
-        output = outputAfter (outcome c .number) (outcome c .answer) (lentTo c);
-        count = outcome c .count;
-        part = outcome c .part;
-      }
+  reply c = replyOf (outcome c) (lentTo c)
