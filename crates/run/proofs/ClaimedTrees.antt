@@ -25,12 +25,15 @@ use Rattle.claims.specs.Claims.{Claimed, pairChecksBy, claimNumber}
 use Rattle.claims.proofs.Accepting.{accepted-exactly-if, conflict-in-row}
 use Rattle.claims.proofs.InForceClaims.{claimed-exactly-if-built}
 use Rattle.run.specs.Promises.{ops, rules}
+use Rattle.expression.proofs.Cond.{by-cond}
+use Rattle.disambiguation.specs.Conflicts.{ConflictFreeTree}
+use Rattle.run.specs.Book.{Sheet}
 use Rattle.run.specs.Places.{placeCount, stored}
 use Rattle.run.specs.Call.{Call, putRow, putClaim, ask, fetchRecord, build}
 use Rattle.run.specs.Panel.{placeCheck}
 use Rattle.run.specs.Steps.{putRowNumber, placesAfterRow, placesAfterClaim, withPlaces}
 use Rattle.run.specs.Steps as steps
-use Rattle.run.specs.Run.{panelAfter, answer, bookAfter, inForce, lastPut, AnsweredBy}
+use Rattle.run.specs.Run.{isAccepted, lastSaid, panelAfter, answer, bookAfter, inForce, lastPut, AnsweredBy}
 use Rattle.run.specs.Requests.{ClaimedTrees}
 use Rattle.run.proofs.Stands.{same-number}
 use Rattle.run.proofs.Replies.{place-passed}
@@ -99,14 +102,18 @@ module _ (cs : List Call) (k : ℕ) (row bytes : List ℕ) where
   -- ---- an accepted claim
   module _ (z : answer cs claim .number ≡ accepted) where
     last-put : lastPut k (claim ∷ cs) ≡ some row
-    unfolding lastPut
+    unfolding lastPut lastSaid
     last-put = rw (z, eq-eqb k k refl) refl
 
+    same-sheet : inForce (claim ∷ cs) ≡ inForce cs
+    unfolding inForce lastSaid
+    same-sheet = by-cond (λ (s : Sheet). s ≡ inForce cs) (isAccepted cs claim) (λ _. refl) (λ _. refl)
+
     held-as-sent : (out : List ℕ) → length bytes ≤ length out → AnsweredBy (claim ∷ cs) (ask (fetchRecord k out)) out bytes
-    unfolding inForce
     held-as-sent out l =
         let (_, _, (u, d, e)) = claimed-exactly-if .0 z in
-        let (t, c, h) = holds-last-put (claim ∷ cs) k row last-put in
+        let (t, there, h) = holds-last-put (claim ∷ cs) k row last-put in
+        let c = subst (λ (s : Sheet). ConflictFreeTree (s .operators) (s .rules) row t) same-sheet there in
         let same : recordOf t ≡ bytes = ap recordOf (one-tree (panelAfter cs .sheet) (ops cs) (rules cs) (sheet-in-force cs) row t u c d) ∙ e in
         subst (AnsweredBy (claim ∷ cs) (ask (fetchRecord k out)) out) same (h .fetches-record out (omega (arith, ap length same)))
 

@@ -28,7 +28,6 @@ use Rattle.run.specs.AnswerBytes.{Records}
 use Rattle.run.specs.Run.{panelAfter, answer, bookAfter, AnsweredBy}
 use Rattle.run.specs.Promises.{Within, Demand2, ops, rules}
 use Rattle.run.proofs.Slots.{HeldTree, bytes-long, put-row-holds, put-record-holds}
-use Rattle.run.proofs.Stands.{same-number}
 use Rattle.run.proofs.Replies.{rest}
 use Rattle.run.proofs.Histories.{stands}
 use Rattle.run.proofs.Placed.{same-ops, same-rules, sheet-in-force, within-accepted, answered-by, repair-accepted}

@@ -32,7 +32,7 @@ use Rattle.run.specs.Panel.{rebuilt}
 use Rattle.run.specs.Steps.{numbered, replyOf}
 use Rattle.run.specs.Book.{bookNumber}
 use Rattle.run.specs.Answers.{Answers}
-use Rattle.run.specs.Run.{panelAfter, answer, bookAfter, lastPut, Each, RepairsTo}
+use Rattle.run.specs.Run.{lastSaid, panelAfter, answer, bookAfter, lastPut, Each, RepairsTo}
 use Rattle.run.specs.Meaning.{Means}
 use Rattle.run.specs.Promises.{Within, ForItsRules, Demand3, ops, rules}
 use Rattle.run.proofs.Stands.{same-number}
@@ -73,7 +73,7 @@ each-means (c ∷ cs) = (means cs c, each-means cs)
 module _ (cs : List Call) where
   record-entered : (k : ℕ) (t : Tree) → Over (class (ops cs)) t → answer cs (putRecord k (recordOf t)) .number ≡ accepted
       → lastPut k (putRecord k (recordOf t) ∷ cs) ≡ some (tree.yield t)
-  unfolding lastPut
+  unfolding lastPut lastSaid
   record-entered k t over z = rw (z, eq-eqb k k refl) (ap (λ x. some (rowOf x)) (treeOf-record (class (ops cs)) (brackets (ops cs)) t over))
 
   book-answers-one : (c : Call) (r s : Reply) → Answers (bookAfter cs) c r → Answers (bookAfter cs) c s → r ≡ s

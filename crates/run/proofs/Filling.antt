@@ -3,7 +3,7 @@ use Prim.Native.Nat.{ℕ, _≤_, _<_}
 use native.Mathlib.Omega.{arith}
 use native.Mathlib.Decide.{decLt}
 use mathlib.Core.Path.{_≡_, refl, sym, _∙_}
-use mathlib.Core.Bool.{Bool, true, false, _&&_, cond, true≢false}
+use mathlib.Core.Bool.{Bool, true, false, cond, true≢false}
 use mathlib.Core.Logic.{_↔_}
 use mathlib.Core.Option.{Option, none, some, Option·none-ne-some}
 use mathlib.Core.List.{List, [], _∷_}
@@ -11,19 +11,17 @@ use lib.Dec.{eqb}
 use lib.ListN.{length}
 use borrow.Author.Tests.{le-ltb, eqb-true}
 use Rattle.expression.specs.Refusal.{Check, first, accepted}
-use Rattle.expression.specs.Token.{class}
 use Rattle.expression.specs.Tree.{Tree, recordOf}
-use Rattle.expression.specs.Decode.{treeOf}
-use Rattle.expression.specs.Operand.{rowOf}
 use Rattle.expression.specs.Checks.{shortCheck, recordBytes, rowChecks, recordChecks}
 use Rattle.disambiguation.specs.Conflicts.{ConflictFreeTree}
 use Rattle.claims.specs.Claims.{pairChecksIn}
+use Rattle.expression.proofs.Cond.{by-cond}
 use Rattle.run.specs.Places.{placeCount}
 use Rattle.run.specs.Call.{Call, stage, stageList, switch, putRow, putRecord, putClaim, drop, ask, fetchRecord}
 use Rattle.run.specs.Panel.{placeCheck}
 use Rattle.run.specs.Steps.{ops, putRowNumber, putRecordNumber, putClaimNumber}
 use Rattle.run.specs.Book.{blankCheck, slotRow}
-use Rattle.run.specs.Run.{panelAfter, bookAfter, isAccepted, inForce, lastPut, HoldsTree, Filled}
+use Rattle.run.specs.Run.{panelAfter, bookAfter, isAccepted, orElse, lastSaid, inForce, lastPut, HoldsTree, Filled}
 use Rattle.run.proofs.Slots.{not-blank}
 use Rattle.run.proofs.Stands.{same-number}
 use Rattle.run.proofs.Replies.{place-passed, blank-passed}
@@ -46,37 +44,31 @@ claim-refused : (k : ℕ) (row bytes : List ℕ) (cs : List Call) → placeCount
 unfolding putClaimNumber
 claim-refused k row bytes cs h = over k (pairChecksIn (panelAfter cs .sheet) row bytes) h
 
--- an entry at another place, or one that is refused, leaves the slot blank
-blank-still : (k j : ℕ) (x : Bool) (slot old : Option (List ℕ)) → (k ≡ j → x ≡ false) → old ≡ none → cond (x && eqb k j) slot old ≡ none
-blank-still k j x slot old f e = go (eqb k j) refl
-  where
-    none-of : (x : Bool) → x ≡ false → cond (x && true) slot old ≡ none
-    none-of true h = absurd (true≢false h)
-    none-of false h = e
+-- so no call says that something was put there
+nothing-said : (x y : Bool) (slot old : Option (List ℕ)) → (y ≡ true → x ≡ false) → old ≡ none → cond x (orElse (cond y (some slot) none) old) old ≡ none
+nothing-said true true slot old f e = absurd (true≢false (f refl))
+nothing-said true false slot old f e = e
+nothing-said false y slot old f e = e
 
-    either : (x : Bool) → cond (x && false) slot old ≡ none
-    either true = e
-    either false = e
-
-    go : (y : Bool) → eqb k j ≡ y → cond (x && y) slot old ≡ none
-    go true h = none-of x (f (eqb-true k j h))
-    go false h = either x
-
-either-none : (x : Bool) (old : Option (List ℕ)) → old ≡ none → cond x none old ≡ none
-either-none true old e = refl
-either-none false old e = e
+either-none : (x y : Bool) (old : Option (List ℕ)) → old ≡ none → cond x (orElse (cond y (some none) none) old) old ≡ none
+either-none true true old e = refl
+either-none true false old e = e
+either-none false y old e = e
 
 beyond : (k : ℕ) → placeCount ≤ k → (cs : List Call) → lastPut k cs ≡ none
-unfolding lastPut
+unfolding lastPut lastSaid
 beyond k h [] = refl
-beyond k h (stage n bytes ∷ cs) = beyond k h cs
-beyond k h (stageList n kinds rules ∷ cs) = beyond k h cs
-beyond k h (switch ∷ cs) = beyond k h cs
-beyond k h (putRow j row ∷ cs) = blank-still k j (isAccepted cs (putRow j row)) (some row) (lastPut k cs) (λ e. row-refused j row cs (omega arith)) (beyond k h cs)
-beyond k h (putRecord j bytes ∷ cs) = blank-still k j (isAccepted cs (putRecord j bytes)) (some (rowOf (treeOf (class (inForce cs .operators)) bytes))) (lastPut k cs) (λ e. record-refused j bytes cs (omega arith)) (beyond k h cs)
-beyond k h (putClaim j row bytes ∷ cs) = blank-still k j (isAccepted cs (putClaim j row bytes)) (some row) (lastPut k cs) (λ e. claim-refused j row bytes cs (omega arith)) (beyond k h cs)
-beyond k h (drop j ∷ cs) = either-none (isAccepted cs (drop j) && eqb k j) (lastPut k cs) (beyond k h cs)
-beyond k h (ask q ∷ cs) = beyond k h cs
+beyond k h (stage n bytes ∷ cs) = by-cond (λ slot. slot ≡ none) (isAccepted cs (stage n bytes)) (λ _. beyond k h cs) (λ _. beyond k h cs)
+beyond k h (stageList n kinds rules ∷ cs) = by-cond (λ slot. slot ≡ none) (isAccepted cs (stageList n kinds rules)) (λ _. beyond k h cs) (λ _. beyond k h cs)
+beyond k h (switch ∷ cs) = by-cond (λ slot. slot ≡ none) (isAccepted cs switch) (λ _. beyond k h cs) (λ _. beyond k h cs)
+beyond k h (putRow j row ∷ cs) =
+    nothing-said (isAccepted cs (putRow j row)) (eqb k j) _ _ (λ e. row-refused j row cs (omega (arith, eqb-true k j e))) (beyond k h cs)
+beyond k h (putRecord j bytes ∷ cs) =
+    nothing-said (isAccepted cs (putRecord j bytes)) (eqb k j) _ _ (λ e. record-refused j bytes cs (omega (arith, eqb-true k j e))) (beyond k h cs)
+beyond k h (putClaim j row bytes ∷ cs) =
+    nothing-said (isAccepted cs (putClaim j row bytes)) (eqb k j) _ _ (λ e. claim-refused j row bytes cs (omega (arith, eqb-true k j e))) (beyond k h cs)
+beyond k h (drop j ∷ cs) = either-none (isAccepted cs (drop j)) (eqb k j) _ (beyond k h cs)
+beyond k h (ask q ∷ cs) = by-cond (λ slot. slot ≡ none) (isAccepted cs (ask q)) (λ _. beyond k h cs) (λ _. beyond k h cs)
 
 pub put-below : (k : ℕ) (cs : List Call) (row : List ℕ) → lastPut k cs ≡ some row → k < placeCount
 put-below k cs row q = go (decLt k placeCount)

@@ -33,7 +33,7 @@ use Rattle.run.specs.Book.{Book, rowIn, isBlank, blankCheck, slotRow, Sl
 use Rattle.run.specs.AnswerBytes.{Records, Image, AnswerIs}
 use Rattle.run.specs.Answers.{Lent, Valued, Count, Part, Answered, Silent, Rest}
 use Rattle.run.proofs.Slots.{HeldTree, Holds, row-back, put-row-holds, put-record-holds}
-use Rattle.run.proofs.Stands.{Stands, filled, same-operators, same-asked, same-number}
+use Rattle.run.proofs.Stands.{Stands, filled, same-operators, same-asked}
 
 -- an answer that is what it should be where the call is accepted
 lent-answer : (number : ℕ) (Is : List ℕ → Type 0) (answer before : List ℕ) → (number ≡ accepted → Is answer)

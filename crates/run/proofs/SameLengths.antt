@@ -10,9 +10,10 @@ use Rattle.expression.specs.Tree.{Tree, recordOf}
 use Rattle.expression.specs.Checks.{recordBytes}
 use Rattle.expression.proofs.Classes.{brackets}
 use Rattle.expression.proofs.Lengths.{record-length}
+use Rattle.expression.proofs.Cond.{by-cond}
 use Rattle.run.specs.Promises.{ops}
 use Rattle.run.specs.Call.{Call, switch}
-use Rattle.run.specs.Run.{lastPut, HoldsTree}
+use Rattle.run.specs.Run.{isAccepted, lastSaid, lastPut, HoldsTree}
 use Rattle.run.proofs.Filling.{holds-last-put, filled-exactly-if-put}
 
 -- A held record is as long as a record of the row that was put last.
@@ -24,7 +25,7 @@ held-length cs k t row h q =
     ∙ record-length (class (ops cs)) (brackets (ops cs)) v (c .over) ∙ ap recordBytes (c .yields)
 
 pub switch-keeps-lengths : (cs : List Call) (k : ℕ) (t u : Tree) → HoldsTree cs k t → HoldsTree (switch ∷ cs) k u → length (recordOf t) ≡ length (recordOf u)
-unfolding lastPut
+unfolding lastPut lastSaid
 switch-keeps-lengths cs k t u h g =
     let (row, q) = filled-exactly-if-put cs k .0 (t, h) in
-    held-length cs k t row h q ∙ sym (held-length (switch ∷ cs) k u row g q)
+    held-length cs k t row h q ∙ sym (held-length (switch ∷ cs) k u row g (by-cond (λ slot. slot ≡ some row) (isAccepted cs switch) (λ _. q) (λ _. q)))

@@ -18,7 +18,7 @@ use Rattle.run.specs.Call.{Question, Call, stage, stageList, switch, put
 use Rattle.run.specs.Panel.{Panel, inUseCheck}
 use Rattle.run.specs.Steps.{putRowNumber, putRecordNumber, putClaimNumber, dropNumber, fetchRecordNumber, fetchRowNumber, imageNumber, withStaged, askedOutcome, reply}
 use Rattle.run.specs.Book.{Sheet, slotRow, notedNumber}
-use Rattle.run.specs.Run.{panelAfter, answer, bookAfter, lastStaged, inForce, IsStaging}
+use Rattle.run.specs.Run.{lastSaid, panelAfter, answer, bookAfter, lastStaged, inForce, IsStaging}
 use Rattle.run.specs.Requests.{StageThenSwitch}
 use Rattle.run.proofs.Stands.{same-number}
 use Rattle.run.proofs.Histories.{stands, book-note}
@@ -96,7 +96,7 @@ module _ (cs : List Call) where
   noted (some s) e = (s, refl)
 
   switched : answer cs switch .number ≡ accepted → (s : Sheet) × (lastStaged cs ≡ some s) × (inForce (switch ∷ cs) ≡ s) × (lastStaged (switch ∷ cs) ≡ none)
-  unfolding inForce lastStaged
+  unfolding inForce lastStaged lastSaid
   switched z = let (s, e) = noted (lastStaged cs) (sym switch-number ∙ z) in go s e
     where
       go : (s : Sheet) → lastStaged cs ≡ some s → (s : Sheet) × (lastStaged cs ≡ some s) × (inForce (switch ∷ cs) ≡ s) × (lastStaged (switch ∷ cs) ≡ none)

@@ -1,14 +1,14 @@
 -- Runs of calls from the fresh panel, and demand 3's words for them. A list of calls has the last one first. Assumes nothing.
 use Prim.Native.Nat.{ℕ, _≤_}
 use mathlib.Core.Path.{_≡_}
-use mathlib.Core.Bool.{Bool, _&&_, cond}
+use mathlib.Core.Bool.{Bool, cond}
 use mathlib.Core.Option.{Option, none, some}
 use mathlib.Core.List.{List, [], _∷_, _++_}
 use lib.Dec.{eqb}
 use lib.ListN.{length}
 use lib.ListN as lists
 use Rattle.expression.specs.Refusal.{accepted}
-use Rattle.expression.specs.Token.{operators, class}
+use Rattle.expression.specs.Token.{Operators, operators, class}
 use Rattle.expression.specs.Tree.{Tree, recordOf}
 use Rattle.expression.specs.Tree as tree
 use Rattle.expression.specs.Decode.{treeOf}
@@ -38,46 +38,61 @@ bookAfter (c ∷ cs) = next (bookAfter cs) c
 abbrev pub isAccepted : List Call → Call → Bool
 isAccepted cs c = eqb (answer cs c .number) accepted
 
--- What is staged, said of the list: the sheet of the last accepted staging; none where there was no such staging, or a switch was accepted since.
-unfoldable pub lastStaged : List Call → Option Sheet
-lastStaged [] = none
-lastStaged (stage n bytes ∷ cs) = cond (isAccepted cs (stage n bytes)) (some (sheetBy (operatorsIn n bytes) (rulesIn n bytes))) (lastStaged cs)
-lastStaged (stageList n kinds rules ∷ cs) = cond (isAccepted cs (stageList n kinds rules)) (some (sheetBy (operators n kinds) rules)) (lastStaged cs)
-lastStaged (switch ∷ cs) = cond (isAccepted cs switch) none (lastStaged cs)
-lastStaged (putRow k row ∷ cs) = lastStaged cs
-lastStaged (putRecord k bytes ∷ cs) = lastStaged cs
-lastStaged (putClaim k row bytes ∷ cs) = lastStaged cs
-lastStaged (drop k ∷ cs) = lastStaged cs
-lastStaged (ask q ∷ cs) = lastStaged cs
-
--- the sheet of an option, or the other
-abbrev pub orElse : Option Sheet → Sheet → Sheet
+-- what is said, or else the other
+abbrev pub orElse : {A : Type 0} → Option A → A → A
 orElse none other = other
-orElse (some s) other = s
+orElse (some x) other = x
 
--- The sheet in force, said of the list: what was staged at the last accepted switch, which is never nothing, or the fresh panel's.
+-- What the last accepted call that says something of a matter said of it; where there is none, what holds at first. `says cs c` is what c says of it after the calls cs,
+-- and none where it says nothing.
+unfoldable pub lastSaid : {A : Type 0} → (List Call → Call → Option A) → A → List Call → A
+lastSaid says first [] = first
+lastSaid says first (c ∷ cs) = cond (isAccepted cs c) (orElse (says cs c) (lastSaid says first cs)) (lastSaid says first cs)
+
+-- Of the stage: a staging says that its sheet is staged, a switch that nothing is.
+abbrev pub saysStaged : Call → Option (Option Sheet)
+saysStaged (stage n bytes) = some (some (sheetBy (operatorsIn n bytes) (rulesIn n bytes)))
+saysStaged (stageList n kinds rules) = some (some (sheetBy (operators n kinds) rules))
+saysStaged switch = some none
+saysStaged (putRow k row) = none
+saysStaged (putRecord k bytes) = none
+saysStaged (putClaim k row bytes) = none
+saysStaged (drop k) = none
+saysStaged (ask q) = none
+
+-- what is staged: the sheet of the last accepted staging, unless a switch was accepted since
+unfoldable pub lastStaged : List Call → Option Sheet
+lastStaged cs = lastSaid (λ before c. saysStaged c) none cs
+
+-- Of the sheet in force: a switch says that what was staged then, which is never nothing, is in force.
+abbrev pub saysInForce : Option Sheet → Call → Option Sheet
+saysInForce staged switch = staged
+saysInForce staged (stage n bytes) = none
+saysInForce staged (stageList n kinds rules) = none
+saysInForce staged (putRow k row) = none
+saysInForce staged (putRecord k bytes) = none
+saysInForce staged (putClaim k row bytes) = none
+saysInForce staged (drop k) = none
+saysInForce staged (ask q) = none
+
+-- the sheet in force: what was staged at the last accepted switch, or the fresh panel's
 unfoldable pub inForce : List Call → Sheet
-inForce [] = sheetBy (operators 0 []) []
-inForce (stage n bytes ∷ cs) = inForce cs
-inForce (stageList n kinds rules ∷ cs) = inForce cs
-inForce (switch ∷ cs) = cond (isAccepted cs switch) (orElse (lastStaged cs) (inForce cs)) (inForce cs)
-inForce (putRow k row ∷ cs) = inForce cs
-inForce (putRecord k bytes ∷ cs) = inForce cs
-inForce (putClaim k row bytes ∷ cs) = inForce cs
-inForce (drop k ∷ cs) = inForce cs
-inForce (ask q ∷ cs) = inForce cs
+inForce cs = lastSaid (λ before c. saysInForce (lastStaged before) c) (sheetBy (operators 0 []) []) cs
 
--- The row, or the record's row, of the last accepted put at the place k; none where there was no such put, or a drop there was accepted since.
+-- Of the place k: a put there says that its row, or its record's row under the operators in force, was put, a drop there that nothing is.
+abbrev pub saysPut : ℕ → Operators → Call → Option (Option (List ℕ))
+saysPut k ops (putRow j row) = cond (eqb k j) (some (some row)) none
+saysPut k ops (putRecord j bytes) = cond (eqb k j) (some (some (rowOf (treeOf (class ops) bytes)))) none
+saysPut k ops (putClaim j row bytes) = cond (eqb k j) (some (some row)) none
+saysPut k ops (drop j) = cond (eqb k j) (some none) none
+saysPut k ops (stage n bytes) = none
+saysPut k ops (stageList n kinds rules) = none
+saysPut k ops switch = none
+saysPut k ops (ask q) = none
+
+-- the row, or the record's row, of the last accepted put at the place k; none where there was no such put, or a drop there was accepted since
 unfoldable pub lastPut : ℕ → List Call → Option (List ℕ)
-lastPut k [] = none
-lastPut k (putRow j row ∷ cs) = cond (isAccepted cs (putRow j row) && eqb k j) (some row) (lastPut k cs)
-lastPut k (putRecord j bytes ∷ cs) = cond (isAccepted cs (putRecord j bytes) && eqb k j) (some (rowOf (treeOf (class (inForce cs .operators)) bytes))) (lastPut k cs)
-lastPut k (putClaim j row bytes ∷ cs) = cond (isAccepted cs (putClaim j row bytes) && eqb k j) (some row) (lastPut k cs)
-lastPut k (drop j ∷ cs) = cond (isAccepted cs (drop j) && eqb k j) none (lastPut k cs)
-lastPut k (stage n bytes ∷ cs) = lastPut k cs
-lastPut k (stageList n kinds rules ∷ cs) = lastPut k cs
-lastPut k (switch ∷ cs) = lastPut k cs
-lastPut k (ask q ∷ cs) = lastPut k cs
+lastPut k cs = lastSaid (λ before c. saysPut k (inForce before .operators) c) none cs
 
 -- the statement holds of each element of a list, with those before it: they follow it in the list
 abbrev pub Each : {A : Type 0} → (List A → A → Type 0) → List A → Type 0
