@@ -3,7 +3,7 @@ use Prim.Native.Nat.{ℕ}
 use mathlib.Core.Path.{_≡_, refl, ap, ap₂, sym, _∙_}
 use mathlib.Core.Bool.{Bool, true, false, cond}
 use mathlib.Core.List.{List, [], _∷_, _++_, append-nil}
-use Rattle.expression.specs.Lists.{All}
+use Rattle.expression.specs.Lists.{kept, All}
 use Rattle.expression.specs.Token.{Class, Infix, Prefix, Opening, Closing, Reading, opening, closing}
 use Rattle.expression.specs.Tree.{Tree, reading, bracket, binary, prefix, yield, Over}
 use Rattle.expression.proofs.Classes.{Brackets}
@@ -79,10 +79,6 @@ on-top P (binary o l r) h = (all-right P (inTurn l) (o ∷ inTurn r) h .0, tt)
 on-top P (prefix p t) h = tt
 
 -- they are those of its row
-abbrev kept : (ℕ → Bool) → List ℕ → List ℕ
-kept p [] = []
-kept p (x ∷ xs) = cond (p x) (x ∷ kept p xs) (kept p xs)
-
 kept-append : (p : ℕ → Bool) (xs ys : List ℕ) → kept p (xs ++ ys) ≡ kept p xs ++ kept p ys
 kept-append p [] ys = refl
 kept-append p (x ∷ xs) ys = go (p x) (kept-append p xs ys)

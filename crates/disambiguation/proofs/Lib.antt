@@ -15,6 +15,8 @@ pub mod FirstBelow
 pub mod Chains
 pub mod LeadsDecided
 pub mod TestsDecide
+pub mod JudgeAlike
+pub mod OtherRules
 pub mod Witnesses
 pub mod VerdictDecides
 pub mod Shown

@@ -51,6 +51,8 @@ prefix-cases-hold =
     next (binary 0 (prefix 1 w) (prefix 1 x), (refl, refl), refl)
     next (prefix 1 loose, (refl, refl), refl)
     next (binary 0 (binary 2 w x) (binary 2 y z), (refl, refl), refl)
+    next (binary 0 (binary 3 w x) (binary 3 y z), (refl, refl), refl)
+    next (binary 0 (binary 3 w x) (binary 3 y z), (refl, refl), refl)
     next refl next refl next refl next refl next refl next refl
     next refl next refl next refl next refl next refl
     next refl next refl next refl next refl next refl

@@ -107,7 +107,7 @@ module _ (ops : Operators) where
         go true = refl
         go false = refl
 
-    is-infix : (b : ℕ) → b < ops .count → comes ops b ≡ true → class ops b ≡ Infix
+    pub is-infix : (b : ℕ) → b < ops .count → comes ops b ≡ true → class ops b ≡ Infix
     is-infix b h e = is-left b h ∙ ap (λ (x : Bool). cond (not x) Prefix Infix) e
 
     module _ (L R : ℕ → ℕ → Bool) (a b : ℕ) (hb : b < ops .count) where

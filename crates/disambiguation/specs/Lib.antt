@@ -6,6 +6,7 @@ pub mod Conflicts
 pub mod ExactlyOne
 pub mod Below
 pub mod Verdict
+pub mod OtherRules
 pub mod Powers
 pub mod ByPowers
 pub mod SheetChecks

@@ -50,6 +50,13 @@ rightMinus = record { kinds = infixKind ∷ infixKind ∷ infixKind ∷ prefixKi
 abbrev pub through : Sheet
 through = record { kinds = infixKind ∷ prefixKind ∷ infixKind ∷ []; bytes = priority ∷ 0 ∷ 1 ∷ priority ∷ 1 ∷ 2 ∷ [] }
 
+-- 00 over the prefix operator 01, that over the prefix operator 02, and that over 03: without the rule between the two no chain leads from 00 to 03
+abbrev pub throughTwo : Sheet
+throughTwo = record { kinds = infixKind ∷ prefixKind ∷ prefixKind ∷ infixKind ∷ []; bytes = priority ∷ 0 ∷ 1 ∷ priority ∷ 1 ∷ 2 ∷ priority ∷ 2 ∷ 3 ∷ [] }
+
+abbrev pub notThrough : Sheet
+notThrough = record { kinds = infixKind ∷ prefixKind ∷ prefixKind ∷ infixKind ∷ []; bytes = priority ∷ 0 ∷ 1 ∷ priority ∷ 2 ∷ 3 ∷ [] }
+
 -- the prefix operator 00 closes before 01 and 01 before 02, yet 00 does not close before 02
 abbrev pub unevenNot : Sheet
 unevenNot = record {
@@ -91,6 +98,9 @@ prefixCases =
     ∷ counted idle (1 ∷ 1 ∷ 0 ∷ 0x80 ∷ 0x81 ∷ []) 0
     -- a chain through a prefix operator
     ∷ counted through (0 ∷ 2 ∷ 0x80 ∷ 0x81 ∷ 2 ∷ 0x82 ∷ 0x83 ∷ []) 2
+    -- and through two
+    ∷ counted throughTwo (0 ∷ 3 ∷ 0x80 ∷ 0x81 ∷ 3 ∷ 0x82 ∷ 0x83 ∷ []) 2
+    ∷ counted notThrough (0 ∷ 3 ∷ 0x80 ∷ 0x81 ∷ 3 ∷ 0x82 ∷ 0x83 ∷ []) 0
     -- sheets: refused for the prefix operator alone, with 5 and with 4
     ∷ sheet noNot accepted
     ∷ sheet openNot double

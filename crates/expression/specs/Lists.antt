@@ -1,6 +1,6 @@
 -- Tests over the elements of a list. Assumes nothing.
 use Prim.Native.Nat.{ℕ, _+_}
-use mathlib.Core.Bool.{Bool, true, false, _||_}
+use mathlib.Core.Bool.{Bool, true, false, _||_, cond}
 use mathlib.Core.List.{List, [], _∷_}
 
 -- the test holds of some element
@@ -16,6 +16,11 @@ oneIf false = 0
 abbrev pub howMany : {A : Type 0} → (A → Bool) → List A → ℕ
 howMany p [] = 0
 howMany p (x ∷ xs) = oneIf (p x) + howMany p xs
+
+-- the elements of which it holds, in their order
+abbrev pub kept : {A : Type 0} → (A → Bool) → List A → List A
+kept p [] = []
+kept p (x ∷ xs) = cond (p x) (x ∷ kept p xs) (kept p xs)
 
 -- the statement holds of each element
 abbrev pub All : {A : Type 0} → (A → Type 0) → List A → Type 0

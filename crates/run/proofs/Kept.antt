@@ -8,6 +8,7 @@ use Rattle.run.proofs.Demand3.{demand-3}
 use Rattle.run.proofs.ShortestRows.{shortest-rows}
 use Rattle.run.proofs.ReadFromTheLeft.{read-from-the-left}
 use Rattle.run.proofs.ChainedPatterns.{chained-patterns}
+use Rattle.run.proofs.OtherRules.{other-rules-exclude-nothing}
 use Rattle.run.proofs.StageThenSwitch.{stage-then-switch}
 use Rattle.run.proofs.BindingPowers.{binding-powers}
 use Rattle.run.proofs.ClaimedTrees.{claimed-trees}
@@ -22,6 +23,7 @@ kept cs =
       shortest-rows = shortest-rows cs;
       read-from-the-left = read-from-the-left cs;
       chained-patterns = chained-patterns;
+      other-rules-exclude-nothing = other-rules-exclude-nothing;
       stage-then-switch = stage-then-switch cs;
       binding-powers = binding-powers cs;
       claimed-trees = claimed-trees cs;

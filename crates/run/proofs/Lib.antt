@@ -22,6 +22,7 @@ pub mod Demand3
 pub mod ShortestRows
 pub mod ReadFromTheLeft
 pub mod ChainedPatterns
+pub mod OtherRules
 pub mod StageThenSwitch
 pub mod BindingPowers
 pub mod ClaimedTrees

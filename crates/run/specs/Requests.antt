@@ -8,7 +8,7 @@ use mathlib.Core.List.{List, _∷_}
 use lib.ListN.{length}
 use Rattle.expression.specs.Limits.{mostTokens, mostRecordBytes}
 use Rattle.expression.specs.Refusal.{accepted, inUse, nothingStaged, conflict}
-use Rattle.expression.specs.Token.{Infix, operators, class}
+use Rattle.expression.specs.Token.{Infix, Operators, operators, class}
 use Rattle.expression.specs.Grammar.{Row}
 use Rattle.expression.specs.Tree.{Tree, recordOf, Over}
 use Rattle.expression.specs.Tree as tree
@@ -18,6 +18,7 @@ use Rattle.disambiguation.specs.Conflicts.{ConflictFreeTree}
 use Rattle.disambiguation.specs.ExactlyOne.{EveryRowHasExactlyOne}
 use Rattle.disambiguation.specs.LeftToRight.{finish}
 use Rattle.disambiguation.specs.Verdict.{verdict}
+use Rattle.disambiguation.specs.OtherRules.{OtherRules}
 use Rattle.disambiguation.specs.Shown.{RowsDecided}
 use Rattle.disambiguation.specs.Powers.{leftPower, rightPower, Ladder}
 use Rattle.disambiguation.specs.ByPowers.{readByPowers}
@@ -41,6 +42,12 @@ use Rattle.run.specs.Promises.{Demand1, Demand2, Demand3, Within, ops, r
 -- conflicts by these patterns.
 abbrev pub ChainedPatterns : Type 0
 ChainedPatterns = (rules : List Rule) → Patterns rules
+
+-- W5, prefix operators. Of any operators, other rules with a prefix operator exclude nothing. What is seen of an operand is on its edges. Rules that agree on
+-- the patterns L(a,b) of an infix a and R(a,b) of an infix b give every tree the same conflict count, and a sheet the same verdict. So with prefix operators p
+-- and q neither "a left p" nor "p right b" changes anything, nor does "p over q" where no chain leads on through it.
+abbrev pub OtherRulesExcludeNothing : Type 0
+OtherRulesExcludeNothing = (operators : Operators) → OtherRules operators
 
 module _ (cs : List Call) where
   -- W1, rows with no spare brackets. Within the lengths, and with room for the answer,
@@ -144,6 +151,7 @@ pub record Kept (cs : List Call) : Type 0 where
   pub shortest-rows : ShortestRows cs
   pub read-from-the-left : ReadFromTheLeft cs
   pub chained-patterns : ChainedPatterns
+  pub other-rules-exclude-nothing : OtherRulesExcludeNothing
   pub stage-then-switch : StageThenSwitch cs
   pub binding-powers : BindingPowers cs
   pub claimed-trees : ClaimedTrees cs
