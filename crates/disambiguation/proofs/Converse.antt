@@ -1,4 +1,4 @@
--- Where a condition fails, some row has no conflict-free tree, or two: the rows and trees of `Witness`. Assumes nothing.
+-- Where a condition fails, some row has no conflict-free tree, or at least two: the rows and trees of `Witness`. Assumes nothing.
 use Prim.Native.Nat.{ℕ, _<_, _≤_}
 use native.Mathlib.Omega.{arith}
 use mathlib.Core.Path.{_≡_, refl, ap, sym, _∙_}

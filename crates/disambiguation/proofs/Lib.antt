@@ -21,6 +21,7 @@ pub mod Witnesses
 pub mod VerdictDecides
 pub mod Shown
 pub mod RowsDecided
+pub mod FirstRow
 pub mod SheetNumbers
 pub mod RuleBytes
 pub mod Agreement

@@ -1,4 +1,4 @@
--- The tests of pairs and triples hold exactly of those whose rows have no conflict-free tree, or two. Assumes nothing.
+-- The tests of pairs and triples hold exactly of those whose rows have no conflict-free tree, or at least two. Assumes nothing.
 use Prim.Native.Nat.{ℕ, _<_, _≤_}
 use mathlib.Core.Path.{_≡_, refl, sym, subst, _∙_}
 use mathlib.Core.Bool.{Bool, true, false, not, true≢false}
@@ -12,7 +12,7 @@ use Rattle.disambiguation.specs.Rules.{Rule, L, R}
 use Rattle.disambiguation.specs.ExactlyOne.{HasNone, HasTwo}
 use Rattle.disambiguation.specs.Verdict.{comes, safe, total}
 use Rattle.disambiguation.specs.Witness.{firstOverPair, lastOverPair, firstOverTriple, lastOverTriple, bothExclude, noneExcludes, uneven}
-use Rattle.disambiguation.specs.Shown.{pairRow, tripleRow, RowsDecided}
+use Rattle.disambiguation.specs.Shown.{pairRow, tripleRow}
 use Rattle.disambiguation.proofs.Free.{is-true}
 use Rattle.disambiguation.proofs.InTurn.{Triples, inTurn, same-in-turn}
 use Rattle.disambiguation.proofs.Unique.{unique-in-row}
@@ -21,9 +21,25 @@ use Rattle.disambiguation.proofs.TestsDecide.{infix-below, infix-comes,
 use Rattle.disambiguation.proofs.Witnesses.{uneven-twins}
 use Rattle.disambiguation.proofs.VerdictDecides.{none-of-row, twin-trees}
 
+-- The tests decide: of a and an infix b, exactly if their row has no conflict-free tree, or has at least two; and where no pair is in either, of a and infix b
+-- and c, exactly if theirs has at least two.
+pub record RowsDecided (ops : Operators) (rules : List Rule) : Type 0 where
+  pub none : (a b : ℕ) → a < ops .count → class ops b ≡ Infix → (bothExclude ops (L rules) (R rules) a b ≡ true) ↔ HasNone ops rules (pairRow ops a b)
+  pub two : (a b : ℕ) → a < ops .count → class ops b ≡ Infix → (noneExcludes ops (L rules) (R rules) a b ≡ true) ↔ HasTwo ops rules (pairRow ops a b)
+  pub two-of-three : safe ops (L rules) (R rules) ≡ true → total ops (L rules) (R rules) ≡ true
+      → (a b c : ℕ) → a < ops .count → class ops b ≡ Infix → class ops c ≡ Infix
+      → (uneven ops (R rules) a b c ≡ true) ↔ HasTwo ops rules (tripleRow ops a b c)
+
 -- these three, in this order
 abbrev Same : ℕ → ℕ → ℕ → ℕ → ℕ → ℕ → Type 0
 Same a b c p q o = (p ≡ a) × (q ≡ b) × (o ≡ c)
+
+-- both ways of telling whether a closes before b give one row
+pub one-triple-row : (p x : Bool) (a b c : ℕ) → yield (firstOverTriple p a x b c) ≡ yield (firstOverTriple p a true b c)
+one-triple-row true true a b c = refl
+one-triple-row true false a b c = refl
+one-triple-row false true a b c = refl
+one-triple-row false false a b c = refl
 
 module _ (ops : Operators) (rules : List Rule) (small : ops .count ≤ mostOperators) where
   below : (b : ℕ) → class ops b ≡ Infix → b < ops .count
@@ -57,13 +73,6 @@ module _ (ops : Operators) (rules : List Rule) (small : ops .count ≤ mostOpera
   )
 
   -- ---- three operators
-  -- both ways of telling whether a closes before b give one row
-  one-triple-row : (p x : Bool) (a b c : ℕ) → yield (firstOverTriple p a x b c) ≡ yield (firstOverTriple p a true b c)
-  one-triple-row true true a b c = refl
-  one-triple-row true false a b c = refl
-  one-triple-row false true a b c = refl
-  one-triple-row false false a b c = refl
-
   two-on : (t u : Tree) (row : List ℕ) → yield t ≡ row → Twins (L rules) (R rules) (class ops) t u → HasTwo ops rules row
   two-on t u row e w =
       let (_, ht, hu) = twin-trees ops rules t u w in

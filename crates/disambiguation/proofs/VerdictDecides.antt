@@ -90,7 +90,7 @@ module _ (ops : Operators) (rules : List Rule) where
         go v (is-double e one two) = (λ f. absurd (omega arith), λ none. absurd (none-or-one none one))
         go v (is-accepted e every) = (λ f. absurd (omega arith), λ none. absurd (none-or-one none (exactly-has-one every)))
 
-    -- 5 exactly if every row has one and some row has two different ones.
+    -- 5 exactly if every row has one and some row has at least two different ones.
     pub double-exactly-if : (verdict ops rules ≡ double) ↔ (EveryRowHasOne ops rules × SomeRowHasTwo ops rules)
     double-exactly-if = go (verdict ops rules) outcome
       where

@@ -1,4 +1,4 @@
--- What the witness of a sheet's rules shows: a row without a conflict-free tree, or with two, exactly as the verdict's tests turn out. Assumes nothing.
+-- What the witness of a sheet's rules shows: a row without a conflict-free tree, or with at least two, just as the verdict's tests turn out. Assumes nothing.
 use Prim.Native.Nat.{ℕ, _<_, _≤_}
 use mathlib.Core.Path.{_≡_, refl, ap, sym, _∙_}
 use mathlib.Core.Bool.{Bool, true, false, not, _&&_, _||_, cond, true≢false}
@@ -20,11 +20,11 @@ module _ (ops : Operators) (L R : ℕ → ℕ → Bool) where
   no-pair : (test : ℕ → ℕ → Bool) → allBelow (ops .count) (λ a. allBelow (ops .count) (λ b. not (test a b))) ≡ not (ltb (firstLeft ops test) (ops .count))
   no-pair test = all-same _ _ (ops .count) (λ a _. none-below (ops .count) (test a)) ∙ none-below (ops .count) (λ a. someBelow (ops .count) (test a))
 
-  safe-is : safe ops L R ≡ not (ltb (firstLeft ops (bothExclude ops L R)) (ops .count))
+  pub safe-is : safe ops L R ≡ not (ltb (firstLeft ops (bothExclude ops L R)) (ops .count))
   unfolding safe
   safe-is = no-pair (bothExclude ops L R)
 
-  total-is : total ops L R ≡ not (ltb (firstLeft ops (noneExcludes ops L R)) (ops .count))
+  pub total-is : total ops L R ≡ not (ltb (firstLeft ops (noneExcludes ops L R)) (ops .count))
   unfolding total
   total-is = all-same _ _ (ops .count) (λ a _. all-same _ _ (ops .count) (λ b _. go (R a b) (comes ops b) (L b a))) ∙ no-pair (noneExcludes ops L R)
     where

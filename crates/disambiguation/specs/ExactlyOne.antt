@@ -9,7 +9,7 @@ use Rattle.disambiguation.specs.Rules.{Rule}
 use Rattle.disambiguation.specs.Conflicts.{ConflictFreeTree}
 
 module _ (ops : Operators) (rules : List Rule) where
-  -- Of one row: it has none; it has one at least; it has two different ones; it has exactly one.
+  -- Of one row: it has none; it has one at least; it has at least two different ones; it has exactly one.
   abbrev pub HasNone : List ℕ → Type 0
   HasNone row = (t : Tree) → ConflictFreeTree ops rules row t → ⊥
 

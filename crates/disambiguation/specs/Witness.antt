@@ -1,4 +1,4 @@
--- Why a sheet is refused: the first row of two operators, or of three, that has no conflict-free tree, or two. Assumes nothing.
+-- Why a sheet is refused: the first row of two operators, or of three, that has no conflict-free tree, or at least two. Assumes nothing.
 --     The operators of such a row are a, b and c from the left, and only a may be a prefix operator. Its operands are readings, 80, 81, .. from the left.
 use Prim.Native.Nat.{ℕ, _+_, _-_}
 use mathlib.Core.Bool.{Bool, not, _&&_, _||_, cond}
@@ -65,7 +65,7 @@ module _ (ops : Operators) where
   abbrev pub shownBy : (ℕ → ℕ → Bool) → (ℕ → ℕ → Witness) → Witness → Witness
   shownBy test shows other = cond (ltb (firstLeft test) (ops .count)) (shows (firstLeft test) (firstRight test (firstLeft test))) other
 
-  -- of a and b: no tree, or two
+  -- of a and b: no tree, or these two
   abbrev pub noneOf : ℕ → ℕ → Witness
   noneOf a b = noTree (firstOverPair (not (comes ops a)) a b)
 
@@ -84,7 +84,7 @@ module _ (ops : Operators) where
     abbrev pub firstThird : ℕ → ℕ → ℕ
     firstThird a b = firstBelow (ops .count) (uneven a b)
 
-    -- of a, b and c: two trees
+    -- of a, b and c: these two trees
     abbrev pub twoOfThree : ℕ → ℕ → ℕ → Witness
     twoOfThree a b c = twoTrees (firstOverTriple (not (comes ops a)) a (R a b) b c) (lastOverTriple (not (comes ops a)) a (R a b) b c)
 

@@ -8,9 +8,10 @@ use Rattle.expression.proofs.Numbers.{passed-first, first-append, first-refused
 use Rattle.disambiguation.specs.Rules.{Rule, L, R}
 use Rattle.disambiguation.specs.Verdict.{ruleChecks, verdict}
 use Rattle.disambiguation.specs.SheetChecks.{rulesIn, operatorsIn, orderChecks, InOrder, sheetNumber, listOrderChecks, ListInOrder, listNumber}
-use Rattle.disambiguation.proofs.RowsDecided.{rows-decided}
+use Rattle.disambiguation.proofs.FirstRow.{first-row}
 use Rattle.sheet.proofs.Ordered.{order-numbered, ordered}
-use Rattle.witness.proofs.Promised.{explains-refused, explains-witness, list-numbered, list-few, list-explains-refused, list-explains-witness}
+use Rattle.witness.proofs.Promised.{answer-brief, explains-refused, explains-short, explains-witness}
+use Rattle.witness.proofs.Promised.{list-numbered, list-few, list-explains-refused, list-explains-short, list-explains-witness}
 use Rattle.run.specs.Call.{Call}
 use Rattle.run.specs.Requests.{Explanations}
 
@@ -41,8 +42,11 @@ explanations cs =
       refused-alike-list = λ m kinds given out later r k h. list-explains-refused m kinds given out later r k h ∙ sym (list-by-order m kinds given h);
       explained = explains-witness;
       explained-list = list-explains-witness;
-      first-row = λ m bytes h. rows-decided (operatorsIn m bytes) (rulesIn m bytes) (ordered m bytes h .few);
-      first-row-list = λ m kinds given h. rows-decided (operators m kinds) given (list-few m kinds given h);
+      most-bytes = answer-brief;
+      too-short = explains-short;
+      too-short-list = list-explains-short;
+      first-row = λ m bytes h. first-row (operatorsIn m bytes) (rulesIn m bytes) (ordered m bytes h .few);
+      first-row-list = λ m kinds given h. first-row (operators m kinds) given (list-few m kinds given h);
       as-staged = by-verdict;
       as-staged-list = list-by-verdict;
     }

@@ -7,7 +7,7 @@ use mathlib.Core.Option.{none, some}
 use mathlib.Core.List.{List, _∷_}
 use lib.ListN.{length}
 use Rattle.expression.specs.Limits.{mostTokens, mostRecordBytes}
-use Rattle.expression.specs.Refusal.{accepted, inUse, nothingStaged, conflict}
+use Rattle.expression.specs.Refusal.{accepted, short, inUse, nothingStaged, conflict}
 use Rattle.expression.specs.Token.{Infix, Operators, operators, class}
 use Rattle.expression.specs.Grammar.{Row}
 use Rattle.expression.specs.Tree.{Tree, recordOf, Over}
@@ -19,14 +19,15 @@ use Rattle.disambiguation.specs.ExactlyOne.{EveryRowHasExactlyOne}
 use Rattle.disambiguation.specs.LeftToRight.{finish}
 use Rattle.disambiguation.specs.Verdict.{verdict}
 use Rattle.disambiguation.specs.OtherRules.{OtherRules}
-use Rattle.disambiguation.specs.Shown.{RowsDecided}
+use Rattle.disambiguation.specs.Witness.{witnessOf}
+use Rattle.disambiguation.specs.Shown.{FirstRow}
 use Rattle.disambiguation.specs.Powers.{leftPower, rightPower, Ladder}
 use Rattle.disambiguation.specs.ByPowers.{readByPowers}
 use Rattle.disambiguation.specs.SheetChecks.{rulesIn, operatorsIn, InOrder, ListInOrder}
 use Rattle.sheet.specs.InForce.{InForce}
 use Rattle.sheet.specs.BindingPowers.{given, notInfix, powersIn}
 use Rattle.record.specs.declared.Answer.{Answer}
-use Rattle.witness.specs.Explaining.{mostExplained, Explains, ExplainsList, ExplainedBy}
+use Rattle.witness.specs.Explaining.{mostExplained, answerOf, Explains, ExplainsList, ExplainedBy}
 use Rattle.parser.specs.FromTheLeft.{state, FromTheLeft}
 use Rattle.brackets.specs.SameMeaning.{OfInfix, ShortestRow}
 use Rattle.claims.specs.Claims.{Claimed}
@@ -128,16 +129,24 @@ module _ (cs : List Call) where
         → (InOrder m bytes → ⊥) → r .number ≡ answer cs (stage m bytes) .number
     pub refused-alike-list : (m : ℕ) (kinds : List ℕ) (given : List Rule) (out later : List ℕ) (r : Answer) → ExplainsList m kinds given out later r
         → (ListInOrder m kinds given → ⊥) → r .number ≡ answer cs (stageList m kinds given) .number
-    -- Of one in order, with room for 22 bytes, it answers the witness of the sheet's operators and rules. That shows that the verdict is 0; or that it is 4,
+    -- Of one in order, with room for the answer, it answers the witness of the sheet's operators and rules. That shows that the verdict is 0; or that it is 4,
     -- by a row over the operators that has no conflict-free tree; or that it is 5, by a row and the different records of two conflict-free trees of it.
-    pub explained : (m : ℕ) (bytes out later : List ℕ) (r : Answer) → Explains m bytes out later r → InOrder m bytes → mostExplained ≤ length out
-        → ExplainedBy (operatorsIn m bytes) (rulesIn m bytes) out later r
+    pub explained : (m : ℕ) (bytes out later : List ℕ) (r : Answer) → Explains m bytes out later r → InOrder m bytes
+        → length (answerOf (operatorsIn m bytes) (rulesIn m bytes)) ≤ length out → ExplainedBy (operatorsIn m bytes) (rulesIn m bytes) out later r
     pub explained-list : (m : ℕ) (kinds : List ℕ) (given : List Rule) (out later : List ℕ) (r : Answer) → ExplainsList m kinds given out later r
-        → ListInOrder m kinds given → mostExplained ≤ length out → ExplainedBy (operators m kinds) given out later r
-    -- The witness is that of the first operators of a test, and the tests hold of those whose rows have no conflict-free tree, or two: so it is the first row
-    -- that has.
-    pub first-row : (m : ℕ) (bytes : List ℕ) → InOrder m bytes → RowsDecided (operatorsIn m bytes) (rulesIn m bytes)
-    pub first-row-list : (m : ℕ) (kinds : List ℕ) (given : List Rule) → ListInOrder m kinds given → RowsDecided (operators m kinds) given
+        → ListInOrder m kinds given → length (answerOf (operators m kinds) given) ≤ length out → ExplainedBy (operators m kinds) given out later r
+    -- 22 bytes have room for every answer. 10 is given exactly where a sheet is in order and the output is shorter than its answer.
+    pub most-bytes : (o : Operators) (given : List Rule) → length (answerOf o given) ≤ mostExplained
+    pub too-short : (m : ℕ) (bytes out later : List ℕ) (r : Answer) → Explains m bytes out later r
+        → (r .number ≡ short) ↔ (InOrder m bytes × (length out < length (answerOf (operatorsIn m bytes) (rulesIn m bytes))))
+    pub too-short-list : (m : ℕ) (kinds : List ℕ) (given : List Rule) (out later : List ℕ) (r : Answer) → ExplainsList m kinds given out later r
+        → (r .number ≡ short) ↔ (ListInOrder m kinds given × (length out < length (answerOf (operators m kinds) given)))
+    -- The witness has the first row that shows a fault: the first of two operators that has no conflict-free tree; where there is none, the first of two that
+    -- has at least two; where there is none either, the first of three that has at least two.
+    pub first-row : (m : ℕ) (bytes : List ℕ) → InOrder m bytes
+        → FirstRow (operatorsIn m bytes) (rulesIn m bytes) (witnessOf (operatorsIn m bytes) (rulesIn m bytes))
+    pub first-row-list : (m : ℕ) (kinds : List ℕ) (given : List Rule) → ListInOrder m kinds given
+        → FirstRow (operators m kinds) given (witnessOf (operators m kinds) given)
     -- This verdict is the number of the staging.
     pub as-staged : (m : ℕ) (bytes : List ℕ) → InOrder m bytes → answer cs (stage m bytes) .number ≡ verdict (operatorsIn m bytes) (rulesIn m bytes)
     pub as-staged-list : (m : ℕ) (kinds : List ℕ) (given : List Rule) → ListInOrder m kinds given

@@ -31,23 +31,28 @@ pub record AnswersWith (order : List Check) (answer before after : List ℕ) (r 
 abbrev pub AnswersBy : List ℕ → List ℕ → List ℕ → Answer → Type 0
 AnswersBy answer before after r = (r .number ≡ accepted) × (r .length ≡ length answer) × (after ≡ answer ++ drop (length answer) before)
 
--- The answer of a sheet: of n and the bytes after it,
+-- The answer of a sheet, by its operators and rules: their witness in bytes.
+abbrev pub answerOf : Operators → List Rule → List ℕ
+answerOf ops rules = witnessBytes (witnessOf ops rules)
+
+-- Of n and the bytes after it,
 unfoldable pub explained : ℕ → List ℕ → List ℕ
-explained n bytes = witnessBytes (witnessOf (operatorsIn n bytes) (rulesIn n bytes))
+explained n bytes = answerOf (operatorsIn n bytes) (rulesIn n bytes)
 
 abbrev pub Explains : ℕ → List ℕ → List ℕ → List ℕ → Answer → Type 0
 Explains n bytes = AnswersWith (orderChecks n bytes) (explained n bytes)
 
 -- and with its kinds and rules as lists.
 unfoldable pub explainedList : ℕ → List ℕ → List Rule → List ℕ
-explainedList n kinds rules = witnessBytes (witnessOf (operators n kinds) rules)
+explainedList n kinds rules = answerOf (operators n kinds) rules
 
 abbrev pub ExplainsList : ℕ → List ℕ → List Rule → List ℕ → List ℕ → Answer → Type 0
 ExplainsList n kinds rules = AnswersWith (listOrderChecks n kinds rules) (explainedList n kinds rules)
 
--- Of a sheet in order, by its operators and rules: the answer is their witness in bytes, 22 at most, with both records as long as the row, and it shows why the sheet is refused.
+-- Of a sheet in order, by its operators and rules: the answer is their witness in bytes, 22 at most, with both records as long as the row, and it shows why
+-- the sheet is refused.
 pub record ExplainedBy (ops : Operators) (rules : List Rule) (before after : List ℕ) (r : Answer) : Type 0 where
-  pub answered : AnswersBy (witnessBytes (witnessOf ops rules)) before after r
-  pub short : length (witnessBytes (witnessOf ops rules)) ≤ mostExplained
+  pub answered : AnswersBy (answerOf ops rules) before after r
+  pub short : length (answerOf ops rules) ≤ mostExplained
   pub as-long : AsLong (witnessOf ops rules)
   pub shown : Shown ops rules (witnessOf ops rules)
