@@ -3,7 +3,7 @@ use Prim.Native.Nat.{ℕ}
 use mathlib.Core.Path.{_≡_, refl, ap, ap₂, sym, _∙_}
 use mathlib.Core.Bool.{Bool, true, false, cond}
 use mathlib.Core.List.{List, [], _∷_, _++_, append-nil}
-use Rattle.expression.specs.Lists.{kept, All}
+use Rattle.expression.specs.Lists.{selected, All}
 use Rattle.expression.specs.Token.{Class, Infix, Prefix, Opening, Closing, Reading, opening, closing}
 use Rattle.expression.specs.Tree.{Tree, reading, bracket, binary, prefix, yield, Over}
 use Rattle.expression.proofs.Classes.{Brackets}
@@ -79,30 +79,30 @@ on-top P (binary o l r) h = (all-right P (inTurn l) (o ∷ inTurn r) h .0, tt)
 on-top P (prefix p t) h = tt
 
 -- they are those of its row
-kept-append : (p : ℕ → Bool) (xs ys : List ℕ) → kept p (xs ++ ys) ≡ kept p xs ++ kept p ys
-kept-append p [] ys = refl
-kept-append p (x ∷ xs) ys = go (p x) (kept-append p xs ys)
+selected-append : (p : ℕ → Bool) (xs ys : List ℕ) → selected p (xs ++ ys) ≡ selected p xs ++ selected p ys
+selected-append p [] ys = refl
+selected-append p (x ∷ xs) ys = go (p x) (selected-append p xs ys)
   where
-    go : (b : Bool) → kept p (xs ++ ys) ≡ kept p xs ++ kept p ys → cond b (x ∷ kept p (xs ++ ys)) (kept p (xs ++ ys)) ≡ cond b (x ∷ kept p xs) (kept p xs) ++ kept p ys
+    go : (b : Bool) → selected p (xs ++ ys) ≡ selected p xs ++ selected p ys → cond b (x ∷ selected p (xs ++ ys)) (selected p (xs ++ ys)) ≡ cond b (x ∷ selected p xs) (selected p xs) ++ selected p ys
     go true e = ap (λ s. x ∷ s) e
     go false e = e
 
 module _ (k : ℕ → Class) (brackets : Brackets k) where
   abbrev operatorsOf : List ℕ → List ℕ
-  operatorsOf = kept (λ c. waits (k c))
+  operatorsOf = selected (λ c. waits (k c))
 
-  first-kept : (c : ℕ) (cs : List ℕ) (x : Class) → k c ≡ x → operatorsOf (c ∷ cs) ≡ cond (waits x) (c ∷ operatorsOf cs) (operatorsOf cs)
-  first-kept c cs x e = ap (λ y. cond (waits y) (c ∷ operatorsOf cs) (operatorsOf cs)) e
+  first-selected : (c : ℕ) (cs : List ℕ) (x : Class) → k c ≡ x → operatorsOf (c ∷ cs) ≡ cond (waits x) (c ∷ operatorsOf cs) (operatorsOf cs)
+  first-selected c cs x e = ap (λ y. cond (waits y) (c ∷ operatorsOf cs) (operatorsOf cs)) e
 
   in-turn : (t : Tree) → Over k t → operatorsOf (yield t) ≡ inTurn t
-  in-turn (reading a) h = first-kept a [] Reading h
+  in-turn (reading a) h = first-selected a [] Reading h
   in-turn (bracket t) h =
-      first-kept opening (yield t ++ (closing ∷ [])) Opening (brackets .opens) ∙ kept-append (λ c. waits (k c)) (yield t) (closing ∷ [])
-      ∙ ap (λ s. operatorsOf (yield t) ++ s) (first-kept closing [] Closing (brackets .closes)) ∙ append-nil (operatorsOf (yield t)) ∙ in-turn t h
+      first-selected opening (yield t ++ (closing ∷ [])) Opening (brackets .opens) ∙ selected-append (λ c. waits (k c)) (yield t) (closing ∷ [])
+      ∙ ap (λ s. operatorsOf (yield t) ++ s) (first-selected closing [] Closing (brackets .closes)) ∙ append-nil (operatorsOf (yield t)) ∙ in-turn t h
   in-turn (binary o l r) h =
-      kept-append (λ c. waits (k c)) (yield l) (o ∷ yield r)
-      ∙ ap₂ _++_ (in-turn l (h .1)) (first-kept o (yield r) Infix (h .0) ∙ ap (λ s. o ∷ s) (in-turn r (h .2)))
-  in-turn (prefix p t) h = first-kept p (yield t) Prefix (h .0) ∙ ap (λ s. p ∷ s) (in-turn t (h .1))
+      selected-append (λ c. waits (k c)) (yield l) (o ∷ yield r)
+      ∙ ap₂ _++_ (in-turn l (h .1)) (first-selected o (yield r) Infix (h .0) ∙ ap (λ s. o ∷ s) (in-turn r (h .2)))
+  in-turn (prefix p t) h = first-selected p (yield t) Prefix (h .0) ∙ ap (λ s. p ∷ s) (in-turn t (h .1))
 
   pub same-in-turn : (t u : Tree) → Over k t → Over k u → yield t ≡ yield u → inTurn t ≡ inTurn u
   same-in-turn t u ht hu e = sym (in-turn t ht) ∙ ap operatorsOf e ∙ in-turn u hu

@@ -5,7 +5,7 @@ use mathlib.Core.Bool.{Bool, true, false, not, _&&_, _||_, cond}
 use mathlib.Core.List.{List, [], _∷_}
 use lib.ListN.{take}
 use Rattle.expression.specs.Limits.{mostOperators}
-use Rattle.expression.specs.Lists.{oneIf, howMany, kept}
+use Rattle.expression.specs.Lists.{oneIf, howMany, selected}
 use Rattle.expression.specs.Refusal.{first}
 use Rattle.expression.specs.Token.{Class, Infix, Prefix, Operators, class}
 use Rattle.expression.specs.Tree.{Tree, reading, bracket, binary, prefix, Over}
@@ -20,7 +20,7 @@ use Rattle.disambiguation.proofs.TestsDecide.{is-infix}
 -- ---- what is seen stands on the edges
 module _ (k : ℕ → Class) where
   abbrev ones : List ℕ → List ℕ
-  ones = kept (λ o. isPrefix (k o))
+  ones = selected (λ o. isPrefix (k o))
 
   first-seen : (o : ℕ) (os : List ℕ) (x : Class) → k o ≡ x → cond (isPrefix x) (o ∷ ones os) (ones os) ≡ ones (o ∷ os)
   first-seen o os x e = ap (λ (y : Class). cond (isPrefix y) (o ∷ ones os) (ones os)) (sym e)

@@ -6,7 +6,7 @@ use mathlib.Core.Logic.{_↔_, _⊎_}
 use mathlib.Core.List.{List, _∷_, _++_}
 use lib.ListN.{take}
 use Rattle.expression.specs.Limits.{mostOperators}
-use Rattle.expression.specs.Lists.{kept}
+use Rattle.expression.specs.Lists.{selected}
 use Rattle.expression.specs.Token.{Class, Infix, Prefix, Opening, Closing, Reading, Meaningless, Operators, class}
 use Rattle.expression.specs.Tree.{Tree, Over}
 use Rattle.disambiguation.specs.Rules.{Rule, priority, left, right, Leads, L, R}
@@ -25,7 +25,7 @@ isPrefix Meaningless = false
 -- What is seen of an operand is on its edges: the infix operator on top is the first of the left edge; `prefixes` are all prefix operators of the right one.
 pub record SeenOnEdges (k : ℕ → Class) (t : Tree) : Type 0 where
   pub top : onTop t ≡ take 1 (leftEdge t)
-  pub along-right : prefixes t ≡ kept (λ o. isPrefix (k o)) (rightEdge t)
+  pub along-right : prefixes t ≡ selected (λ o. isPrefix (k o)) (rightEdge t)
 
 -- Under both lists of rules every tree over the operators has the same conflict count and every row the same conflict-free trees; and the verdict is the same.
 pub record JudgeAlike (ops : Operators) (rules others : List Rule) : Type 0 where

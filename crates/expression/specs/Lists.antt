@@ -18,9 +18,9 @@ howMany p [] = 0
 howMany p (x ∷ xs) = oneIf (p x) + howMany p xs
 
 -- the elements of which it holds, in their order
-abbrev pub kept : {A : Type 0} → (A → Bool) → List A → List A
-kept p [] = []
-kept p (x ∷ xs) = cond (p x) (x ∷ kept p xs) (kept p xs)
+abbrev pub selected : {A : Type 0} → (A → Bool) → List A → List A
+selected p [] = []
+selected p (x ∷ xs) = cond (p x) (x ∷ selected p xs) (selected p xs)
 
 -- the statement holds of each element
 abbrev pub All : {A : Type 0} → (A → Type 0) → List A → Type 0
