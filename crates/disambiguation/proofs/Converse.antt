@@ -84,7 +84,7 @@ module _ (L R : ℕ → ℕ → Bool) (k : ℕ → Class) where
       last-allows true f = f .0 .0
 
       -- and the row has no third
-      no-third : Brackets k → (p : Bool) → k a ≡ cond p Prefix Infix → (t : Tree) → Over k t → yield t ≡ yield (firstOverPair p a b)
+      pub no-third : Brackets k → (p : Bool) → k a ≡ cond p Prefix Infix → (t : Tree) → Over k t → yield t ≡ yield (firstOverPair p a b)
           → (t ≡ firstOverPair p a b) ⊎ (t ≡ lastOverPair p a b)
       no-third brackets false ha =
           one-of-two k brackets (firstOverPair false a b) (lastOverPair false a b) (first-over false ha) (last-over false ha) refl (omega arith)

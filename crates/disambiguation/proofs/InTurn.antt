@@ -26,12 +26,12 @@ module _ (P : ℕ → Type 0) where
   all-left [] ys h = tt
   all-left (x ∷ xs) ys h = (h .0, all-left xs ys (h .1))
 
-  all-right : (xs ys : List ℕ) → All P (xs ++ ys) → All P ys
+  pub all-right : (xs ys : List ℕ) → All P (xs ++ ys) → All P ys
   all-right [] ys h = h
   all-right (x ∷ xs) ys h = all-right xs ys (h .1)
 
 module _ (P : ℕ → ℕ → Type 0) where
-  pairs-left : (xs ys : List ℕ) → Pairs P (xs ++ ys) → Pairs P xs
+  pub pairs-left : (xs ys : List ℕ) → Pairs P (xs ++ ys) → Pairs P xs
   pairs-left [] ys h = tt
   pairs-left (x ∷ xs) ys h = (all-left (P x) xs ys (h .0), pairs-left xs ys (h .1))
 

@@ -17,6 +17,8 @@ pub mod LeadsDecided
 pub mod TestsDecide
 pub mod JudgeAlike
 pub mod OtherRules
+pub mod FreeInTurn
+pub mod NoThird
 pub mod Witnesses
 pub mod VerdictDecides
 pub mod Shown

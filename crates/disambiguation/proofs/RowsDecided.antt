@@ -18,6 +18,7 @@ use Rattle.disambiguation.proofs.InTurn.{Triples, inTurn, same-in-turn}
 use Rattle.disambiguation.proofs.Unique.{unique-in-row}
 use Rattle.disambiguation.proofs.Converse.{Twins, first-over, three-over, not-safe, not-total, only-unsafe, only-untotal}
 use Rattle.disambiguation.proofs.TestsDecide.{infix-below, infix-comes, total-total, is-left, both-exclude, none-excludes, is-uneven}
+use Rattle.disambiguation.proofs.NoThird.{Same}
 use Rattle.disambiguation.proofs.Witnesses.{uneven-twins}
 use Rattle.disambiguation.proofs.VerdictDecides.{none-of-row, twin-trees}
 
@@ -29,10 +30,6 @@ pub record RowsDecided (ops : Operators) (rules : List Rule) : Type 0 where
   pub two-of-three : safe ops (L rules) (R rules) ≡ true → total ops (L rules) (R rules) ≡ true
       → (a b c : ℕ) → a < ops .count → class ops b ≡ Infix → class ops c ≡ Infix
       → (uneven ops (R rules) a b c ≡ true) ↔ HasTwo ops rules (tripleRow ops a b c)
-
--- these three, in this order
-abbrev Same : ℕ → ℕ → ℕ → ℕ → ℕ → ℕ → Type 0
-Same a b c p q o = (p ≡ a) × (q ≡ b) × (o ≡ c)
 
 -- both ways of telling whether a closes before b give one row
 pub one-triple-row : (p x : Bool) (a b c : ℕ) → yield (firstOverTriple p a x b c) ≡ yield (firstOverTriple p a true b c)

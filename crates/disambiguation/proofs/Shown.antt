@@ -34,4 +34,6 @@ witness-shown ops rules small = go (witnessOf ops rules) (shows ops (L rules) (R
     go : (w : Witness) → Shows ops (L rules) (R rules) small w → Shown ops rules w
     go sound (s, e) = rw (s, e) refl
     go (noTree t) (s, like) = let (r, h) = none-of-row ops rules t like in (rw s refl, r, h)
-    go (twoTrees t u) (s, e, w) = let (r, ht, hu) = twin-trees ops rules t u w in (rw (s, e) refl, r, ht, hu, one-record ops rules t u w)
+    go (twoTrees t u) (s, e, w, only) =
+        let (r, ht, hu) = twin-trees ops rules t u w in
+        (rw (s, e) refl, r, ht, hu, one-record ops rules t u w, λ v h. only v (h .over) (h .yields) (h .free))

@@ -69,7 +69,7 @@ module _ (ops : Operators) (rules : List Rule) where
             let (p, q) = and-true (total ops (L rules) (R rules)) (level ops (R rules)) e in
             rw (s, e) (is-accepted refl (λ row r. let (t, h) = safe-has-one s row r in (t, h, λ u g. tests-unique p q row u t g h)))
         go (noTree t) (s, like) = rw s (let (r, h) = none-of-row t like in is-dead refl (yield t, r, h))
-        go (twoTrees t u) (s, e, twins) = rw (s, e) (let (r, h) = two-of-row t u twins in is-double refl (safe-has-one s) (yield t, r, h))
+        go (twoTrees t u) (s, e, twins, _) = rw (s, e) (let (r, h) = two-of-row t u twins in is-double refl (safe-has-one s) (yield t, r, h))
 
     -- the three are of different sheets
     none-or-one : SomeRowHasNone ops rules → EveryRowHasOne ops rules → ⊥

@@ -9,4 +9,4 @@ use Rattle.disambiguation.proofs.Cases.{_next_}
 
 pub witnesses-hold : All Answered witnessCases
 unfolding L R firstBelow ofTriples witness
-witnesses-hold = refl next refl next refl next refl next refl next refl next refl next refl next refl next tt
+witnesses-hold = refl next refl next refl next refl next refl next refl next refl next refl next refl next refl next tt

@@ -6,14 +6,17 @@ use mathlib.Core.Logic.{_⊎_, inl, inr}
 use lib.Dec.{ltb}
 use Rattle.expression.specs.Limits.{mostOperators}
 use Rattle.expression.specs.Token.{Infix, Operators, class}
+use Rattle.expression.specs.Tree.{Tree, yield, Over}
 use Rattle.expression.proofs.Classes.{brackets, class-reading}
+use Rattle.disambiguation.specs.Conflicts.{conflicts}
 use Rattle.disambiguation.specs.Below.{allBelow, someBelow}
 use Rattle.disambiguation.specs.Verdict.{comes, comers, safe, total, within, level}
 use Rattle.disambiguation.specs.Witness.{Witness, sound, noTree, twoTrees, bothExclude, noneExcludes, uneven, unevenPair, firstLeft, firstRight, shownBy, firstOverTriple, lastOverTriple, firstThird, noneOf, twoOf, twoOfUneven, ofTriples, witness}
 use Rattle.disambiguation.proofs.BelowLaws.{allBelow-of, all-same}
 use Rattle.disambiguation.proofs.FirstBelow.{first-below, first-holds, none-below}
-use Rattle.disambiguation.proofs.Converse.{NoneLike, Twins, not-safe, not-total, not-transitive, not-cotransitive}
-use Rattle.disambiguation.proofs.TestsDecide.{safe-safe, is-left, both-exclude, none-excludes, Uneven, is-uneven}
+use Rattle.disambiguation.proofs.Converse.{NoneLike, Twins, no-third, not-safe, not-total, not-transitive, not-cotransitive}
+use Rattle.disambiguation.proofs.NoThird.{none-beside, none-beside-co}
+use Rattle.disambiguation.proofs.TestsDecide.{safe-safe, total-total, is-left, both-exclude, none-excludes, Uneven, is-uneven}
 
 module _ (ops : Operators) (L R : ℕ → ℕ → Bool) where
   -- no pair is in a test exactly if there is no first one
@@ -52,11 +55,15 @@ module _ (ops : Operators) (L R : ℕ → ℕ → Bool) where
       go a b true false = all-same _ _ (ops .count) (λ c _. not-but (comers ops (R a) c) (R b c))
 
   module _ (small : ops .count ≤ mostOperators) where
+    -- the row of the two has no third
+    abbrev NoThird : Tree → Tree → Type 0
+    NoThird t u = (v : Tree) → Over (class ops) v → yield v ≡ yield t → conflicts L R v ≡ 0 → (v ≡ t) ⊎ (v ≡ u)
+
     -- what each kind of witness says of the tests, and its trees of their rows
     abbrev pub Shows : Witness → Type 0
     Shows sound = (safe ops L R ≡ true) × ((total ops L R && level ops R) ≡ true)
     Shows (noTree t) = (safe ops L R ≡ false) × NoneLike L R (class ops) t
-    Shows (twoTrees t u) = (safe ops L R ≡ true) × ((total ops L R && level ops R) ≡ false) × Twins L R (class ops) t u
+    Shows (twoTrees t u) = (safe ops L R ≡ true) × ((total ops L R && level ops R) ≡ false) × Twins L R (class ops) t u × NoThird t u
 
     -- the first pair of a test, if there is one
     module _ (test : ℕ → ℕ → Bool) where
@@ -94,16 +101,34 @@ module _ (ops : Operators) (L R : ℕ → ℕ → Bool) where
         go false h (inr (p, q, r)) =
             not-cotransitive L R (class ops) (class-reading ops) (safe-safe ops L R s) a b c i k (not (comes ops a)) (is-left ops small a ha) p q r
 
+    uneven-only : total ops L R ≡ true → (a b c : ℕ) → Uneven R a b c
+        → Twins L R (class ops) (firstOverTriple (not (comes ops a)) a (R a b) b c) (lastOverTriple (not (comes ops a)) a (R a b) b c)
+        → NoThird (firstOverTriple (not (comes ops a)) a (R a b) b c) (lastOverTriple (not (comes ops a)) a (R a b) b c)
+    uneven-only t a b c u = go (R a b) refl u
+      where
+        go : (x : Bool) → R a b ≡ x → Uneven R a b c
+            → Twins L R (class ops) (firstOverTriple (not (comes ops a)) a x b c) (lastOverTriple (not (comes ops a)) a x b c)
+            → NoThird (firstOverTriple (not (comes ops a)) a x b c) (lastOverTriple (not (comes ops a)) a x b c)
+        go true h (inl (p, q, r)) = none-beside L R (class ops) (brackets ops) (total-total ops L R t) a b c p q r (not (comes ops a))
+        go true h (inr (p, q, r)) = absurd (true≢false (sym h ∙ p))
+        go false h (inl (p, q, r)) = absurd (true≢false (sym p ∙ h))
+        go false h (inr (p, q, r)) = none-beside-co L R (class ops) (brackets ops) (total-total ops L R t) a b c p q r (not (comes ops a))
+
     module _ (s : safe ops L R ≡ true) (f : (total ops L R && level ops R) ≡ false) where
       two-of : (a b : ℕ) → a < ops .count → b < ops .count → noneExcludes ops L R a b ≡ true → Shows (twoOf ops a b)
       two-of a b ha hb e =
-          let (i, r, l) = none-excludes ops small L R a b hb e in
-          (s, f, not-total L R (class ops) (class-reading ops) a b i (not (comes ops a)) (is-left ops small a ha) r l)
+          let (i, r, l) = none-excludes ops small L R a b hb e in (
+            s,
+            f,
+            not-total L R (class ops) (class-reading ops) a b i (not (comes ops a)) (is-left ops small a ha) r l,
+            λ v hv y _. no-third L R (class ops) (class-reading ops) a b i (brackets ops) (not (comes ops a)) (is-left ops small a ha) v hv y,
+          )
 
-      two-of-three : (a b : ℕ) → a < ops .count → b < ops .count → unevenPair ops R a b ≡ true → Shows (twoOfUneven ops R a b)
-      two-of-three a b ha hb e =
+      two-of-three : total ops L R ≡ true → (a b : ℕ) → a < ops .count → b < ops .count → unevenPair ops R a b ≡ true → Shows (twoOfUneven ops R a b)
+      two-of-three t a b ha hb e =
           let (i, k, u) = is-uneven ops small L R a b hb (firstThird ops R a b) (first-below (ops .count) (uneven ops R a b) e) (first-holds (ops .count) (uneven ops R a b) e) in
-          (s, f, uneven-twins s a b (firstThird ops R a b) ha i k u)
+          let w = uneven-twins s a b (firstThird ops R a b) ha i k u in
+          (s, f, w, uneven-only t a b (firstThird ops R a b) u w)
 
     pub shows : Shows (witness ops L R)
     unfolding witness ofTriples
@@ -112,7 +137,7 @@ module _ (ops : Operators) (L R : ℕ → ℕ → Bool) where
         by-uneven : safe ops L R ≡ true → total ops L R ≡ true → (x : Bool) → someOf (unevenPair ops R) ≡ x
             → Shows (cond x (twoOfUneven ops R (left (unevenPair ops R)) (right (unevenPair ops R))) sound)
         by-uneven s t true e =
-            at-first (unevenPair ops R) e (λ a b. Shows (twoOfUneven ops R a b)) (two-of-three s (rw (t, level-is, e)))
+            at-first (unevenPair ops R) e (λ a b. Shows (twoOfUneven ops R a b)) (two-of-three s (rw (t, level-is, e)) t)
         by-uneven s t false e = (s, rw (t, level-is, e))
 
         by-none : safe ops L R ≡ true → (x : Bool) → someOf (noneExcludes ops L R) ≡ x

@@ -16,12 +16,13 @@ use Rattle.disambiguation.specs.Verdict.{comes, verdict}
 use Rattle.disambiguation.specs.Witness.{Witness, sound, noTree, twoTrees, firstOverPair, firstOverTriple}
 
 -- The verdict on the rules is 0; or it is 4, and the tree's row has no conflict-free tree; or it is 5, and both are conflict-free trees of the row of the
--- first, with different records.
+-- first, with different records, and no third tree is.
 abbrev pub Shown : Operators → List Rule → Witness → Type 0
 Shown ops rules sound = verdict ops rules ≡ accepted
 Shown ops rules (noTree t) = (verdict ops rules ≡ dead) × Row ops (yield t) × HasNone ops rules (yield t)
 Shown ops rules (twoTrees t u) =
-    (verdict ops rules ≡ double) × Row ops (yield t) × ConflictFreeTree ops rules (yield t) t × ConflictFreeTree ops rules (yield t) u × (recordOf t ≡ recordOf u → ⊥)
+    (verdict ops rules ≡ double) × Row ops (yield t) × ConflictFreeTree ops rules (yield t) t × ConflictFreeTree ops rules (yield t) u
+    × (recordOf t ≡ recordOf u → ⊥) × ((v : Tree) → ConflictFreeTree ops rules (yield t) v → (v ≡ t) ⊎ (v ≡ u))
 
 -- Both records have as many bytes as the row has tokens.
 abbrev pub AsLong : Witness → Type 0

@@ -18,6 +18,13 @@ yielding = record {
       ∷ right ∷ 0 ∷ 0 ∷ right ∷ 1 ∷ 0 ∷ right ∷ 0 ∷ 1 ∷ right ∷ 1 ∷ 1 ∷ right ∷ 2 ∷ 1 ∷ right ∷ 0 ∷ 2 ∷ right ∷ 1 ∷ 2 ∷ right ∷ 2 ∷ 2 ∷ [];
 }
 
+-- three operators of which each closes before each, but 00 before 02 and 01 before 00 are left open
+abbrev pub openTwice : Sheet
+openTwice = record {
+  kinds = infixes 3;
+  bytes = left ∷ 0 ∷ 0 ∷ left ∷ 0 ∷ 1 ∷ left ∷ 1 ∷ 1 ∷ left ∷ 1 ∷ 2 ∷ left ∷ 2 ∷ 0 ∷ left ∷ 2 ∷ 1 ∷ left ∷ 2 ∷ 2 ∷ [];
+}
+
 -- 00 groups to the left, and of 01, which is prefix, nothing is said; then that each excludes the other
 abbrev pub loosePrefix : Sheet
 loosePrefix = record { kinds = infixKind ∷ prefixKind ∷ []; bytes = left ∷ 0 ∷ 0 ∷ [] }
@@ -34,6 +41,7 @@ witnessCases =
     ∷ (round, 4 ∷ 0x80 ∷ 0 ∷ 0x81 ∷ 0 ∷ 0x82 ∷ [])
     ∷ (stuckPrefix, 4 ∷ 1 ∷ 0x80 ∷ 0 ∷ 0x81 ∷ [])
     ∷ (undecided, 5 ∷ 0x80 ∷ 0 ∷ 0x81 ∷ 0 ∷ 0x82 ∷ 0 ∷ 0x80 ∷ 0 ∷ 0x81 ∷ 0x82 ∷ 0 ∷ 0 ∷ 0x80 ∷ 0x81 ∷ 0x82 ∷ [])
+    ∷ (openTwice, 5 ∷ 0x80 ∷ 0 ∷ 0x81 ∷ 2 ∷ 0x82 ∷ 0 ∷ 0x80 ∷ 2 ∷ 0x81 ∷ 0x82 ∷ 2 ∷ 0 ∷ 0x80 ∷ 0x81 ∷ 0x82 ∷ [])
     ∷ (loosePrefix, 5 ∷ 1 ∷ 0x80 ∷ 0 ∷ 0x81 ∷ 1 ∷ 0 ∷ 0x80 ∷ 0x81 ∷ 0 ∷ 1 ∷ 0x80 ∷ 0x81 ∷ [])
     ∷ (
       roundBySides,

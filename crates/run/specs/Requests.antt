@@ -130,7 +130,7 @@ module _ (cs : List Call) where
     pub refused-alike-list : (m : ℕ) (kinds : List ℕ) (given : List Rule) (out later : List ℕ) (r : Answer) → ExplainsList m kinds given out later r
         → (ListInOrder m kinds given → ⊥) → r .number ≡ answer cs (stageList m kinds given) .number
     -- Of one in order, with room for the answer, it answers the witness of the sheet's operators and rules. That shows that the verdict is 0; or that it is 4,
-    -- by a row over the operators that has no conflict-free tree; or that it is 5, by a row and the different records of two conflict-free trees of it.
+    -- by a row over the operators that has no conflict-free tree; or that it is 5, by a row and the different records of its two conflict-free trees.
     pub explained : (m : ℕ) (bytes out later : List ℕ) (r : Answer) → Explains m bytes out later r → InOrder m bytes
         → length (answerOf (operatorsIn m bytes) (rulesIn m bytes)) ≤ length out → ExplainedBy (operatorsIn m bytes) (rulesIn m bytes) out later r
     pub explained-list : (m : ℕ) (kinds : List ℕ) (given : List Rule) (out later : List ℕ) (r : Answer) → ExplainsList m kinds given out later r
@@ -147,7 +147,7 @@ module _ (cs : List Call) where
         → FirstRow (operatorsIn m bytes) (rulesIn m bytes) (witnessOf (operatorsIn m bytes) (rulesIn m bytes))
     pub first-row-list : (m : ℕ) (kinds : List ℕ) (given : List Rule) → ListInOrder m kinds given
         → FirstRow (operators m kinds) given (witnessOf (operators m kinds) given)
-    -- This verdict is the number of the staging.
+    -- The verdict is the number of the staging.
     pub as-staged : (m : ℕ) (bytes : List ℕ) → InOrder m bytes → answer cs (stage m bytes) .number ≡ verdict (operatorsIn m bytes) (rulesIn m bytes)
     pub as-staged-list : (m : ℕ) (kinds : List ℕ) (given : List Rule) → ListInOrder m kinds given
         → answer cs (stageList m kinds given) .number ≡ verdict (operators m kinds) given
