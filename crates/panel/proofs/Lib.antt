@@ -1,5 +1,5 @@
 pub mod AnswerWays
 pub mod LinesWays
-pub mod BlockWays
 pub mod TurnWays
+pub mod RunWays
 pub mod Laws

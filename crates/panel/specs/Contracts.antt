@@ -1,14 +1,14 @@
 -- What answering lines and keeping the unfinished one promise. Assumes nothing.
-use Prim.Native.Nat.{ℕ, _+_, _*_, _-_, _<_, _≤_, min}
+use Prim.Native.Nat.{ℕ, _+_, _-_, _<_, _≤_}
 use mathlib.Core.Path.{_≡_}
 use mathlib.Core.Bool.{Bool, true, false}
 use mathlib.Core.List.{List, [], _∷_, _++_}
 use lib.ListN.{length, take, drop}
 use Rattle.run.specs.Panel.{Panel}
-use Rattle.line_io.specs.Lines.{lineFeed, lineEnd}
+use Rattle.line_io.specs.Lines.{lineFeed}
 use Rattle.frame.specs.Lines.{mostCharacters, lineReply, lineAfter}
 use Rattle.frame.specs.Contracts.{mostReply}
-use Rattle.panel.specs.Lines.{withEnds, AllPlain, afterLines, panelAtEnd, replies}
+use Rattle.panel.specs.Lines.{withEnds, Plain, AllPlain, afterLines, panelAtEnd, replies, lastReply}
 
 -- bytes of a block of input or output
 abbrev pub block : ℕ
@@ -37,34 +37,26 @@ pub record Puts (p : Panel) (line before after : List ℕ) (at filled : ℕ) (la
   pub inside : filled ≤ at + mostReplyLine
   pub more : at < filled
 
--- The lines from one place of a buffer up to another are read, and the panel is the one after them.
-pub record Reads (p : Panel) (s : List ℕ) (from rest : ℕ) (lines : List (List ℕ)) (later : Panel) : Type 0 where
-  pub read : take (rest - from) (drop from s) ≡ withEnds lines
+-- Of the bytes s the first lines were answered: their replies, each with a line end, are `laid` ready to be written, and the bytes `left` follow
+-- the lines. No complete line is left, but where there is no room for one more reply.
+pub record Answers (p : Panel) (s laid left : List ℕ) (later : Panel) : Type 0 where
+  pub lines : List (List ℕ)
+  pub read : s ≡ withEnds lines ++ left
   pub plain : AllPlain lines
+  pub written : laid ≡ withEnds (replies p lines)
   pub stands : later ≡ afterLines p lines
-  pub after : from ≤ rest
-  pub inside : rest ≤ length s
+  pub all : length laid ≤ mostFilled → Plain left
 
--- Lines were answered: their replies fill the front of the output. None is left, but where the output has no room for one more reply.
+-- The lines of a buffer from a place on were answered: their replies fill the front of the output, and what is left begins at `rest`.
 pub record AnswersLines (p : Panel) (s : List ℕ) (from : ℕ) (out : List ℕ) (rest filled : ℕ) (later : Panel) : Type 0 where
-  pub lines : List (List ℕ)
-  pub reads : Reads p s from rest lines later
-  pub written : take filled out ≡ withEnds (replies p lines)
-  pub room : filled ≤ block
-  -- each line takes at least a byte of the buffer and at most so much of the output as the longest reply
-  pub shares : filled + mostReplyLine * from ≤ mostReplyLine * rest
-  pub all : filled + mostReplyLine ≤ block → length s ≤ lineEnd s rest
+  pub answers : Answers p (drop from s) (take filled out) (drop rest s) later
+  pub inside : rest ≤ length s
+  pub room : filled ≤ length out
 
--- A block was answered: all its complete lines, but where a write failed.
-pub record Covers (p : Panel) (s : List ℕ) (rest : ℕ) (later : Panel) (ok : Bool) : Type 0 where
-  pub lines : List (List ℕ)
-  pub reads : Reads p s 0 rest lines later
-  pub all : ok ≡ true → length s ≤ lineEnd s rest
-
--- The unfinished line, from `rest` up to n, was kept: its first r characters stand at the front of the buffer.
-pub record Keeps (before : List ℕ) (rest n : ℕ) (after : List ℕ) (r : ℕ) : Type 0 where
-  pub kept : r ≡ min (n - rest) mostKept
-  pub front : take r after ≡ take r (drop rest before)
+-- Of the bytes that are left the first r, and no more than is kept of an unfinished line, stand at the front of the buffer.
+pub record Keeps (left after : List ℕ) (r : ℕ) : Type 0 where
+  pub front : take r after ≡ take mostKept left
+  pub short : r ≤ mostKept
 
 -- A read put bytes behind those that were kept: what it gave ends at r.
 pub record Fetches (before : List ℕ) (kept : ℕ) (after : List ℕ) (r : ℕ) : Type 0 where
@@ -72,36 +64,25 @@ pub record Fetches (before : List ℕ) (kept : ℕ) (after : List ℕ) (r : ℕ)
   pub from : kept ≤ r
   pub inside : r ≤ bufferBytes
 
--- At the end of the input, what is kept was answered as a last line.
-pub record Finishes (p : Panel) (line : List ℕ) (later : Panel) (kept : ℕ) (go : Bool) : Type 0 where
+-- At the end of the input, what is kept was answered as a last line: its reply fills the front of the output.
+pub record Finishes (p : Panel) (line out : List ℕ) (filled : ℕ) (later : Panel) : Type 0 where
+  pub written : take filled out ≡ lastReply p line
   pub stands : later ≡ panelAtEnd p line
-  pub nothing-left : kept ≡ 0
-  pub stops : go ≡ false
+  pub room : filled ≤ length out
 
--- What was kept and what was read after it, s, was answered: all its complete lines, but where a write failed. The rest is kept.
-pub record Passes (p : Panel) (s after : List ℕ) (later : Panel) (kept : ℕ) (go : Bool) : Type 0 where
-  pub rest : ℕ
-  pub covers : Covers p s rest later go
-  pub keeps : Keeps s rest (length s) after kept
-
--- A read put what it gave behind the kept bytes of the buffer, up to `to`, or failed, and was answered.
-pub record AnswersRead (p : Panel) (buf : List ℕ) (kept to : ℕ) (failed : Bool) (after : List ℕ) (later : Panel) (kept' : ℕ) (go : Bool) : Type 0 where
+-- A read put what it gave behind the kept bytes of the buffer, up to `to`, or failed, and was answered. What is laid ready fills the front of
+-- the output; what is left stands in the buffer from `rest` up to `to'`.
+pub record AnswersRead (p : Panel) (buf : List ℕ) (kept to : ℕ) (failed : Bool) (out : List ℕ) (rest to' filled : ℕ) (go : Bool) (later : Panel) : Type 0 where
   -- it failed: nothing is run
-  pub cut : failed ≡ true → (later ≡ p) × (kept' ≡ 0) × (go ≡ false)
+  pub cut : failed ≡ true → (take filled out ≡ []) × (later ≡ p) × (go ≡ false)
   -- it gave nothing: the input ended, and what is kept is the last line
-  pub ended : failed ≡ false → to ≡ kept → Finishes p (take kept buf) later kept' go
+  pub ended : failed ≡ false → to ≡ kept → Finishes p (take kept buf) out filled later × (go ≡ false)
   -- it gave some bytes
-  pub went-on : failed ≡ false → (to ≡ kept → ⊥) → Passes p (take to buf) after later kept' go
+  pub went-on : failed ≡ false → (to ≡ kept → ⊥) → Answers p (take to buf) (take filled out) (drop rest (take to' buf)) later × (go ≡ true)
+  pub in-order : rest ≤ to'
+  pub inside : to' ≤ length buf
+  pub room : filled ≤ length out
 
--- A turn: some read was made, and answered.
-pub record Turns (p : Panel) (before : List ℕ) (kept : ℕ) (after : List ℕ) (later : Panel) (kept' : ℕ) (go : Bool) : Type 0 where
-  pub buf : List ℕ
-  pub to : ℕ
-  pub failed : Bool
-  pub fetches : Fetches before kept buf to
-  pub answers : AnswersRead p buf kept to failed after later kept' go
-
--- Some lines were taken, in order: the panel is the one after them. (That they are the input's is the read call's.)
-pub record TakesLines (p later : Panel) : Type 0 where
-  pub lines : List (List ℕ)
-  pub stands : later ≡ afterLines p lines
+-- So many bytes as these were handed to the write call. What it does with them is in no contract.
+pub record Hands (bytes : List ℕ) (count : ℕ) : Type 0 where
+  pub all : count ≡ length bytes

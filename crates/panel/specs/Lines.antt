@@ -34,3 +34,8 @@ module _ (p : Panel) where
   unfoldable pub panelAtEnd : List ℕ → Panel
   panelAtEnd [] = p
   panelAtEnd (c ∷ line) = lineAfter p (c ∷ line)
+
+  -- and its reply is followed by a line end too
+  unfoldable pub lastReply : List ℕ → List ℕ
+  lastReply [] = []
+  lastReply (c ∷ line) = lineReply p (c ∷ line) ++ lineFeed ∷ []

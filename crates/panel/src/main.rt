@@ -2,155 +2,168 @@
 ghost use mathlib.Core.Path.{_≡_};
 ghost use mathlib.Core.Bool.{false};
 ghost use Prim.Native.Nat.{_≤_};
-ghost use lib.ListN.{length};
+ghost use lib.ListN.{length, take, drop};
 ghost use Rattle.places.specs.Memory.{memory, panelIn};
-ghost use Rattle.panel.specs.Contracts.{block, mostKept, bufferBytes, Covers, Keeps, Fetches, AnswersRead, Finishes, Turns, TakesLines};
+ghost use Rattle.panel.specs.Contracts.{block, bufferBytes, Finishes, AnswersRead, Hands};
+ghost use Rattle.panel.specs.Runs.{isFull, Steps, Turns, Runs};
 use frame::limits::MOST_REPLY;
-use libc::STDIN_FILENO;
+use input::Fetched;
 use libc::STDOUT_FILENO;
 use limits::BLOCK;
 use limits::BUFFER_BYTES;
-use limits::MOST_KEPT;
+use limits::MOST_FILLED;
 use places::limits::STORE_BYTES;
 use sheet::layout::SHEET_WORDS;
 
+mod input;
 mod limits;
 mod lines;
 
-// What is carried from read to read beside the panel: how many bytes at the front of the buffer are the unfinished line, and
-// whether to go on.
+// What is carried from turn to turn beside the panel: from where up to where the bytes of the buffer are not answered, how much of
+// the output is filled, and whether to go on.
 struct State {
-    kept: usize,
+    rest: usize,
+    to: usize,
+    filled: usize,
     go: bool,
 }
 
-// After the complete lines of a block: where the unfinished line begins, and whether all was written.
-struct Block {
-    rest: usize,
+// A write: how many bytes were handed to it, and whether it wrote them all.
+struct Written {
+    count: usize,
     ok: bool,
 }
 
-// A read: where what it gave ends, and whether it failed.
-struct Fetched {
-    to: usize,
-    failed: bool,
-}
-
-fn stopped() -> State
-    ensures { λ r. ⌜ (r .kept ≡ 0) × (r .go ≡ false) ⌝ }
-{
-    State { kept: 0, go: false }
-}
-
-// At the end of the input, the reply to a last line without line end.
+// At the end of the input, the reply to a last line without line end; how much of the output it fills.
 fn finish(
     sheet: &mut [u32; SHEET_WORDS],
     staged: &mut [u32; SHEET_WORDS],
     places: &mut [u8; STORE_BYTES],
     line: &[u8],
     out: &mut [u8],
-) -> State
+) -> usize
     requires { ⌜ length (now out) ≡ block ⌝ }
-    ensures { λ r. ⌜ Finishes (panelIn (memory (now (sheet .entry)) (now (staged .entry)) (now (places .entry)))) (now (line .entry)) (panelIn (memory (now (sheet .exit)) (now (staged .exit)) (now (places .exit)))) (r .kept) (r .go) ⌝ }
+    ensures { λ r. ⌜ Finishes
+        (panelIn (memory (now (sheet .entry)) (now (staged .entry)) (now (places .entry))))
+        (now (line .entry)) (now (out .exit)) r
+        (panelIn (memory (now (sheet .exit)) (now (staged .exit)) (now (places .exit)))) ⌝ }
 {
     if line.len() == 0 {
-        return stopped();
+        return 0;
     }
     let mut reply = [0u8; MOST_REPLY];
-    let filled = lines::answer(sheet, staged, places, line, &mut reply, out, 0);
-    io::write_all(STDOUT_FILENO, &out[0..filled]);
-    stopped()
+    lines::answer(sheet, staged, places, line, &mut reply, out, 0)
 }
 
-// The replies to the complete lines of a block, written out each time that the output is full, and at the end.
-fn answer_block(
+// What a read gave is answered. Where it failed, the unfinished line is not complete and is not run; at the end of the input it
+// is the last line; else the lines that are complete now are answered, as many as the output has room for.
+fn answer_read(
     sheet: &mut [u32; SHEET_WORDS],
     staged: &mut [u32; SHEET_WORDS],
     places: &mut [u8; STORE_BYTES],
     buf: &[u8],
     out: &mut [u8],
-) -> Block
-    requires { ⌜ length (now out) ≡ block ⌝ }
-    ensures { λ r. ⌜ Covers (panelIn (memory (now (sheet .entry)) (now (staged .entry)) (now (places .entry)))) (now (buf .entry)) (r .rest) (panelIn (memory (now (sheet .exit)) (now (staged .exit)) (now (places .exit)))) (r .ok) ⌝ }
+    kept: usize,
+    read: Fetched,
+) -> State
+    requires { ⌜ (kept ≤ read .to) × (read .to ≤ length (now buf)) × (length (now out) ≡ block) ⌝ }
+    ensures { λ r. ⌜ AnswersRead
+        (panelIn (memory (now (sheet .entry)) (now (staged .entry)) (now (places .entry))))
+        (now (buf .entry)) kept (read .to) (read .failed) (now (out .exit)) (r .rest) (r .to) (r .filled) (r .go)
+        (panelIn (memory (now (sheet .exit)) (now (staged .exit)) (now (places .exit)))) ⌝ }
 {
-    let mut rest = 0;
-    loop {
-        let b = lines::answer_lines(sheet, staged, places, buf, rest, out);
-        let filled = b.filled;
-        rest = b.rest;
-        if !io::write_all(STDOUT_FILENO, &out[0..filled]) {
-            return Block {
-                rest: rest,
-                ok: false,
-            };
-        }
-        if filled <= limits::MOST_FILLED {
-            return Block {
-                rest: rest,
-                ok: true,
-            };
-        }
+    if read.failed {
+        return State {
+            rest: 0,
+            to: 0,
+            filled: 0,
+            go: false,
+        };
+    }
+    let to = read.to;
+    if to == kept {
+        let last = finish(sheet, staged, places, &buf[0..kept], out);
+        return State {
+            rest: 0,
+            to: 0,
+            filled: last,
+            go: false,
+        };
+    }
+    let l = lines::answer_lines(sheet, staged, places, &buf[0..to], 0, out);
+    State {
+        rest: l.rest,
+        to: to,
+        filled: l.filled,
+        go: true,
     }
 }
 
-// The unfinished line, or of one over the limit the first characters, goes to the front of the buffer; how many bytes that are.
-fn keep_rest(buf: &mut [u8], rest: usize, n: usize) -> usize
-    requires { ⌜ (rest ≤ n) × (n ≤ length (now buf)) ⌝ }
-    ensures { λ r. ⌜ Keeps (now (buf .entry)) rest n (now (buf .exit)) r ⌝ }
-{
-    if MOST_KEPT < n - rest {
-        line_io::move_to_front(buf, rest, rest + MOST_KEPT);
-        return MOST_KEPT;
-    }
-    line_io::move_to_front(buf, rest, n);
-    n - rest
-}
-
-// One read, behind the unfinished line. At the end of the input what is read ends where it began.
-fn read_block(buf: &mut [u8], kept: usize) -> Fetched
-    requires { ⌜ (kept ≤ mostKept) × (length (now buf) ≡ bufferBytes) ⌝ }
-    ensures { λ r. ⌜ Fetches (now (buf .entry)) kept (now (buf .exit)) (r .to) ⌝ }
-{
-    let to = kept + BLOCK;
-    let got = libc::read(STDIN_FILENO, &mut buf[kept..to]);
-    let end = kept + io::count(got, &buf[kept..to]);
-    Fetched {
-        to: end,
-        failed: got < 0,
-    }
-}
-
-// What a read gave is answered. Where it failed, the unfinished line is not complete and is not run; at the end of the input it
-// is the last line; else the lines that are complete now are answered, and the rest is kept.
-fn answer_read(
+// One read behind what is kept of the bytes that are not answered, and the replies to the lines that it completes.
+fn take_read(
     sheet: &mut [u32; SHEET_WORDS],
     staged: &mut [u32; SHEET_WORDS],
     places: &mut [u8; STORE_BYTES],
     buf: &mut [u8],
     out: &mut [u8],
-    kept: usize,
-    read: Fetched,
+    rest: usize,
+    to: usize,
 ) -> State
-    requires { ⌜ (kept ≤ read .to) × (read .to ≤ length (now buf)) × (length (now out) ≡ block) ⌝ }
-    ensures { λ r. ⌜ AnswersRead (panelIn (memory (now (sheet .entry)) (now (staged .entry)) (now (places .entry)))) (now (buf .entry)) kept (read .to) (read .failed) (now (buf .exit)) (panelIn (memory (now (sheet .exit)) (now (staged .exit)) (now (places .exit)))) (r .kept) (r .go) ⌝ }
+    requires { ⌜ (rest ≤ to) × (to ≤ length (now buf)) × (length (now buf) ≡ bufferBytes) × (length (now out) ≡ block) ⌝ }
+    ensures { λ r. ⌜ Steps
+        (panelIn (memory (now (sheet .entry)) (now (staged .entry)) (now (places .entry))))
+        (drop rest (take to (now (buf .entry)))) false
+        (now (buf .exit)) (now (out .exit)) (r .rest) (r .to) (r .filled) (r .go)
+        (panelIn (memory (now (sheet .exit)) (now (staged .exit)) (now (places .exit)))) ⌝ }
 {
-    if read.failed {
-        return stopped();
+    let kept = input::keep_rest(buf, rest, to);
+    let read = input::read_block(buf, kept);
+    answer_read(sheet, staged, places, buf, out, kept, read)
+}
+
+// The replies that are to be written next: where the output was full, to lines that are left in the buffer; else a read is made.
+fn step(
+    sheet: &mut [u32; SHEET_WORDS],
+    staged: &mut [u32; SHEET_WORDS],
+    places: &mut [u8; STORE_BYTES],
+    buf: &mut [u8],
+    out: &mut [u8],
+    s: State,
+) -> State
+    requires { ⌜ (s .rest ≤ s .to) × (s .to ≤ length (now buf)) × (s .filled ≤ length (now out))
+        × (length (now buf) ≡ bufferBytes) × (length (now out) ≡ block) ⌝ }
+    ensures { λ r. ⌜ Steps
+        (panelIn (memory (now (sheet .entry)) (now (staged .entry)) (now (places .entry))))
+        (drop (s .rest) (take (s .to) (now (buf .entry)))) (isFull (s .filled))
+        (now (buf .exit)) (now (out .exit)) (r .rest) (r .to) (r .filled) (r .go)
+        (panelIn (memory (now (sheet .exit)) (now (staged .exit)) (now (places .exit)))) ⌝ }
+{
+    let rest = s.rest;
+    let to = s.to;
+    if MOST_FILLED < s.filled {
+        let l = lines::answer_lines(sheet, staged, places, &buf[0..to], rest, out);
+        return State {
+            rest: l.rest,
+            to: to,
+            filled: l.filled,
+            go: true,
+        };
     }
-    let n = read.to;
-    if n == kept {
-        return finish(sheet, staged, places, &buf[0..kept], out);
-    }
-    let b = answer_block(sheet, staged, places, &buf[0..n], out);
-    let rest = b.rest;
-    let left = keep_rest(buf, rest, n);
-    State {
-        kept: left,
-        go: b.ok,
+    take_read(sheet, staged, places, buf, out, rest, to)
+}
+
+// Hands bytes to the write call. What that call does with them is in no contract.
+fn write_out(bytes: &[u8]) -> Written
+    ensures { λ r. ⌜ Hands (now (bytes .entry)) (r .count) ⌝ }
+{
+    let ok = io::write_all(STDOUT_FILENO, bytes);
+    Written {
+        count: bytes.len(),
+        ok: ok,
     }
 }
 
-// One read, and the replies to the lines that it completes, written out.
+// One filling of the output, written out.
 fn turn(
     sheet: &mut [u32; SHEET_WORDS],
     staged: &mut [u32; SHEET_WORDS],
@@ -159,31 +172,51 @@ fn turn(
     out: &mut [u8],
     s: State,
 ) -> State
-    requires { ⌜ (s .kept ≤ mostKept) × (length (now buf) ≡ bufferBytes) × (length (now out) ≡ block) ⌝ }
-    ensures { λ r. ⌜ Turns (panelIn (memory (now (sheet .entry)) (now (staged .entry)) (now (places .entry)))) (now (buf .entry)) (s .kept) (now (buf .exit)) (panelIn (memory (now (sheet .exit)) (now (staged .exit)) (now (places .exit)))) (r .kept) (r .go) ⌝ }
+    requires { ⌜ (s .rest ≤ s .to) × (s .to ≤ length (now buf)) × (s .filled ≤ length (now out))
+        × (length (now buf) ≡ bufferBytes) × (length (now out) ≡ block) ⌝ }
+    ensures { λ r. ⌜ Turns
+        (panelIn (memory (now (sheet .entry)) (now (staged .entry)) (now (places .entry))))
+        (drop (s .rest) (take (s .to) (now (buf .entry)))) (isFull (s .filled))
+        (now (buf .exit)) (now (out .exit)) (r .rest) (r .to) (r .filled) (r .go)
+        (panelIn (memory (now (sheet .exit)) (now (staged .exit)) (now (places .exit)))) ⌝ }
 {
-    let kept = s.kept;
-    let read = read_block(buf, kept);
-    answer_read(sheet, staged, places, buf, out, kept, read)
+    let next = step(sheet, staged, places, buf, out, s);
+    let filled = next.filled;
+    let w = write_out(&out[0..filled]);
+    State {
+        rest: next.rest,
+        to: next.to,
+        filled: w.count,
+        go: next.go & w.ok,
+    }
 }
 
-// Lines are taken until the input ends. A proved loop has to end, and nothing says that the input does, so the turns are counted down.
+// Turns are made until the input ends. A proved loop has to end, and nothing says that the input does, so the turns are counted down.
 fn run(
     sheet: &mut [u32; SHEET_WORDS],
     staged: &mut [u32; SHEET_WORDS],
     places: &mut [u8; STORE_BYTES],
     buf: &mut [u8],
     out: &mut [u8],
-)
+) -> State
     requires { ⌜ (length (now buf) ≡ bufferBytes) × (length (now out) ≡ block) ⌝ }
-    ensures { λ _. ⌜ TakesLines (panelIn (memory (now (sheet .entry)) (now (staged .entry)) (now (places .entry)))) (panelIn (memory (now (sheet .exit)) (now (staged .exit)) (now (places .exit)))) ⌝ }
+    ensures { λ r. ⌜ Runs
+        (panelIn (memory (now (sheet .entry)) (now (staged .entry)) (now (places .entry))))
+        (now (buf .exit)) (now (out .exit)) (r .rest) (r .to) (r .filled) (r .go)
+        (panelIn (memory (now (sheet .exit)) (now (staged .exit)) (now (places .exit)))) ⌝ }
 {
     let mut turns = u64::MAX;
-    let mut s = State { kept: 0, go: true };
+    let mut s = State {
+        rest: 0,
+        to: 0,
+        filled: 0,
+        go: true,
+    };
     while 0 < turns && s.go {
         s = turn(sheet, staged, places, buf, out, s);
         turns -= 1;
     }
+    s
 }
 
 fn main() {

@@ -7,7 +7,6 @@ pub answer-read-spec : {M : Type 1} → statement M
 answer-read-spec =
     tie.close
     (tie.spec
-    (λ c κs. search read-ways)
     (λ c. search read-ways)
     (λ c. search read-ways)
     (λ c. search read-ways)
@@ -18,9 +17,6 @@ answer-read-spec =
     (λ c. search read-ways)
     (λ c. search read-ways)
     (λ c. search read-ways)
-    (λ c. search read-ways)
     (λ c κs. search read-ways)
-    (λ c κs. search read-ways)
-    (λ c. search read-ways)
     (λ c. search read-ways)
     (λ c. search read-ways))

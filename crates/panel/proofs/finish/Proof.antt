@@ -7,13 +7,7 @@ pub finish-spec : {M : Type 1} → statement M
 finish-spec =
     tie.close
     (tie.spec
-    (λ c κs. search finish-ways)
     (λ c. search finish-ways)
-    (λ c κs. search finish-ways)
-    (λ c. search finish-ways)
-    (λ c. search finish-ways)
-    (λ c. search finish-ways)
-    (λ c κs. search finish-ways)
     (λ c κs. search finish-ways)
     (λ c. search finish-ways)
     (λ c. search finish-ways))

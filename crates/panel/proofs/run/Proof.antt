@@ -1,17 +1,16 @@
--- `panel::run` meets its contract; its loop keeps the lengths, the unfinished line within its limit, and the panel after the lines taken. Assumes nothing.
-use Prim.Native.Nat.{_≤_}
+-- `panel::run` meets its contract; its loop keeps the lengths, and what follows the turns that were made. Assumes nothing.
 use mathlib.Core.Path.{_≡_}
 use lib.ListN.{length}
 use Rattle.places.specs.Memory.{memory, panelIn}
-use Rattle.panel.specs.Contracts.{block, mostKept, bufferBytes, TakesLines}
-use Rattle.panel.proofs.TurnWays.{run-ways}
+use Rattle.panel.specs.Contracts.{block, bufferBytes}
+use Rattle.panel.proofs.RunWays.{Running, run-ways}
 use Rattle.panel.proofs.run.Statement.{statement}
 use Rattle.panel.proofs.run.Tie as tie
 
 abbrev Inv-loop : tie.InvT-loop
 Inv-loop sheet₀ staged₀ places₀ buf₀ out₀ turns₀ s₀ sheet staged places buf out turns s =
-    (s .kept ≤ mostKept) × (length buf ≡ bufferBytes) × (length out ≡ block) × (length buf₀ ≡ bufferBytes) × (length out₀ ≡ block)
-    × TakesLines (panelIn (memory sheet₀ staged₀ places₀)) (panelIn (memory sheet staged places))
+    Running (panelIn (memory sheet₀ staged₀ places₀)) buf out (s .rest) (s .to) (s .filled) (s .go) (panelIn (memory sheet staged places)) turns
+    × (length buf ≡ bufferBytes) × (length out ≡ block) × (length buf₀ ≡ bufferBytes) × (length out₀ ≡ block)
 
 abbrev μ-loop : tie.MeasureT-loop
 μ-loop sheet₀ staged₀ places₀ buf₀ out₀ turns₀ s₀ sheet staged places buf out turns s = turns
@@ -26,7 +25,7 @@ run-spec =
     (λ c κs. search run-ways)
     (λ c. search run-ways)
     (λ c. search run-ways)
-    (λ c. (search run-ways, search run-ways, search run-ways, search run-ways, search run-ways, search run-ways))
+    (λ c. (search run-ways, search run-ways, search run-ways, search run-ways, search run-ways))
     (λ c. search run-ways)
     (λ c. search run-ways)
     (λ c. search run-ways)
