@@ -6,7 +6,7 @@ use mathlib.Core.List.{List, [], _∷_, _++_}
 use lib.Dec.{ltb}
 use lib.ListN.{length, take, drop}
 use Rattle.run.specs.Panel.{Panel}
-use Rattle.panel.specs.Lines.{panelAtEnd, lastReply}
+use Rattle.panel.specs.Lines.{withEnds, afterLines, replies, panelAtEnd, lastReply}
 use Rattle.panel.specs.Contracts.{mostKept, mostFilled, Answers}
 
 -- with so much of it filled the output has no room for one more reply
@@ -20,6 +20,13 @@ pub data Event : Type 0 where
   failed : Event
   ended : Event
   gave : (bytes : List ℕ) → Event
+
+-- what a read gave
+abbrev pub bytesOf : Event → List ℕ
+bytesOf more = []
+bytesOf failed = []
+bytesOf ended = []
+bytesOf (gave bytes) = bytes
 
 -- whether a turn follows
 abbrev pub goesOn : Event → Bool
@@ -91,6 +98,15 @@ InTurn p (t ∷ turns) =
     (goesAfter turns ≡ true) × (isMore (t .event) ≡ isFull (length (laidLast turns)))
     × Takes (panelAfter p turns) (leftAfter turns) (t .event) (t .laid) (t .left) (t .after) × InTurn p turns
 
+-- all bytes that the reads gave, and all that was laid ready, in order
+unfoldable pub given : List Turn → List ℕ
+given [] = []
+given (t ∷ turns) = given turns ++ bytesOf (t .event)
+
+unfoldable pub allLaid : List Turn → List ℕ
+allLaid [] = []
+allLaid (t ∷ turns) = allLaid turns ++ t .laid
+
 -- Turns were made, one after the other, and what the last one laid ready and left is in the output and the buffer. (That what the reads gave is
 -- the input is the read call's.)
 pub record Made (p : Panel) (buf out : List ℕ) (rest to handed : ℕ) (go : Bool) (later : Panel) : Type 0 where
@@ -112,3 +128,8 @@ mostTurns = 18446744073709551615
 pub record Runs (p : Panel) (buf out : List ℕ) (rest to handed : ℕ) (go : Bool) (later : Panel) : Type 0 where
   pub made : Made p buf out rest to handed go later
   pub until : go ≡ true → length (made .turns) ≡ mostTurns
+
+-- What was laid ready over turns, and the panel after them, are those of these lines and a last one without line end.
+pub record Answered (p : Panel) (turns : List Turn) (lines : List (List ℕ)) (last : List ℕ) : Type 0 where
+  pub written : allLaid turns ≡ withEnds (replies p lines) ++ lastReply (afterLines p lines) last
+  pub stands : panelAfter p turns ≡ panelAtEnd (afterLines p lines) last
