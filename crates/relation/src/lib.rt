@@ -1,4 +1,4 @@
-// The relations that a sheet's rules give, in words of bits: rules in bytes, what closes before what and what yields to what, and the tests of a verdict on them.
+// The relations that a sheet's rules give, in words of bits: rules in bytes, what closes before what, what yields to what, and the tests of the verdict.
 ghost use mathlib.Core.Path.{_≡_};
 ghost use Prim.Native.Nat.{_≤_};
 ghost use Rattle.expression.specs.Limits.{mostOperators};

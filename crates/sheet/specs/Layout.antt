@@ -1,4 +1,4 @@
--- The words of a lent sheet: those of `relation`, and others that only the crate `sheet` knows. All above it speak of a sheet's operators and of "closes before".
+-- The words of a lent sheet: those of `relation`, and others that only this crate knows. All above speak of a sheet's operators and of "closes before".
 -- Assumes nothing.
 --     word a, below 32: bit b is set where operator a closes before b
 --     word 32: the count of operators, in its lowest byte
