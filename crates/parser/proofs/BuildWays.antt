@@ -2,7 +2,7 @@
 use mathlib.Core.Path.{_≡_, refl, sym, ap, subst, _∙_}
 use mathlib.Core.Bool.{Bool}
 use mathlib.Core.Option.{some}
-use mathlib.Core.List.{List, [], _∷_}
+use mathlib.Core.List.{List, [], _∷_, _++_, append-nil, append-assoc}
 use Prim.Native.Nat.{ℕ, suc, _+_, _<_, _≤_}
 use native.Mathlib.Omega.{arith}
 use native.Mathlib.Numerals.{add-one}
@@ -17,7 +17,7 @@ use Rattle.disambiguation.specs.LeftToRight.{bottom, State, due, have, stuck, f
 use Rattle.disambiguation.proofs.LeftToRight.{run-append}
 use Rattle.parser.specs.Build.{recordIn, built}
 use Rattle.parser.specs.Notes.{notesOf, notesAt, laidOut, Inside}
-use Rattle.parser.specs.Reading.{next, Goes, Noted, Takeable, Takes, Buildable, Reads}
+use Rattle.parser.specs.Reading.{next, Goes, Noted, Takeable, Takes, Buildable, Beginning, Reads}
 use Rattle.parser.specs.declared.build.Front.{Front}
 use Rattle.parser.proofs.Shares.{share-small}
 use Rattle.parser.proofs.NoteLaws.{length-notesOf}
@@ -66,14 +66,18 @@ module _ (ops : Operators) (closes : ℕ → ℕ → Bool) (row words₀ : List 
   one-more : (i : ℕ) → i < length row → after ops closes (take (i + 1) row) ≡ next ops closes (getD row i 0) (after ops closes (take i row))
   one-more i h = ap (after ops closes) (ap (λ k. take k row) (add-one i) ∙ take-suc row i 0 h) ∙ run-append closes (class ops) (take i row) (getD row i 0 ∷ []) (due bottom)
 
-  goes : (i : ℕ) → i < length row → Buildable ops closes row → Goes (next ops closes (getD row i 0) (after ops closes (take i row)))
+  -- the state after a token of a beginning is one from which the row's other tokens lead to a tree
+  goes : (i : ℕ) → i < length row → Beginning ops closes row → Goes (next ops closes (getD row i 0) (after ops closes (take i row)))
   goes i h b =
-      goes-on ops closes (next ops closes (getD row i 0) (after ops closes (take i row))) (drop (suc i) row) (b .tree)
-      (sym (ap (λ r. finish (after ops closes r)) (split-at row i 0 h) ∙ ap finish (run-append closes (class ops) (take i row) (getD row i 0 ∷ drop (suc i) row) (due bottom)))
-      ∙ made-finishes ops closes row (b .tree) (b .makes))
+      let ahead = drop (suc i) row ++ b .rest in
+      let split : row ++ b .rest ≡ take i row ++ (getD row i 0 ∷ ahead) =
+      ap (λ tokens. tokens ++ b .rest) (split-at row i 0 h) ∙ append-assoc (take i row) (getD row i 0 ∷ drop (suc i) row) (b .rest) in
+      goes-on ops closes (next ops closes (getD row i 0) (after ops closes (take i row))) ahead (b .tree)
+      (sym (ap (λ tokens. finish (after ops closes tokens)) split ∙ ap finish (run-append closes (class ops) (take i row) (getD row i 0 ∷ ahead) (due bottom)))
+      ∙ made-finishes ops closes (row ++ b .rest) (b .tree) (b .makes))
 
   module _ {words : List ℕ} {f : Front} {i : ℕ} (r : Reading words f i) where
-    pub token-takeable : i < length row → Buildable ops closes row → Takeable ops closes (getD row i 0) words f
+    pub token-takeable : i < length row → Beginning ops closes row → Takeable ops closes (getD row i 0) words f
     token-takeable h b = record { state = after ops closes (take i row); stands = r .stands; goes = goes i h b }
 
     pub token-room : i < length row → length row ≤ length words₀ → f .count < length words
@@ -85,7 +89,7 @@ module _ (ops : Operators) (closes : ℕ → ℕ → Bool) (row words₀ : List 
     pub token-first : f .first ≤ f .count
     token-first = r .first-inside
 
-    pub reading-more : {words′ : List ℕ} {g : Front} → i < length row → Buildable ops closes row → Takes ops closes (getD row i 0) words f words′ g → Reading words′ g (i + 1)
+    pub reading-more : {words′ : List ℕ} {g : Front} → i < length row → Beginning ops closes row → Takes ops closes (getD row i 0) words f words′ g → Reading words′ g (i + 1)
     reading-more {words′} {g} h b t =
         record {
           stands = subst (λ m. Noted ops words′ g m) (sym (one-more i h)) (t .taken (after ops closes (take i row)) (r .stands) (goes i h b));
@@ -95,30 +99,33 @@ module _ (ops : Operators) (closes : ℕ → ℕ → Bool) (row words₀ : List 
           same-length = t .same-length ∙ r .same-length;
         }
 
-    pub reading-done : length row ≤ i → Reads ops closes row words
-    reading-done h =
-        let noted : (t : Tree) → made ops closes row ≡ some t → take (f .count) words ≡ notesOf 0 t =
-        λ t e. r .stands .noted ∙ ap (λ x. notesAt (after ops closes x)) (take-all i row h) ∙ finished-notes (after ops closes row) t (made-finishes ops closes row t e) in
-        let long : (t : Tree) → made ops closes row ≡ some t → f .count ≡ length (recordOf t) =
-        λ t e. count-is (r .stands) ∙ ap length (sym (r .stands .noted) ∙ noted t e) ∙ length-notesOf 0 t in
-        record {
-          noted = λ t e. ap (λ n. take n words) (sym (long t e)) ∙ noted t e;
-          few = λ t e. omega (arith, long t e, r .stands .inside, r .stands .size);
-        }
+    pub reading-done : length row ≤ i → Reads ops closes row words f
+    reading-done h = record { stands = subst (λ tokens. Noted ops words f (after ops closes tokens)) (take-all i row h) (r .stands) }
 
 pub ruleset read-ways = (reading-starts, token-takeable, token-room, words-same, token-first, reading-more, reading-done, needs)
 
 -- ---- build_into
+-- a row is a beginning of itself
+pub whole-begins : {ops : Operators} {closes : ℕ → ℕ → Bool} {row : List ℕ} → Buildable ops closes row → Beginning ops closes row
+whole-begins {ops} {closes} {row} b = record { rest = []; tree = b .tree; makes = ap (made ops closes) (append-nil row) ∙ b .makes }
+
 module _ (ops : Operators) (closes : ℕ → ℕ → Bool) (row out : List ℕ) (b : Buildable ops closes row) (size : length out ≡ recordBytes row) where
   fills : length (recordOf (b .tree)) ≡ length out
   fills = b .measured ∙ sym size
 
-  module _ {words : List ℕ} (r : Reads ops closes row words) where
+  module _ {words : List ℕ} {f : Front} (r : Reads ops closes row words f) where
+    -- what waits at the end closes there, and the notes are those of the tree
+    counted : take (f .count) words ≡ notesOf 0 (b .tree)
+    counted = r .stands .noted ∙ finished-notes (after ops closes row) (b .tree) (made-finishes ops closes row (b .tree) (b .makes))
+
+    long : f .count ≡ length (recordOf (b .tree))
+    long = count-is (r .stands) ∙ ap length (sym (r .stands .noted) ∙ counted) ∙ length-notesOf 0 (b .tree)
+
     noted : take (length (recordOf (b .tree))) words ≡ notesOf 0 (b .tree)
-    noted = r .noted (b .tree) (b .makes)
+    noted = ap (λ n. take n words) (sym long) ∙ counted
 
     few : length (recordOf (b .tree)) ≤ mostTokens
-    few = r .few (b .tree) (b .makes)
+    few = omega (arith, long, r .stands .inside, r .stands .size)
 
     pub out-few : length out ≤ mostTokens
     out-few = omega (arith, few, fills)
@@ -133,4 +140,4 @@ module _ (ops : Operators) (closes : ℕ → ℕ → Bool) (row out : List ℕ) 
     unfolding built
     out-built e = e ∙ words-laid ops (b .tree) (b .over) few words (length (recordOf (b .tree))) noted out fills ∙ sym (ap recordIn (b .makes))
 
-pub ruleset build-ways = (out-few, out-enough, out-inside, out-built, needs)
+pub ruleset build-ways = (whole-begins, out-few, out-enough, out-inside, out-built, needs)

@@ -12,8 +12,8 @@ use Rattle.expression.specs.Token.{Infix, Prefix, closing, Operators, class}
 use Rattle.expression.specs.Tree.{Tree, recordOf, Over}
 use Rattle.expression.specs.Checks.{recordBytes}
 use Rattle.sheet.specs.Layout.{prefixIn}
-use Rattle.disambiguation.specs.LeftToRight.{after, ahead, Stack, bottom, opened, waiting, State, due, have, stuck, remains, everything, before, step, made}
-use Rattle.parser.specs.Notes.{note, raised, notesOf, notesBelow, notesAt}
+use Rattle.disambiguation.specs.LeftToRight.{after, ahead, Stack, bottom, opened, waiting, State, due, have, stuck, remains, everything, before, step, stateAfter, made}
+use Rattle.parser.specs.Notes.{note, raised, notesBelow, notesAt}
 use Rattle.parser.specs.declared.build.Front.{Front}
 
 -- a token's share of the record: none for a closing bracket
@@ -125,7 +125,12 @@ pub record Buildable (ops : Operators) (closes : ℕ → ℕ → Bool) (row : Li
   pub over : Over (class ops) tree
   pub measured : length (recordOf tree) ≡ recordBytes row
 
--- The words begin with the notes of the tree that is made of the row.
-pub record Reads (ops : Operators) (closes : ℕ → ℕ → Bool) (row words : List ℕ) : Type 0 where
-  pub noted : (t : Tree) → made ops closes row ≡ some t → take (length (recordOf t)) words ≡ notesOf 0 t
-  pub few : (t : Tree) → made ops closes row ≡ some t → length (recordOf t) ≤ mostTokens
+-- Tokens with which some row begins that the machine makes a tree of: a row, or any beginning of it.
+pub record Beginning (ops : Operators) (closes : ℕ → ℕ → Bool) (tokens : List ℕ) : Type 0 where
+  pub rest : List ℕ
+  pub tree : Tree
+  pub makes : made ops closes (tokens ++ rest) ≡ some tree
+
+-- They were read, from the left: the words are the notes of the machine's state after them.
+pub record Reads (ops : Operators) (closes : ℕ → ℕ → Bool) (tokens words : List ℕ) (f : Front) : Type 0 where
+  pub stands : Noted ops words f (stateAfter closes (class ops) tokens)

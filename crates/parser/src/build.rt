@@ -16,7 +16,7 @@ ghost use Rattle.sheet.specs.Layout.{operatorsOf, prefixIn};
 ghost use Rattle.sheet.specs.Relation.{closesIn};
 ghost use Rattle.parser.specs.Build.{built};
 ghost use Rattle.parser.specs.Notes.{laidOut, Inside};
-ghost use Rattle.parser.specs.Reading.{infixIn, ends, SomeWait, Closes, Takeable, Takes, Adds, StartsOperand, Raisable, Frees, Buildable, Reads};
+ghost use Rattle.parser.specs.Reading.{infixIn, ends, SomeWait, Closes, Takeable, Takes, Adds, StartsOperand, Raisable, Frees, Buildable, Beginning, Reads};
 
 // How many tokens are noted, and which is the first of the operand that was read last. Right before that one stands what waits nearest.
 pub struct Front {
@@ -134,10 +134,10 @@ fn take_token(sheet: &[u32; SHEET_WORDS], c: u8, words: &mut [u32], from: Front)
     take_operand(c, words, from)
 }
 
-// All tokens are taken, from the left. What waits at the end closes there, which changes no note.
-fn read_row(sheet: &[u32; SHEET_WORDS], row: &[u8], words: &mut [u32])
-    requires { ⌜ (length (now words) ≤ mostTokens) × (length (now row) ≤ length (now words)) × Buildable (operatorsOf (now sheet)) (closesIn (now sheet)) (now row) ⌝ }
-    ensures { λ _. ⌜ Reads (operatorsOf (now (sheet .entry))) (closesIn (now (sheet .entry))) (now (row .entry)) (now (words .exit)) ⌝ }
+// The tokens of a row, or of a beginning of one, are taken from the left. What waits at the end of a row closes there, which changes no note.
+fn read_row(sheet: &[u32; SHEET_WORDS], row: &[u8], words: &mut [u32]) -> Front
+    requires { ⌜ (length (now words) ≤ mostTokens) × (length (now row) ≤ length (now words)) × Beginning (operatorsOf (now sheet)) (closesIn (now sheet)) (now row) ⌝ }
+    ensures { λ r. ⌜ Reads (operatorsOf (now (sheet .entry))) (closesIn (now (sheet .entry))) (now (row .entry)) (now (words .exit)) r ⌝ }
 {
     let mut front = Front { count: 0, first: 0 };
     let mut i = 0;
@@ -145,6 +145,7 @@ fn read_row(sheet: &[u32; SHEET_WORDS], row: &[u8], words: &mut [u32])
         front = take_token(sheet, row[i], words, front);
         i += 1;
     }
+    front
 }
 
 // The record that the notes lay out.
