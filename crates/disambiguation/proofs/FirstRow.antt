@@ -20,7 +20,7 @@ use Rattle.disambiguation.specs.Shown.{FirstRow, none-of-pair, two-of-pa
 use Rattle.disambiguation.proofs.FirstBelow.{first-is, first-below, first-holds}
 use Rattle.disambiguation.proofs.TestsDecide.{infix-below, both-exclude, none-excludes, is-uneven}
 use Rattle.disambiguation.proofs.Witnesses.{safe-is, total-is}
-use Rattle.disambiguation.proofs.RowsDecided.{RowsDecided, rows-decided, one-triple-row}
+use Rattle.disambiguation.proofs.RowsDecided.{RowsDecided, rows-decided, one-triple-row, pair-row, triple-row}
 
 -- a number below n of which the test holds is not before the first, so there is one
 module _ (n : ℕ) (p : ℕ → Bool) where
@@ -178,7 +178,7 @@ module _ (ops : Operators) (rules : List Rule) (small : ops .count ≤ mostOpera
       go true e =
           two-of-triple a b c (firstOverTriple (not (comes ops a)) a (R rules a b) b c) (lastOverTriple (not (comes ops a)) a (R rules a b) b c)
           (no-none d) (no-two t) (first-triple ops unlevel (TwoOfTriple ops rules) decides infix-both e)
-          (one-triple-row (not (comes ops a)) (R rules a b) a b c)
+          (one-triple-row (not (comes ops a)) (R rules a b) a b c ∙ triple-row ops a b c)
       go false e = no-fault (no-none d) (no-two t) (of-no-triple ops unlevel (TwoOfTriple ops rules) decides e)
 
   by-neither : someOf ops both ≡ false → (x : Bool) → someOf ops none ≡ x
@@ -186,14 +186,16 @@ module _ (ops : Operators) (rules : List Rule) (small : ops .count ≤ mostOpera
   unfolding ofTriples
   by-neither d true e =
       two-of-pair (left ops none) (right ops none) _ _ (no-none d)
-      (first-pair ops none (TwoOfPair ops rules) (rows .two) (λ a b hb h. none-excludes ops small (L rules) (R rules) a b hb h .0) e) refl
+      (first-pair ops none (TwoOfPair ops rules) (rows .two) (λ a b hb h. none-excludes ops small (L rules) (R rules) a b hb h .0) e)
+      (pair-row ops (left ops none) (right ops none))
   by-neither d false e = by-triples d e (someOf ops (unevenPair ops (R rules))) refl
 
   by-both : (x : Bool) → someOf ops both ≡ x
       → FirstRow ops rules (cond x (noneOf ops (left ops both) (right ops both)) (shownBy ops none (twoOf ops) (ofTriples ops (R rules))))
   by-both true e =
       none-of-pair (left ops both) (right ops both) _
-      (first-pair ops both (NoneOfPair ops rules) (rows .none) (λ a b hb h. both-exclude ops small (L rules) (R rules) a b hb h .0) e) refl
+      (first-pair ops both (NoneOfPair ops rules) (rows .none) (λ a b hb h. both-exclude ops small (L rules) (R rules) a b hb h .0) e)
+      (pair-row ops (left ops both) (right ops both))
   by-both false e = by-neither e (someOf ops none) refl
 
   pub first-row : FirstRow ops rules (witnessOf ops rules)

@@ -1,7 +1,7 @@
 -- The tests of pairs and triples hold exactly of those whose rows have no conflict-free tree, or at least two. Assumes nothing.
 use Prim.Native.Nat.{ℕ, _<_, _≤_}
 use mathlib.Core.Path.{_≡_, refl, sym, subst, _∙_}
-use mathlib.Core.Bool.{Bool, true, false, not, true≢false}
+use mathlib.Core.Bool.{Bool, true, false, not, cond, true≢false}
 use mathlib.Core.Logic.{_↔_}
 use mathlib.Core.List.{List, [], _∷_}
 use Rattle.expression.specs.Limits.{mostOperators}
@@ -31,6 +31,21 @@ pub record RowsDecided (ops : Operators) (rules : List Rule) : Type 0 where
       → (a b c : ℕ) → a < ops .count → class ops b ≡ Infix → class ops c ≡ Infix
       → (uneven ops (R rules) a b c ≡ true) ↔ HasTwo ops rules (tripleRow ops a b c)
 
+-- The rows written out are those of the trees.
+pub pair-row : (ops : Operators) (a b : ℕ) → yield (firstOverPair (not (comes ops a)) a b) ≡ pairRow ops a b
+pair-row ops a b = go (comes ops a)
+  where
+    go : (x : Bool) → yield (firstOverPair (not x) a b) ≡ cond x (0x80 ∷ a ∷ 0x81 ∷ b ∷ 0x82 ∷ []) (a ∷ 0x80 ∷ b ∷ 0x81 ∷ [])
+    go true = refl
+    go false = refl
+
+pub triple-row : (ops : Operators) (a b c : ℕ) → yield (firstOverTriple (not (comes ops a)) a true b c) ≡ tripleRow ops a b c
+triple-row ops a b c = go (comes ops a)
+  where
+    go : (x : Bool) → yield (firstOverTriple (not x) a true b c) ≡ cond x (0x80 ∷ a ∷ 0x81 ∷ b ∷ 0x82 ∷ c ∷ 0x83 ∷ []) (a ∷ 0x80 ∷ b ∷ 0x81 ∷ c ∷ 0x82 ∷ [])
+    go true = refl
+    go false = refl
+
 -- both ways of telling whether a closes before b give one row
 pub one-triple-row : (p x : Bool) (a b c : ℕ) → yield (firstOverTriple p a x b c) ≡ yield (firstOverTriple p a true b c)
 one-triple-row true true a b c = refl
@@ -42,7 +57,7 @@ module _ (ops : Operators) (rules : List Rule) (small : ops .count ≤ mostOpera
   below : (b : ℕ) → class ops b ≡ Infix → b < ops .count
   below = infix-below ops
 
-  none-exactly : (a b : ℕ) → a < ops .count → class ops b ≡ Infix → (bothExclude ops (L rules) (R rules) a b ≡ true) ↔ HasNone ops rules (pairRow ops a b)
+  none-exactly : (a b : ℕ) → a < ops .count → class ops b ≡ Infix → (bothExclude ops (L rules) (R rules) a b ≡ true) ↔ HasNone ops rules (yield (firstOverPair (not (comes ops a)) a b))
   none-exactly a b ha hb = (
     λ e.
         let (_, r, l) = both-exclude ops small (L rules) (R rules) a b (below b hb) e in
@@ -56,7 +71,7 @@ module _ (ops : Operators) (rules : List Rule) (small : ops .count ≤ mostOpera
         rw (r, infix-comes ops b hb, l),
   )
 
-  two-exactly : (a b : ℕ) → a < ops .count → class ops b ≡ Infix → (noneExcludes ops (L rules) (R rules) a b ≡ true) ↔ HasTwo ops rules (pairRow ops a b)
+  two-exactly : (a b : ℕ) → a < ops .count → class ops b ≡ Infix → (noneExcludes ops (L rules) (R rules) a b ≡ true) ↔ HasTwo ops rules (yield (firstOverPair (not (comes ops a)) a b))
   two-exactly a b ha hb = (
     λ e.
         let (_, r, l) = none-excludes ops small (L rules) (R rules) a b (below b hb) e in
@@ -76,10 +91,10 @@ module _ (ops : Operators) (rules : List Rule) (small : ops .count ≤ mostOpera
       (t, u, record { over = ht .over; yields = e; free = ht .free }, record { over = hu .over; yields = hu .yields ∙ e; free = hu .free }, w .different)
 
   module _ (a b c : ℕ) (ha : a < ops .count) (hb : class ops b ≡ Infix) (hc : class ops c ≡ Infix) where
-    three-two : safe ops (L rules) (R rules) ≡ true → uneven ops (R rules) a b c ≡ true → HasTwo ops rules (tripleRow ops a b c)
+    three-two : safe ops (L rules) (R rules) ≡ true → uneven ops (R rules) a b c ≡ true → HasTwo ops rules (yield (firstOverTriple (not (comes ops a)) a true b c))
     three-two s e =
         let (i, k, u) = is-uneven ops small (L rules) (R rules) a b (below b hb) c (below c hc) e in
-        two-on (firstOverTriple (not (comes ops a)) a (R rules a b) b c) (lastOverTriple (not (comes ops a)) a (R rules a b) b c) (tripleRow ops a b c)
+        two-on (firstOverTriple (not (comes ops a)) a (R rules a b) b c) (lastOverTriple (not (comes ops a)) a (R rules a b) b c) (yield (firstOverTriple (not (comes ops a)) a true b c))
         (one-triple-row (not (comes ops a)) (R rules a b) a b c) (uneven-twins ops (L rules) (R rules) small s a b c ha i k u)
 
     -- where the test fails, a closes before c as b does, or does not
@@ -103,7 +118,7 @@ module _ (ops : Operators) (rules : List Rule) (small : ops .count ≤ mostOpera
     these true = ((((refl, refl, refl), tt), (tt, tt)), ((tt, tt), (tt, tt)))
     these false = ((((refl, refl, refl), tt), (tt, tt)), ((tt, tt), (tt, tt)))
 
-    two-three : total ops (L rules) (R rules) ≡ true → HasTwo ops rules (tripleRow ops a b c) → uneven ops (R rules) a b c ≡ true
+    two-three : total ops (L rules) (R rules) ≡ true → HasTwo ops rules (yield (firstOverTriple (not (comes ops a)) a true b c)) → uneven ops (R rules) a b c ≡ true
     two-three t (v, u, hv, hu, differ) = is-true (uneven ops (R rules) a b c) (λ even. differ (one even))
       where
         first : Tree
@@ -124,7 +139,9 @@ module _ (ops : Operators) (rules : List Rule) (small : ops .count ≤ mostOpera
 pub rows-decided : (ops : Operators) (rules : List Rule) → ops .count ≤ mostOperators → RowsDecided ops rules
 rows-decided ops rules small =
     record {
-      none = none-exactly ops rules small;
-      two = two-exactly ops rules small;
-      two-of-three = λ s t a b c ha hb hc. (three-two ops rules small a b c ha hb hc s, two-three ops rules small a b c ha hb hc t);
+      none = λ a b ha hb. subst (λ row. (bothExclude ops (L rules) (R rules) a b ≡ true) ↔ HasNone ops rules row) (pair-row ops a b) (none-exactly ops rules small a b ha hb);
+      two = λ a b ha hb. subst (λ row. (noneExcludes ops (L rules) (R rules) a b ≡ true) ↔ HasTwo ops rules row) (pair-row ops a b) (two-exactly ops rules small a b ha hb);
+      two-of-three = λ s t a b c ha hb hc.
+          subst (λ row. (uneven ops (R rules) a b c ≡ true) ↔ HasTwo ops rules row) (triple-row ops a b c)
+          (three-two ops rules small a b c ha hb hc s, two-three ops rules small a b c ha hb hc t);
     }

@@ -1,9 +1,9 @@
 -- What a witness shows, in the terms of rows and their conflict-free trees. Assumes nothing.
 use Prim.Native.Nat.{ℕ, _<_}
 use mathlib.Core.Path.{_≡_}
-use mathlib.Core.Bool.{true, not}
+use mathlib.Core.Bool.{cond}
 use mathlib.Core.Logic.{_⊎_}
-use mathlib.Core.List.{List}
+use mathlib.Core.List.{List, [], _∷_}
 use lib.ListN.{length}
 use Rattle.expression.specs.Refusal.{accepted, dead, double}
 use Rattle.expression.specs.Token.{Infix, Operators, class}
@@ -13,7 +13,7 @@ use Rattle.disambiguation.specs.Rules.{Rule}
 use Rattle.disambiguation.specs.Conflicts.{ConflictFreeTree}
 use Rattle.disambiguation.specs.ExactlyOne.{HasNone, HasTwo}
 use Rattle.disambiguation.specs.Verdict.{comes, verdict}
-use Rattle.disambiguation.specs.Witness.{Witness, sound, noTree, twoTrees, firstOverPair, firstOverTriple}
+use Rattle.disambiguation.specs.Witness.{Witness, sound, noTree, twoTrees}
 
 -- The verdict on the rules is 0; or it is 4, and the tree's row has no conflict-free tree; or it is 5, and both are conflict-free trees of the row of the
 -- first, with different records, and no third tree is.
@@ -30,12 +30,12 @@ AsLong sound = Unit {0}
 AsLong (noTree t) = Unit {0}
 AsLong (twoTrees t u) = (length (recordOf t) ≡ length (yield t)) × (length (recordOf u) ≡ length (yield t))
 
--- the row of a and b, and of a, b and c
+-- the row of a and b, and of a, b and c: before a prefix a there is no operand
 abbrev pub pairRow : Operators → ℕ → ℕ → List ℕ
-pairRow ops a b = yield (firstOverPair (not (comes ops a)) a b)
+pairRow ops a b = cond (comes ops a) (0x80 ∷ a ∷ 0x81 ∷ b ∷ 0x82 ∷ []) (a ∷ 0x80 ∷ b ∷ 0x81 ∷ [])
 
 abbrev pub tripleRow : Operators → ℕ → ℕ → ℕ → List ℕ
-tripleRow ops a b c = yield (firstOverTriple (not (comes ops a)) a true b c)
+tripleRow ops a b c = cond (comes ops a) (0x80 ∷ a ∷ 0x81 ∷ b ∷ 0x82 ∷ c ∷ 0x83 ∷ []) (a ∷ 0x80 ∷ b ∷ 0x81 ∷ c ∷ 0x82 ∷ [])
 
 -- ---- the first row
 -- a and b come before x and y; a, b and c before x, y and z: smaller operators first, from the left
