@@ -10,7 +10,7 @@ use borrow.Author.Tests.{ltb-false, lt-ltb}
 use Rattle.expression.specs.Lists.{oneIf, anyHolds, howMany, All}
 use Rattle.expression.specs.Token.{Class, Infix}
 use Rattle.expression.specs.Tree.{Tree, reading, bracket, binary, prefix, Over}
-use Rattle.disambiguation.specs.Edges.{seenFromRight, seenFromLeft}
+use Rattle.disambiguation.specs.Edges.{shownAsLeftOperand, shownAsRightOperand}
 use Rattle.disambiguation.specs.Conflicts.{conflicts}
 use Rattle.disambiguation.proofs.Conditions.{waits}
 use Rattle.disambiguation.proofs.Agreement.{AgreeLeft, AgreeRight, seen-right-waits, seen-left-infix}
@@ -64,19 +64,19 @@ module _ (L R : ℕ → ℕ → Bool) where
   bare-enclosed (reading a) = refl
   bare-enclosed (bracket t) = bare-enclosed t
   bare-enclosed (binary o l r) =
-      ap₂ (binary o) (bare-around (anyHolds (L o) (seenFromRight (enclosed L R l))) (enclosed L R l) ∙ bare-enclosed l)
-      (bare-around (anyHolds (R o) (seenFromLeft (enclosed L R r))) (enclosed L R r) ∙ bare-enclosed r)
-  bare-enclosed (prefix p t) = ap (prefix p) (bare-around (anyHolds (R p) (seenFromLeft (enclosed L R t))) (enclosed L R t) ∙ bare-enclosed t)
+      ap₂ (binary o) (bare-around (anyHolds (L o) (shownAsLeftOperand (enclosed L R l))) (enclosed L R l) ∙ bare-enclosed l)
+      (bare-around (anyHolds (R o) (shownAsRightOperand (enclosed L R r))) (enclosed L R r) ∙ bare-enclosed r)
+  bare-enclosed (prefix p t) = ap (prefix p) (bare-around (anyHolds (R p) (shownAsRightOperand (enclosed L R t))) (enclosed L R t) ∙ bare-enclosed t)
 
   pub over-enclosed : (k : ℕ → Class) (t : Tree) → Over k t → Over k (enclosed L R t)
   over-enclosed k (reading a) h = h
   over-enclosed k (bracket t) h = over-enclosed k t h
   over-enclosed k (binary o l r) h = (
     h .0,
-    over-around k (anyHolds (L o) (seenFromRight (enclosed L R l))) (enclosed L R l) (over-enclosed k l (h .1)),
-    over-around k (anyHolds (R o) (seenFromLeft (enclosed L R r))) (enclosed L R r) (over-enclosed k r (h .2)),
+    over-around k (anyHolds (L o) (shownAsLeftOperand (enclosed L R l))) (enclosed L R l) (over-enclosed k l (h .1)),
+    over-around k (anyHolds (R o) (shownAsRightOperand (enclosed L R r))) (enclosed L R r) (over-enclosed k r (h .2)),
   )
-  over-enclosed k (prefix p t) h = (h .0, over-around k (anyHolds (R p) (seenFromLeft (enclosed L R t))) (enclosed L R t) (over-enclosed k t (h .1)))
+  over-enclosed k (prefix p t) h = (h .0, over-around k (anyHolds (R p) (shownAsRightOperand (enclosed L R t))) (enclosed L R t) (over-enclosed k t (h .1)))
 
   pub enclosed-free : (t : Tree) → conflicts L R (enclosed L R t) ≡ 0
   enclosed-free (reading a) = refl
@@ -84,16 +84,16 @@ module _ (L R : ℕ → ℕ → Bool) where
   enclosed-free (binary o l r) =
       omega (
         arith,
-        shows-none seenFromRight (λ t. refl) (L o) (enclosed L R l),
-        shows-none seenFromLeft (λ t. refl) (R o) (enclosed L R r),
-        free-around (anyHolds (L o) (seenFromRight (enclosed L R l))) (enclosed L R l) (enclosed-free l),
-        free-around (anyHolds (R o) (seenFromLeft (enclosed L R r))) (enclosed L R r) (enclosed-free r),
+        shows-none shownAsLeftOperand (λ t. refl) (L o) (enclosed L R l),
+        shows-none shownAsRightOperand (λ t. refl) (R o) (enclosed L R r),
+        free-around (anyHolds (L o) (shownAsLeftOperand (enclosed L R l))) (enclosed L R l) (enclosed-free l),
+        free-around (anyHolds (R o) (shownAsRightOperand (enclosed L R r))) (enclosed L R r) (enclosed-free r),
       )
   enclosed-free (prefix p t) =
       omega (
         arith,
-        shows-none seenFromLeft (λ t. refl) (R p) (enclosed L R t),
-        free-around (anyHolds (R p) (seenFromLeft (enclosed L R t))) (enclosed L R t) (enclosed-free t),
+        shows-none shownAsRightOperand (λ t. refl) (R p) (enclosed L R t),
+        free-around (anyHolds (R p) (shownAsRightOperand (enclosed L R t))) (enclosed L R t) (enclosed-free t),
       )
 
   -- the brackets that were there do not matter
@@ -105,11 +105,11 @@ module _ (L R : ℕ → ℕ → Bool) where
 
 -- Relations that agree on the operators of a tree give it the same brackets.
 module _ (k : ℕ → Class) (L R S T : ℕ → ℕ → Bool) (left : AgreeLeft k L S) (right : AgreeRight k R T) where
-  left-needs : (o : ℕ) → k o ≡ Infix → (t : Tree) → Over k t → anyHolds (L o) (seenFromRight t) ≡ anyHolds (S o) (seenFromRight t)
-  left-needs o ho t h = any-agree (λ a. waits (k a) ≡ true) (L o) (S o) (λ a. left o a ho) (seenFromRight t) (seen-right-waits k t h)
+  left-needs : (o : ℕ) → k o ≡ Infix → (t : Tree) → Over k t → anyHolds (L o) (shownAsLeftOperand t) ≡ anyHolds (S o) (shownAsLeftOperand t)
+  left-needs o ho t h = any-agree (λ a. waits (k a) ≡ true) (L o) (S o) (λ a. left o a ho) (shownAsLeftOperand t) (seen-right-waits k t h)
 
-  right-needs : (o : ℕ) → waits (k o) ≡ true → (t : Tree) → Over k t → anyHolds (R o) (seenFromLeft t) ≡ anyHolds (T o) (seenFromLeft t)
-  right-needs o ho t h = any-agree (λ b. k b ≡ Infix) (R o) (T o) (λ b. right o b ho) (seenFromLeft t) (seen-left-infix k t h)
+  right-needs : (o : ℕ) → waits (k o) ≡ true → (t : Tree) → Over k t → anyHolds (R o) (shownAsRightOperand t) ≡ anyHolds (T o) (shownAsRightOperand t)
+  right-needs o ho t h = any-agree (λ b. k b ≡ Infix) (R o) (T o) (λ b. right o b ho) (shownAsRightOperand t) (seen-left-infix k t h)
 
   pub enclosed-agree : (t : Tree) → Over k t → enclosed L R t ≡ enclosed S T t
   enclosed-agree (reading a) h = refl

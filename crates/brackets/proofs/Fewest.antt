@@ -10,7 +10,7 @@ use Rattle.expression.specs.Token.{closing}
 use Rattle.expression.specs.Tree.{Tree, reading, bracket, binary, prefix, yield}
 use Rattle.expression.proofs.Cond.{by-cond}
 use Rattle.expression.proofs.Tests.{both-false, any-append}
-use Rattle.disambiguation.specs.Edges.{prefixes, onTop, seenFromRight, seenFromLeft}
+use Rattle.disambiguation.specs.Edges.{prefixes, onTop, shownAsLeftOperand, shownAsRightOperand}
 use Rattle.disambiguation.specs.Conflicts.{conflicts}
 use Rattle.disambiguation.proofs.Plain.{Plain}
 use Rattle.brackets.specs.SameMeaning.{bare}
@@ -74,7 +74,7 @@ module _ (L R : ℕ → ℕ → Bool) where
   plain-shows-none (reading a) h = refl
   plain-shows-none (bracket t) h = plain-shows-none t h
   plain-shows-none (binary o l r) h =
-      by-cond (λ u. prefixes u ≡ []) (anyHolds (R o) (seenFromLeft (enclosed L R r))) (λ _. refl) (λ _. plain-shows-none r (h .1))
+      by-cond (λ u. prefixes u ≡ []) (anyHolds (R o) (shownAsRightOperand (enclosed L R r))) (λ _. refl) (λ _. plain-shows-none r (h .1))
   plain-shows-none (prefix p t) h = absurd h
 
   -- If the test holds of nothing that is seen of t, and of something that is seen once t has just the brackets that it needs, then a pair was left out: there is room for one.
@@ -93,12 +93,12 @@ module _ (L R : ℕ → ℕ → Bool) where
   operand seen p t h s room = by-cond (λ u. Shorter u t) (anyHolds p (seen (enclosed L R t))) (room p (counted-none p (seen t) h)) (λ _. s)
 
   -- as its right or only operand, and as its left.
-  on-right : (o : ℕ) (t : Tree) → howMany (R o) (seenFromLeft t) ≡ 0 → Known t → Shorter (rightOf L R o (enclosed L R t)) t
-  on-right o t h k = operand seenFromLeft (R o) t h (k .short) (k .top-room)
+  on-right : (o : ℕ) (t : Tree) → howMany (R o) (shownAsRightOperand t) ≡ 0 → Known t → Shorter (rightOf L R o (enclosed L R t)) t
+  on-right o t h k = operand shownAsRightOperand (R o) t h (k .short) (k .top-room)
 
-  on-left : (o : ℕ) (t : Tree) → howMany (L o) (seenFromRight t) ≡ 0 → Known t → Shorter (leftOf L R o (enclosed L R t)) t
+  on-left : (o : ℕ) (t : Tree) → howMany (L o) (shownAsLeftOperand t) ≡ 0 → Known t → Shorter (leftOf L R o (enclosed L R t)) t
   on-left o t h k =
-      operand seenFromRight (L o) t h (k .short)
+      operand shownAsLeftOperand (L o) t h (k .short)
       (λ p e f.
       let (a, b) = both-false (anyHolds p (onTop t)) (anyHolds p (prefixes t)) (sym (any-append p (onTop t) (prefixes t)) ∙ e) in
       by-either (anyHolds p (onTop (enclosed L R t))) (anyHolds p (prefixes (enclosed L R t))) (k .top-room p a) (k .prefix-room p b)
@@ -119,7 +119,7 @@ module _ (L R : ℕ → ℕ → Bool) where
         short = joined o l (leftOf L R o (enclosed L R l)) r (rightOf L R o (enclosed L R r)) s q;
         top-room = λ p e f. absurd (true≢false (sym f ∙ e));
         prefix-room = λ p e f.
-            let (open-right, shows) = through p (anyHolds (R o) (seenFromLeft (enclosed L R r))) (enclosed L R r) f in
+            let (open-right, shows) = through p (anyHolds (R o) (shownAsRightOperand (enclosed L R r))) (enclosed L R r) f in
             record {
               at-most = omega (
                 arith,
@@ -142,7 +142,7 @@ module _ (L R : ℕ → ℕ → Bool) where
         top-room = λ p e f. absurd (true≢false (sym f ∙ e));
         prefix-room = λ p e f.
             let (a, b) = both-false (p o) (anyHolds p (prefixes t)) e in
-            let (open-right, shows) = through p (anyHolds (R o) (seenFromLeft (enclosed L R t))) (enclosed L R t) (rw a at f) in
+            let (open-right, shows) = through p (anyHolds (R o) (shownAsRightOperand (enclosed L R t))) (enclosed L R t) (rw a at f) in
             record {
               at-most = omega (
                 arith,

@@ -10,7 +10,7 @@ use Rattle.expression.specs.Limits.{mostOperators}
 use Rattle.expression.specs.Token.{opening, closing}
 use Rattle.expression.specs.Tree.{Tree, reading, binary, prefix, yield}
 use Rattle.expression.proofs.Tests.{any-append, any-same}
-use Rattle.disambiguation.specs.Edges.{prefixes, onTop, seenFromRight}
+use Rattle.disambiguation.specs.Edges.{prefixes, onTop, shownAsLeftOperand}
 use Rattle.record.specs.Counts.{excludedLeft}
 use Rattle.brackets.specs.Enclosed.{around}
 use Rattle.brackets.specs.Shortest.{enclosedIn}
@@ -86,4 +86,4 @@ module _ (sheet : List ℕ) where
     infix-row o l r sided e low =
         ap (λ b. yield (around b (enclosedIn sheet (binary o l r)))) (top-decides above side (binary o l r) sided unshown ∙ ap (λ b. b || false) e)
         ∙ ap (λ b. yield (around b (enclosedIn sheet l)) ++ o ∷ rowUnder sheet o true r)
-        (any-same (excludedLeft sheet o) (shows sheet o false) (λ p. sym (ap (λ b. b && excludedLeft sheet o p) (lt-ltb o mostOperators low))) (seenFromRight (enclosedIn sheet l)))
+        (any-same (excludedLeft sheet o) (shows sheet o false) (λ p. sym (ap (λ b. b && excludedLeft sheet o p) (lt-ltb o mostOperators low))) (shownAsLeftOperand (enclosedIn sheet l)))

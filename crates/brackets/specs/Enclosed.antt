@@ -3,7 +3,7 @@ use Prim.Native.Nat.{ℕ}
 use mathlib.Core.Bool.{Bool, cond}
 use Rattle.expression.specs.Lists.{anyHolds}
 use Rattle.expression.specs.Tree.{Tree, reading, bracket, binary, prefix}
-use Rattle.disambiguation.specs.Edges.{seenFromRight, seenFromLeft}
+use Rattle.disambiguation.specs.Edges.{shownAsLeftOperand, shownAsRightOperand}
 
 -- the tree, in brackets where they are needed
 abbrev pub around : Bool → Tree → Tree
@@ -13,11 +13,11 @@ around needed t = cond needed (bracket t) t
 module _ (L R : ℕ → ℕ → Bool) where
   -- an operand of o is bracketed exactly where it shows a conflict with o, on the left
   abbrev pub leftOf : ℕ → Tree → Tree
-  leftOf o t = around (anyHolds (L o) (seenFromRight t)) t
+  leftOf o t = around (anyHolds (L o) (shownAsLeftOperand t)) t
 
   -- and on the right, or where it is the only one
   abbrev pub rightOf : ℕ → Tree → Tree
-  rightOf o t = around (anyHolds (R o) (seenFromLeft t)) t
+  rightOf o t = around (anyHolds (R o) (shownAsRightOperand t)) t
 
   -- From the inside out: the brackets that were there are left out.
   abbrev pub enclosed : Tree → Tree

@@ -9,7 +9,7 @@ use lib.Seq.{sets}
 use Rattle.expression.specs.Lists.{oneIf, anyHolds}
 use Rattle.expression.specs.Limits.{mostTokens, mostRecordBytes}
 use Rattle.expression.specs.Tree.{Tree, yield}
-use Rattle.disambiguation.specs.Edges.{seenFromRight, seenFromLeft}
+use Rattle.disambiguation.specs.Edges.{shownAsLeftOperand, shownAsRightOperand}
 use Rattle.sheet.specs.Layout.{operatorsOf}
 use Rattle.sheet.specs.Relation.{closesIn}
 use Rattle.record.specs.Front.{base}
@@ -49,7 +49,7 @@ module _ (sheet : List ℕ) where
 
   -- a tree in that place shows one
   abbrev pub shown : ℕ → Bool → Tree → Bool
-  shown above right t = anyHolds (shows above right) (cond right (seenFromLeft t) (seenFromRight t))
+  shown above right t = anyHolds (shows above right) (cond right (shownAsRightOperand t) (shownAsLeftOperand t))
 
   -- its row there
   abbrev pub rowUnder : ℕ → Bool → Tree → List ℕ

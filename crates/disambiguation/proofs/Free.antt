@@ -6,7 +6,7 @@ use mathlib.Core.Bool.{Bool, true, false}
 use mathlib.Core.List.{List, [], _∷_}
 use Rattle.expression.specs.Lists.{oneIf, howMany, All}
 use Rattle.expression.specs.Tree.{Tree, reading, bracket, binary, prefix}
-use Rattle.disambiguation.specs.Edges.{rightEdge, prefixes, seenFromRight, seenFromLeft}
+use Rattle.disambiguation.specs.Edges.{rightEdge, prefixes, shownAsLeftOperand, shownAsRightOperand}
 use Rattle.disambiguation.specs.Conflicts.{conflicts}
 
 pub is-false : (b : Bool) → (b ≡ true → ⊥) → b ≡ false
@@ -47,22 +47,22 @@ module _ (L R : ℕ → ℕ → Bool) where
   abbrev pub Free : Tree → Type 0
   Free (reading a) = Unit {0}
   Free (bracket t) = Free t
-  Free (binary o l r) = None (L o) (seenFromRight l) × None (R o) (seenFromLeft r) × Free l × Free r
-  Free (prefix p t) = None (R p) (seenFromLeft t) × Free t
+  Free (binary o l r) = None (L o) (shownAsLeftOperand l) × None (R o) (shownAsRightOperand r) × Free l × Free r
+  Free (prefix p t) = None (R p) (shownAsRightOperand t) × Free t
 
   pub free-of-count : (t : Tree) → conflicts L R t ≡ 0 → Free t
   free-of-count (reading a) h = tt
   free-of-count (bracket t) h = free-of-count t h
   free-of-count (binary o l r) h =
-      (none-of-count (L o) (seenFromRight l) (omega arith), none-of-count (R o) (seenFromLeft r) (omega arith), free-of-count l (omega arith), free-of-count r (omega arith))
-  free-of-count (prefix p t) h = (none-of-count (R p) (seenFromLeft t) (omega arith), free-of-count t (omega arith))
+      (none-of-count (L o) (shownAsLeftOperand l) (omega arith), none-of-count (R o) (shownAsRightOperand r) (omega arith), free-of-count l (omega arith), free-of-count r (omega arith))
+  free-of-count (prefix p t) h = (none-of-count (R p) (shownAsRightOperand t) (omega arith), free-of-count t (omega arith))
 
   pub count-of-free : (t : Tree) → Free t → conflicts L R t ≡ 0
   count-of-free (reading a) h = refl
   count-of-free (bracket t) h = count-of-free t h
   count-of-free (binary o l r) h =
-      rw (count-of-none (L o) (seenFromRight l) (h .0), count-of-none (R o) (seenFromLeft r) (h .1), count-of-free l (h .2), count-of-free r (h .3))
-  count-of-free (prefix p t) h = rw (count-of-none (R p) (seenFromLeft t) (h .0), count-of-free t (h .1))
+      rw (count-of-none (L o) (shownAsLeftOperand l) (h .0), count-of-none (R o) (shownAsRightOperand r) (h .1), count-of-free l (h .2), count-of-free r (h .3))
+  count-of-free (prefix p t) h = rw (count-of-none (R p) (shownAsRightOperand t) (h .0), count-of-free t (h .1))
 
 -- what is seen of an edge is on the edge
 prefixes-on-edge : (P : ℕ → Type 0) (t : Tree) → All P (rightEdge t) → All P (prefixes t)
@@ -71,7 +71,7 @@ prefixes-on-edge P (bracket t) h = tt
 prefixes-on-edge P (binary o l r) h = prefixes-on-edge P r (h .1)
 prefixes-on-edge P (prefix p t) h = (h .0, prefixes-on-edge P t (h .1))
 
-pub seen-on-edge : (P : ℕ → Type 0) (t : Tree) → All P (rightEdge t) → All P (seenFromRight t)
+pub seen-on-edge : (P : ℕ → Type 0) (t : Tree) → All P (rightEdge t) → All P (shownAsLeftOperand t)
 seen-on-edge P (reading a) h = tt
 seen-on-edge P (bracket t) h = tt
 seen-on-edge P (binary o l r) h = (h .0, prefixes-on-edge P r (h .1))

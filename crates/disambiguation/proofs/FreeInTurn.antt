@@ -5,7 +5,7 @@ use mathlib.Core.Bool.{Bool, false}
 use mathlib.Core.List.{List, [], _∷_}
 use Rattle.expression.specs.Lists.{All}
 use Rattle.expression.specs.Tree.{Tree, reading, bracket, binary, prefix}
-use Rattle.disambiguation.specs.Edges.{prefixes, onTop, seenFromRight}
+use Rattle.disambiguation.specs.Edges.{prefixes, onTop, shownAsLeftOperand}
 use Rattle.disambiguation.proofs.Free.{all-map, Free}
 use Rattle.disambiguation.proofs.InTurn.{Pairs, all-right, pairs-left, pairs-right, pairs-before, inTurn, on-top}
 
@@ -16,7 +16,7 @@ prefixes-in-turn P (bracket t) h = tt
 prefixes-in-turn P (binary o l r) h = prefixes-in-turn P r (all-right P (inTurn l) (o ∷ inTurn r) h .1)
 prefixes-in-turn P (prefix p t) h = (h .0, prefixes-in-turn P t (h .1))
 
-seen-in-turn : (P : ℕ → Type 0) (t : Tree) → All P (inTurn t) → All P (seenFromRight t)
+seen-in-turn : (P : ℕ → Type 0) (t : Tree) → All P (inTurn t) → All P (shownAsLeftOperand t)
 seen-in-turn P (reading a) h = tt
 seen-in-turn P (bracket t) h = tt
 seen-in-turn P (binary o l r) h = let (top, behind) = all-right P (inTurn l) (o ∷ inTurn r) h in (top, prefixes-in-turn P r behind)
@@ -38,7 +38,7 @@ module _ (L R L′ R′ : ℕ → ℕ → Bool) where
   node-free : (o : ℕ) (l r : Tree) → All (λ p. OnLeft p o) (inTurn l) → All (OnRight o) (inTurn r) → Free L′ R′ l → Free L′ R′ r → Free L R (binary o l r)
       → Free L′ R′ (binary o l r)
   node-free o l r hl hr fl fr f = (
-    all-map (λ p x e. x e) (seenFromRight l) (seen-in-turn (λ p. OnLeft p o) l hl) (f .0),
+    all-map (λ p x e. x e) (shownAsLeftOperand l) (seen-in-turn (λ p. OnLeft p o) l hl) (f .0),
     all-map (λ q x e. x e) (onTop r) (on-top (OnRight o) r hr) (f .1),
     fl,
     fr,

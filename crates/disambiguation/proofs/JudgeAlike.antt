@@ -10,7 +10,7 @@ use Rattle.expression.specs.Refusal.{first}
 use Rattle.expression.specs.Token.{Class, Infix, Prefix, Operators, class}
 use Rattle.expression.specs.Tree.{Tree, reading, bracket, binary, prefix, Over}
 use Rattle.disambiguation.specs.Rules.{Rule, L, R}
-use Rattle.disambiguation.specs.Edges.{rightEdge, leftEdge, prefixes, onTop, seenFromRight}
+use Rattle.disambiguation.specs.Edges.{rightEdge, leftEdge, prefixes, onTop, shownAsLeftOperand}
 use Rattle.disambiguation.specs.Conflicts.{conflicts}
 use Rattle.disambiguation.specs.Verdict.{comes, comers, safe, total, within, level, ruleChecks, verdict}
 use Rattle.disambiguation.specs.OtherRules.{isPrefix, JudgeAlike, AgreeOnShown}
@@ -54,7 +54,7 @@ module _ (ops : Operators) (L R L′ R′ : ℕ → ℕ → Bool)
   conflicts-same (reading a) h = refl
   conflicts-same (bracket t) h = conflicts-same t h
   conflicts-same (binary o l r) h =
-      rw (seen-same (L o) (L′ o) (λ b. in-left o b (h .0)) (seenFromRight l), top-same o r (h .2), conflicts-same l (h .1), conflicts-same r (h .2)) refl
+      rw (seen-same (L o) (L′ o) (λ b. in-left o b (h .0)) (shownAsLeftOperand l), top-same o r (h .2), conflicts-same l (h .1), conflicts-same r (h .2)) refl
   conflicts-same (prefix p t) h = rw (top-same p t (h .1), conflicts-same t (h .1)) refl
 
   module _ (small : ops .count ≤ mostOperators) where

@@ -7,7 +7,7 @@ use Rattle.expression.specs.Lists.{All}
 use Rattle.expression.specs.Token.{Class, Infix, Prefix, opening}
 use Rattle.expression.specs.Tree.{Tree, reading, bracket, binary, prefix, yield, Over}
 use Rattle.expression.proofs.Cond.{by-cond}
-use Rattle.disambiguation.specs.Edges.{rightEdge, seenFromRight, seenFromLeft}
+use Rattle.disambiguation.specs.Edges.{rightEdge, shownAsLeftOperand, shownAsRightOperand}
 use Rattle.disambiguation.specs.LeftToRight.{Pending, after, ahead, operatorOf, fill, Stack, bottom, opened, waiting, close, remains, everything, before}
 use Rattle.disambiguation.proofs.Free.{None, Free}
 use Rattle.disambiguation.proofs.LeftToRight.{close-keeps, Holds}
@@ -54,14 +54,14 @@ module _ (closes : ℕ → ℕ → Bool) where
     abbrev pub Good : Stack → Type 0
     Good bottom = Unit {0}
     Good (opened s) = Good s
-    Good (waiting (after l o) s) = (k o ≡ Infix) × Over k l × Free yields closes l × None (yields o) (seenFromRight l) × Holds closes s o × Good s
+    Good (waiting (after l o) s) = (k o ≡ Infix) × Over k l × Free yields closes l × None (yields o) (shownAsLeftOperand l) × Holds closes s o × Good s
     Good (waiting (ahead p) s) = (k p ≡ Prefix) × Good s
 
     -- the tree t after the stack, made of the tokens
     pub record Stands (s : Stack) (t : Tree) (tokens : List ℕ) : Type 0 where
       pub over : Over k t
       pub free : Free yields closes t
-      pub held : All (Holds closes s) (seenFromLeft t)
+      pub held : All (Holds closes s) (shownAsRightOperand t)
       pub good : Good s
       pub reads : tokensOf s ++ yield t ≡ tokens
 

@@ -7,7 +7,7 @@ use mathlib.Core.List.{List, [], _∷_, _++_, append-assoc}
 use Rattle.expression.specs.Token.{Class, Infix, Prefix, opening, closing}
 use Rattle.expression.specs.Tree.{Tree, reading, bracket, binary, prefix, yield, Over}
 use Rattle.expression.proofs.Classes.{Brackets}
-use Rattle.disambiguation.specs.Edges.{seenFromRight}
+use Rattle.disambiguation.specs.Edges.{shownAsLeftOperand}
 use Rattle.disambiguation.specs.Conflicts.{conflicts}
 use Rattle.disambiguation.specs.LeftToRight.{after, ahead, Stack, bottom, opened, waiting, due, have, close, everything, shut, whole, finish, whereDue, before, whereRead, run, parse}
 use Rattle.disambiguation.proofs.Free.{None, count-of-free, seen-on-edge}
@@ -80,7 +80,7 @@ module _ (closes : ℕ → ℕ → Bool) (k : ℕ → Class) where
         (base-close (before closes o) (q .stack) (q .operand) ∙ q .same-base)
       where
         go : (s : Stack) (t : Tree) → close (before closes o) (q .stack) (q .operand) ≡ (s, t) → Stands closes k s t (tokensOf s₀ ++ yield l)
-            → None (yields closes o) (seenFromRight t) → Holds closes s o → base s ≡ base s₀ → Read (binary o l r) s₀
+            → None (yields closes o) (shownAsLeftOperand t) → Holds closes s o → base s ≡ base s₀ → Read (binary o l r) s₀
         go s t e h none holds b =
             let p = f (waiting (after t o) s) (ho, h .over, h .free, none, holds, h .good) in
             record {

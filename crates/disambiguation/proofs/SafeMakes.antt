@@ -6,7 +6,7 @@ use borrow.Author.Tests.{not-false}
 use Rattle.expression.specs.Token.{Class}
 use Rattle.expression.specs.Tree.{Tree, reading, bracket, binary, prefix, yield, Over}
 use Rattle.expression.proofs.Classes.{Brackets}
-use Rattle.disambiguation.specs.Edges.{seenFromRight}
+use Rattle.disambiguation.specs.Edges.{shownAsLeftOperand}
 use Rattle.disambiguation.specs.Conflicts.{conflicts}
 use Rattle.disambiguation.proofs.Free.{is-false, all-map, Free, free-of-count, count-of-free, seen-on-edge}
 use Rattle.disambiguation.proofs.Conditions.{waits, takes, Safe, right-edge-waits}
@@ -19,7 +19,7 @@ module _ (L closes : ℕ → ℕ → Bool) (k : ℕ → Class) (safe : Safe L cl
   free-safe (reading a) h f = f
   free-safe (bracket t) h f = free-safe t h f
   free-safe (binary o l r) h f = (
-    all-map (λ p w e. is-false (L o p) (safe p o w (ap takes (h .0)) (not-false (closes p o) e))) (seenFromRight l)
+    all-map (λ p w e. is-false (L o p) (safe p o w (ap takes (h .0)) (not-false (closes p o) e))) (shownAsLeftOperand l)
         (seen-on-edge (λ p. waits (k p) ≡ true) l (right-edge-waits k l (h .1))) (f .0),
     f .1,
     free-safe l (h .1) (f .2),

@@ -7,7 +7,7 @@ use Rattle.expression.specs.Lists.{All}
 use Rattle.expression.specs.Token.{Class, Infix}
 use Rattle.expression.specs.Tree.{Tree, reading, bracket, binary, prefix, yield, Over}
 use Rattle.expression.proofs.Classes.{Brackets}
-use Rattle.disambiguation.specs.Edges.{rightEdge, leftEdge, prefixes, seenFromRight, seenFromLeft}
+use Rattle.disambiguation.specs.Edges.{rightEdge, leftEdge, prefixes, shownAsLeftOperand, shownAsRightOperand}
 use Rattle.disambiguation.specs.Conflicts.{conflicts}
 use Rattle.disambiguation.proofs.Free.{is-false, is-true, all-map, None, Free, free-of-count, seen-on-edge}
 use Rattle.disambiguation.proofs.Conditions.{waits, takes, Total, Transitive, Cotransitive, right-edge-waits}
@@ -19,15 +19,15 @@ module _ (L R : ℕ → ℕ → Bool) (k : ℕ → Class) (total : Total L R k) 
     (trans : (a b c : ℕ) → Good a b c → waits (k a) ≡ true → k b ≡ Infix → takes (k c) ≡ true → R a b ≡ true → R b c ≡ true → R a c ≡ false → ⊥)
     (cotrans : (a b c : ℕ) → Good a b c → waits (k a) ≡ true → k b ≡ Infix → k c ≡ Infix → R a b ≡ false → R b c ≡ false → R a c ≡ true → ⊥) where
   -- Down a right edge: if p closes before o and may keep what it sees of t, an operator on top of t closes before o, as the prefix operators do.
-  seen-closes : (o : ℕ) → k o ≡ Infix → (p : ℕ) → waits (k p) ≡ true → R p o ≡ true → (t : Tree) → Over k t → All (λ q. Good p q o) (inTurn t) → None (R p) (seenFromLeft t)
-      → All (λ q. R q o ≡ true) (prefixes t) → All (λ q. R q o ≡ true) (seenFromRight t)
+  seen-closes : (o : ℕ) → k o ≡ Infix → (p : ℕ) → waits (k p) ≡ true → R p o ≡ true → (t : Tree) → Over k t → All (λ q. Good p q o) (inTurn t) → None (R p) (shownAsRightOperand t)
+      → All (λ q. R q o ≡ true) (prefixes t) → All (λ q. R q o ≡ true) (shownAsLeftOperand t)
   seen-closes o ho p hp e (reading a) ht gd h g = tt
   seen-closes o ho p hp e (bracket t) ht gd h g = tt
   seen-closes o ho p hp e (binary q l r) ht gd h g =
       (is-true (R q o) (λ f. cotrans p q o (on-top (λ q. Good p q o) (binary q l r) gd .0) hp (ht .0) ho (h .0) f e), g)
   seen-closes o ho p hp e (prefix q t) ht gd h g = g
 
-  edge-closes : (o : ℕ) → k o ≡ Infix → (t : Tree) → Over k t → Pairs (λ p q. Good p q o) (inTurn t) → Free L R t → All (λ p. R p o ≡ true) (seenFromRight t)
+  edge-closes : (o : ℕ) → k o ≡ Infix → (t : Tree) → Over k t → Pairs (λ p q. Good p q o) (inTurn t) → Free L R t → All (λ p. R p o ≡ true) (shownAsLeftOperand t)
       → All (λ p. R p o ≡ true) (rightEdge t)
   edge-closes o ho (reading a) ht gd ft h = tt
   edge-closes o ho (bracket t) ht gd ft h = tt
@@ -38,22 +38,22 @@ module _ (L R : ℕ → ℕ → Bool) (k : ℕ → Class) (total : Total L R k) 
       (h .0, edge-closes o ho t (ht .1) (gd .1) (ft .1) (seen-closes o ho p (ap waits (ht .0)) (h .0) t (ht .1) (gd .0) (ft .0) (h .1)))
 
   -- what o may have on its left closes before it
-  operand-closes : (o : ℕ) → k o ≡ Infix → (t : Tree) → Over k t → Pairs (λ p q. Good p q o) (inTurn t) → Free L R t → None (L o) (seenFromRight t)
+  operand-closes : (o : ℕ) → k o ≡ Infix → (t : Tree) → Over k t → Pairs (λ p q. Good p q o) (inTurn t) → Free L R t → None (L o) (shownAsLeftOperand t)
       → All (λ p. R p o ≡ true) (rightEdge t)
   operand-closes o ho t ht gd ft h =
       edge-closes o ho t ht gd ft
-      (all-map (λ p hp e. is-true (R p o) (λ f. total p o hp (ap takes ho) f e)) (seenFromRight t)
+      (all-map (λ p hp e. is-true (R p o) (λ f. total p o hp (ap takes ho) f e)) (shownAsLeftOperand t)
       (seen-on-edge (λ p. waits (k p) ≡ true) t (right-edge-waits k t ht)) h)
 
   -- Down a left edge: if a does not close before c, it closes before nothing that it sees of c's left operand.
   seen-holds : (a : ℕ) → waits (k a) ≡ true → (c : ℕ) → takes (k c) ≡ true → R a c ≡ false → (t : Tree) → Over k t → All (λ p. Good a p c) (inTurn t)
-      → All (λ p. R p c ≡ true) (rightEdge t) → None (R a) (seenFromLeft t)
+      → All (λ p. R p c ≡ true) (rightEdge t) → None (R a) (shownAsRightOperand t)
   seen-holds a ha c hc e (reading x) ht gd h = tt
   seen-holds a ha c hc e (bracket t) ht gd h = tt
   seen-holds a ha c hc e (binary p l r) ht gd h = (is-false (R a p) (λ f. trans a p c (on-top (λ p. Good a p c) (binary p l r) gd .0) ha (ht .0) hc f (h .0) e), tt)
   seen-holds a ha c hc e (prefix p t) ht gd h = tt
 
-  edge-holds : (a : ℕ) → waits (k a) ≡ true → (t : Tree) → Over k t → Triples Good (a ∷ inTurn t) → Free L R t → None (R a) (seenFromLeft t) → None (R a) (leftEdge t)
+  edge-holds : (a : ℕ) → waits (k a) ≡ true → (t : Tree) → Over k t → Triples Good (a ∷ inTurn t) → Free L R t → None (R a) (shownAsRightOperand t) → None (R a) (leftEdge t)
   edge-holds a ha (reading x) ht gd ft h = tt
   edge-holds a ha (bracket t) ht gd ft h = tt
   edge-holds a ha (binary o l r) ht gd ft h =

@@ -7,14 +7,14 @@ use Rattle.expression.specs.Lists.{howMany}
 use Rattle.expression.specs.Token.{Operators, class}
 use Rattle.expression.specs.Tree.{Tree, reading, bracket, binary, prefix, yield, Over}
 use Rattle.disambiguation.specs.Rules.{Rule, L, R}
-use Rattle.disambiguation.specs.Edges.{seenFromRight, seenFromLeft}
+use Rattle.disambiguation.specs.Edges.{shownAsLeftOperand, shownAsRightOperand}
 
 -- The number of excluded patterns that the nodes show, where L and R say which are excluded: along an edge, one for each node met there.
 abbrev pub conflicts : (ℕ → ℕ → Bool) → (ℕ → ℕ → Bool) → Tree → ℕ
 conflicts L R (reading a) = 0
 conflicts L R (bracket t) = conflicts L R t
-conflicts L R (binary o l r) = howMany (L o) (seenFromRight l) + howMany (R o) (seenFromLeft r) + (conflicts L R l + conflicts L R r)
-conflicts L R (prefix p t) = howMany (R p) (seenFromLeft t) + conflicts L R t
+conflicts L R (binary o l r) = howMany (L o) (shownAsLeftOperand l) + howMany (R o) (shownAsRightOperand r) + (conflicts L R l + conflicts L R r)
+conflicts L R (prefix p t) = howMany (R p) (shownAsRightOperand t) + conflicts L R t
 
 -- the conflict count under a sheet's rules
 abbrev pub conflictCount : List Rule → Tree → ℕ

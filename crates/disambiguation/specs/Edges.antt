@@ -1,4 +1,4 @@
--- The edges of a tree, and what an operator beside the tree sees of them. Assumes nothing.
+-- The edges of a tree, and what it shows of them to the operator whose operand it is. Assumes nothing.
 use Prim.Native.Nat.{ℕ}
 use mathlib.Core.List.{List, [], _∷_, _++_}
 use Rattle.expression.specs.Tree.{Tree, reading, bracket, binary, prefix}
@@ -31,10 +31,10 @@ onTop (bracket t) = []
 onTop (binary o l r) = o ∷ []
 onTop (prefix p t) = []
 
--- What an operator that stands right of the tree sees of it, as its left operand: an infix operator on top, and the prefix operators anywhere on the right edge.
-abbrev pub seenFromRight : Tree → List ℕ
-seenFromRight t = onTop t ++ prefixes t
+-- What a tree shows as a left operand, to the operator on its right: an infix operator on top, and the prefix operators anywhere on the right edge.
+abbrev pub shownAsLeftOperand : Tree → List ℕ
+shownAsLeftOperand t = onTop t ++ prefixes t
 
--- what an operator that stands left of the tree sees of it, as its right or only operand: an infix operator on top
-abbrev pub seenFromLeft : Tree → List ℕ
-seenFromLeft t = onTop t
+-- what it shows as a right or only operand, to the operator on its left: an infix operator on top
+abbrev pub shownAsRightOperand : Tree → List ℕ
+shownAsRightOperand t = onTop t
