@@ -148,7 +148,7 @@ module _ (sheet bytes out zeros : List ℕ) {whole : List ℕ} {y : Answer} (roo
             ∙ take_at (shortest_of sheet bytes) (drop (0 + length (shortest_of sheet bytes)) blank) (w % base - 0) (omega (arith, length_is))
 
         pub shortest_done : {after : List ℕ} → w % base ≤ length out
-            → after ≡ take (length (take (w % base - 0) (drop 0 written))) (take (w % base - 0) (drop 0 written)) ++ drop (length (take (w % base - 0) (drop 0 written))) out
+            → after ≡ take (w % base - 0) (drop 0 written) ++ drop (length (take (w % base - 0) (drop 0 written))) out
             → AnswersShortest sheet bytes out after (record { number = accepted; length = w % base })
         unfolding record_number shortest_number
         shortest_done enough copied =
@@ -158,8 +158,7 @@ module _ (sheet bytes out zeros : List ℕ) {whole : List ℕ} {y : Answer} (roo
                   (omega (arith, length_is)));
               measured = length_is;
               output =
-                  copied ∙ ap (λ d. take (length d) d ++ drop (length d) out) front_is
-                  ∙ ap (λ d. d ++ drop (length (shortest_of sheet bytes)) out) (take_all (length (shortest_of sheet bytes)) (shortest_of sheet bytes) (omega arith));
+                  copied ∙ ap (λ d. d ++ drop (length d) out) front_is;
             }
 
 pub ruleset shortest_ways = (shortest_refused, front_fills, front_stands, shortest_short, row_holds, shortest_done, rules)

@@ -1,7 +1,8 @@
 // Which brackets a row needs: the shortest row that means the same as a record's row.
+#![tactic(auto)]
 ghost use Rattle.brackets.specs.Shortest.{AnswersShortest};
 
-use expression::{limits, refusal, token};
+use expression::{bytes, limits, refusal, token};
 use record::Answer;
 use record::walks::BASE;
 use sheet::layout::SHEET_WORDS;

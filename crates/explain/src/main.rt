@@ -1,5 +1,6 @@
 // Explains sheets at the desk: reads a sheet's frame a line from standard input, in hexadecimal, and writes to standard output
 // why the sheet is refused.
+#![tactic(auto)]
 ghost use Rattle.std.specs.Prelude.{◌≡◌, ◌≤◌, length, take};
 ghost use Rattle.explain.specs.Lines.{most_kept};
 ghost use Rattle.explain.specs.CallContracts.{block, out_bytes, Turns, Runs};

@@ -96,11 +96,11 @@ module _ (store : List ℕ) (k : ℕ) (out : List ℕ) where
       record_short l =
           record_refused 10 (λ sheet staged. simp (lt-ltb k place_count h, some_held, lt-ltb (length out) (length (held (records_in store) k)) (omega (arith, ap length e)))) (λ e. omega arith)
 
-      pub record_done : {later : List ℕ} → length bytes ≤ length out → later ≡ take (length bytes) bytes ++ drop (length bytes) out
+      pub record_done : {later : List ℕ} → length bytes ≤ length out → later ≡ bytes ++ drop (length bytes) out
           → AnswersFrom store (fetch_record k out) (record { number = 0; length = length bytes }) later
       unfolding fetch_record_number
       record_done {later} l a =
-          let front : later ≡ held (records_in store) k ++ drop (length (held (records_in store) k)) out = a ∙ ap₂ ◌++◌ (take_all (length bytes) bytes (omega arith) ∙ e) (ap (λ x. drop (length x) out) e) in
+          let front : later ≡ held (records_in store) k ++ drop (length (held (records_in store) k)) out = a ∙ ap₂ ◌++◌ e (ap (λ x. drop (length x) out) e) in
           record {
             answers = λ sheet staged.
                 done (memory sheet staged store) (fetch_record k out) (simp (lt-ltb k place_count h, some_held, le-ltb (length out) (length (held (records_in store) k)) (omega (arith, ap length e))))

@@ -44,7 +44,7 @@ module _ {sheet staged store line text text' sheet' staged' store' : List ℕ} {
   reply_fits before at l h = omega (arith, ap length reply_front, w.decreases, w.inside, mid_len at (at + most_reply) before (omega arith))
 
   pub line_answered : {before part : List ℕ} {at : ℕ} → length before ≡ block → at + most_reply_line ≤ block
-      → part ≡ take (length (take (r - 0) text')) (take (r - 0) text') ++ drop (length (take (r - 0) text')) (mid_of at (at + most_reply - at) before)
+      → part ≡ take (r - 0) text' ++ drop (length (take (r - 0) text')) (mid_of at (at + most_reply - at) before)
       → Puts p line before (set (put_mid at (at + most_reply - at) before part) (at + r) line_feed) at (at + r + 1) later
   line_answered {before} {part} {at} l h copied =
       let mid = mid_of at (at + most_reply - at) before in
@@ -53,7 +53,7 @@ module _ {sheet staged store line text text' sheet' staged' store' : List ℕ} {
       let k : at + most_reply - at ≡ most_reply = omega arith in
       let long : length mid ≡ most_reply = mid_len at (at + most_reply) before (omega arith) ∙ k in
       let output : part ≡ with_front t mid =
-      copied ∙ ap (λ (x : List ℕ). take (length x) x ++ drop (length x) mid) reply_front ∙ ap (λ (x : List ℕ). x ++ drop (length t) mid) (take_all (length t) t (omega arith)) in
+      copied ∙ ap (λ (x : List ℕ). x ++ drop (length x) mid) reply_front in
       let front : length (take at before) ≡ at = length-take-le at before (omega arith) in
       let more : length (drop (length t) mid ++ post) ≡ length (drop (length t) mid) + length post = length-append (drop (length t) mid) post in
       let after : length post ≡ block - at - (at + most_reply - at) =

@@ -1,4 +1,5 @@
 // Drives one panel from lines of hexadecimal: reads them from standard input and writes the reply to each to standard output.
+#![tactic(auto)]
 ghost use Rattle.std.specs.Prelude.{◌≡◌, false, ◌≤◌, length, take, drop};
 ghost use Rattle.places.specs.Memory.{memory, panel_in};
 ghost use Rattle.panel.specs.CallContracts.{block, buffer_bytes, Finishes, AnswersRead, Hands};

@@ -109,7 +109,7 @@ module _ (ops : Operators) (bytes before : List ℕ) where
             ∙ take_at (yield t) (drop (0 + length (yield t)) zeros) tokens (a.row_is ∙ sym v)
 
         pub yielded : {after : List ℕ} → tokens ≤ length before → most_tokens ≤ length zeros
-            → after ≡ take (length (take (tokens - 0) (drop 0 row))) (take (tokens - 0) (drop 0 row)) ++ drop (length (take (tokens - 0) (drop 0 row))) before
+            → after ≡ take (tokens - 0) (drop 0 row) ++ drop (length (take (tokens - 0) (drop 0 row))) before
             → Yields ops bytes before after (record { number = accepted; length = tokens })
         unfolding yield_number
         yielded enough most output =
@@ -121,8 +121,7 @@ module _ (ops : Operators) (bytes before : List ℕ) where
               measured = rw a.read (v ∙ sym a.row_is);
               output =
                   rw a.read
-                  (output ∙ ap (λ d. take (length d) d ++ drop (length d) before) (written t a most)
-                  ∙ ap (λ d. d ++ drop (length (yield t)) before) (take_all (length (yield t)) (yield t) (omega arith)));
+                  (output ∙ ap (λ d. d ++ drop (length d) before) (written t a most));
             }
 
 pub ruleset yield_row_ways = (too_long, strange, row_too_long, walk_refused, ends_early, too_short, row_holds, yielded, rules)

@@ -1,4 +1,5 @@
 // Trees in records: read node by node, checked, yielded, judged; and the record of an operand.
+#![tactic(auto)]
 ghost use Rattle.std.specs.Prelude.{◌≡◌};
 ghost use Rattle.expression.specs.Checks.{record_number};
 ghost use Rattle.expression.specs.Operand.{operand_part};
@@ -6,7 +7,7 @@ ghost use Rattle.sheet.specs.Layout.{operators_of};
 ghost use Rattle.record.specs.Node.{node_at};
 ghost use Rattle.record.specs.Answers.{Yields, judgement};
 
-use expression::{limits, refusal, token};
+use expression::{bytes, limits, refusal, token};
 use sheet::layout::SHEET_WORDS;
 
 mod checks;

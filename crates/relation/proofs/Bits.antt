@@ -29,15 +29,15 @@ module _ (op : ℕ → ℕ → ℕ) (truth : Bool → Bool → Bool) (none : eqb
 low : (x : ℕ) → x % 2 < 2
 low x = mod-lt x (zero-lt-suc 1)
 
-pub bit_and : (x y c : ℕ) → bit_of (bit_and x y) c ≡ (bit_of x c && bit_of y c)
+pub bit_and_lem : (x y c : ℕ) → bit_of (bit_and x y) c ≡ (bit_of x c && bit_of y c)
 unfolding bit_of
-bit_and x y c =
+bit_and_lem x y c =
     ap (λ (d : ℕ). eqb (d % 2) 1) (and_shr x y c) ∙ ap (λ (d : ℕ). eqb d 1) (and_mod (x / 2 ^ c) (y / 2 ^ c) 1)
     ∙ on_bits bit_and ◌&&◌ refl refl refl refl (x / 2 ^ c % 2) (y / 2 ^ c % 2) (low (x / 2 ^ c)) (low (y / 2 ^ c))
 
-pub bit_or : (x y c : ℕ) → bit_of (bit_or x y) c ≡ (bit_of x c || bit_of y c)
+pub bit_or_lem : (x y c : ℕ) → bit_of (bit_or x y) c ≡ (bit_of x c || bit_of y c)
 unfolding bit_of
-bit_or x y c =
+bit_or_lem x y c =
     ap (λ (d : ℕ). eqb (d % 2) 1) (or_shr x y c) ∙ ap (λ (d : ℕ). eqb d 1) (or_mod (x / 2 ^ c) (y / 2 ^ c) 1)
     ∙ on_bits bit_or ◌||◌ refl refl refl refl (x / 2 ^ c % 2) (y / 2 ^ c % 2) (low (x / 2 ^ c)) (low (y / 2 ^ c))
 

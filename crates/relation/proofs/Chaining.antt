@@ -19,7 +19,7 @@ use Rattle.disambiguation.proofs.LeadsDecided.{leads_exactly_if}
 use Rattle.relation.specs.Relation.{sheet_words, fresh, bit_of, closes_in}
 use Rattle.relation.specs.Marking.{word_of, unmarked, marks, marks_turned, marks_all}
 use Rattle.relation.specs.Chaining.{changed, added, joined, passed, chained, related}
-use Rattle.relation.proofs.Bits.{bit_or}
+use Rattle.relation.proofs.Bits.{bit_or_lem}
 use Rattle.relation.proofs.WordTests.{closes_bit, closes_everywhere, closes_blank, as_false}
 use Rattle.relation.proofs.Orderly.{written_below, leads_below}
 use Rattle.relation.proofs.Marks.{pairs_written, pairs_turned}
@@ -53,7 +53,7 @@ unfolding joined
 bit_joined x k y c = go (bit_of x k)
   where
     go : (b : Bool) → bit_of (cond b (bit_or x y) x) c ≡ (bit_of x c || (b && bit_of y c))
-    go true = bit_or x y c
+    go true = bit_or_lem x y c
     go false = sym (or-false (bit_of x c))
 
 module _ (n : ℕ) (few : n ≤ most_operators) where
@@ -104,7 +104,7 @@ module _ (n : ℕ) (few : n ≤ most_operators) where
       closes_added hx =
           let bx : x < most_operators = omega arith in
           closes_bit _ x y bx hy ∙ ap (λ w. bit_of w y) (word_changed (λ a w. bit_or w (get_or marked (word_of kind a) 0)) t n x (omega arith) hx)
-          ∙ bit_or (get_or t x 0) (get_or marked (word_of kind x) 0) y ∙ ap (λ p. p || bit_of (get_or marked (word_of kind x) 0) y) (sym (closes_bit t x y bx hy))
+          ∙ bit_or_lem (get_or t x 0) (get_or marked (word_of kind x) 0) y ∙ ap (λ p. p || bit_of (get_or marked (word_of kind x) 0) y) (sym (closes_bit t x y bx hy))
 
       closes_kept : n ≤ x → x < most_operators → closes_in (added n kind marked t) x y ≡ closes_in t x y
       unfolding added

@@ -18,7 +18,7 @@ use Rattle.disambiguation.specs.Rules.{Rule, right, says, written}
 use Rattle.disambiguation.specs.SheetChecks.{strange_rule}
 use Rattle.relation.specs.Relation.{bit_of}
 use Rattle.relation.specs.Marking.{word_of, unmarked, marked, marks, marks_turned, marks_all}
-use Rattle.relation.proofs.Bits.{bit_or, bit_pow, bit_zero}
+use Rattle.relation.proofs.Bits.{bit_or_lem, bit_pow, bit_zero}
 use Rattle.relation.proofs.Orderly.{first_operator, second_operator}
 
 -- as long as a table of marks
@@ -33,7 +33,7 @@ bit_marked t a b x y h =
           ap (λ (w : ℕ). bit_of w y)
           (ap (λ (k : ℕ). get_or (set t a (bit_or (get_or t a 0) (2 ^ b))) k 0) (sym e) ∙ get_or-set_same t a (bit_or (get_or t a 0) (2 ^ b)) 0 (omega arith)
           ∙ ap (λ (k : ℕ). bit_or (get_or t k 0) (2 ^ b)) e)
-          ∙ bit_or (get_or t x 0) (2 ^ b) y ∙ ap (λ (p : Bool). bit_of (get_or t x 0) y || p) (bit_pow b y)
+          ∙ bit_or_lem (get_or t x 0) (2 ^ b) y ∙ ap (λ (p : Bool). bit_of (get_or t x 0) y || p) (bit_pow b y)
           ∙ ap (λ (p : Bool). bit_of (get_or t x 0) y || (p && eqb b y)) (sym (eq-eqb a x e))
       | no ne ↦
           ap (λ (w : ℕ). bit_of w y) (get_or-set_other t a x (bit_or (get_or t a 0) (2 ^ b)) 0 (λ q. ne (sym q)))

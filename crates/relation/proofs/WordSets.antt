@@ -19,12 +19,12 @@ use Rattle.expression.specs.Token.{infix_kind, prefix_kind}
 use Rattle.disambiguation.specs.Verdict.{comes}
 use Rattle.relation.specs.Relation.{bit_of}
 use Rattle.relation.specs.Words.{SetOf, with_bit, word_where, without, outside_of, kinds_below, operators_by}
-use Rattle.relation.proofs.Bits.{bit_and, bit_or, bit_not, bit_pow, bit_zero}
+use Rattle.relation.proofs.Bits.{bit_and_lem, bit_or_lem, bit_not, bit_pow, bit_zero}
 
 -- ---- the bits of a word
 bit_with : (x c : ℕ) (told : Bool) (b : ℕ) → bit_of (with_bit x c told) b ≡ (bit_of x b || (told && eqb c b))
 unfolding with_bit
-bit_with x c true b = bit_or x (2 ^ c) b ∙ ap (λ (q : Bool). bit_of x b || q) (bit_pow c b)
+bit_with x c true b = bit_or_lem x (2 ^ c) b ∙ ap (λ (q : Bool). bit_of x b || q) (bit_pow c b)
 bit_with x c false b = sym (or-false (bit_of x b))
 
 module _ (test : ℕ → Bool) where
@@ -45,7 +45,7 @@ module _ (test : ℕ → Bool) where
 -- ---- a word without the bits of another
 pub bit_without : (x y c : ℕ) → y < 2 ^ 32 → c < 32 → bit_of (without x y) c ≡ (bit_of x c && not (bit_of y c))
 unfolding without
-bit_without x y c h l = bit_and x ((2 ^ 32 - 1) - y) c ∙ ap (λ (b : Bool). bit_of x c && b) (bit_not 32 y c h l)
+bit_without x y c h l = bit_and_lem x ((2 ^ 32 - 1) - y) c ∙ ap (λ (b : Bool). bit_of x c && b) (bit_not 32 y c h l)
 
 -- ---- the mask of all below n, and those of them that are not in a word
 pub mask_bit : (n c : ℕ) → bit_of (2 ^ n - 1) c ≡ ltb c n

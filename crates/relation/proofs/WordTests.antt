@@ -16,7 +16,7 @@ use Rattle.disambiguation.proofs.BelowLaws.{and_true, all_same}
 use Rattle.relation.specs.Relation.{sheet_words, fresh, bit_of, closes_in, turned}
 use Rattle.relation.specs.Words.{operators_by, without}
 use Rattle.relation.specs.Tests.{none_in_both, each_in_one, safe_for, total_for}
-use Rattle.relation.proofs.Bits.{bit_and, bit_or, bit_not, bit_zero, masked_clear}
+use Rattle.relation.proofs.Bits.{bit_and_lem, bit_or_lem, bit_not, bit_zero, masked_clear}
 use Rattle.relation.proofs.WordSets.{comes_by, bit_without}
 
 not_not : (p : Bool) → not (not p) ≡ p
@@ -30,7 +30,7 @@ not_but false q = refl
 -- no bit below n in both words
 pub both_masked : (n x y : ℕ) → eqb (bit_and (bit_and x y) (2 ^ n - 1)) 0 ≡ none_in_both n (bit_of x) (bit_of y)
 unfolding none_in_both
-both_masked n x y = masked_clear n (bit_and x y) ∙ all_same _ _ n (λ c l. ap not (bit_and x y c))
+both_masked n x y = masked_clear n (bit_and x y) ∙ all_same _ _ n (λ c l. ap not (bit_and_lem x y c))
 
 -- In words of w bits.
 module _ (w n x y : ℕ) (fits : n ≤ w) where
@@ -40,7 +40,7 @@ module _ (w n x y : ℕ) (fits : n ≤ w) where
   one_masked hx hy =
       masked_clear n ((2 ^ w - 1) - bit_or x y)
       ∙ all_same _ _ n
-      (λ c l. ap not (bit_not w (bit_or x y) c (or_lt w x y hx hy) (lt_of_lt_of_le l fits) ∙ ap not (bit_or x y c)) ∙ not_not (bit_of x c || bit_of y c))
+      (λ c l. ap not (bit_not w (bit_or x y) c (or_lt w x y hx hy) (lt_of_lt_of_le l fits) ∙ ap not (bit_or_lem x y c)) ∙ not_not (bit_of x c || bit_of y c))
 
   -- each bit below n of x in y
   pub within_masked : y < 2 ^ w → eqb (bit_and (bit_and x ((2 ^ w - 1) - y)) (2 ^ n - 1)) 0 ≡ within n (bit_of x) (bit_of y)
@@ -48,7 +48,7 @@ module _ (w n x y : ℕ) (fits : n ≤ w) where
   within_masked hy =
       masked_clear n (bit_and x ((2 ^ w - 1) - y))
       ∙ all_same _ _ n
-      (λ c l. ap not (bit_and x ((2 ^ w - 1) - y) c ∙ ap (λ (p : Bool). bit_of x c && p) (bit_not w y c hy (lt_of_lt_of_le l fits))) ∙ not_but (bit_of x c) (bit_of y c))
+      (λ c l. ap not (bit_and_lem x ((2 ^ w - 1) - y) c ∙ ap (λ (p : Bool). bit_of x c && p) (bit_not w y c hy (lt_of_lt_of_le l fits))) ∙ not_but (bit_of x c) (bit_of y c))
 
 -- the relation at two operators is a bit
 pub closes_bit : (t : List ℕ) (a b : ℕ) → a < most_operators → b < most_operators → closes_in t a b ≡ bit_of (get_or t a 0) b
@@ -101,7 +101,7 @@ module _ (n w : ℕ) (few : n ≤ most_operators) (small : w < 2 ^ 32) where
     unfolding total_for each_in_one
     total_by_words =
         all_same _ _ n
-        (λ b l. ap₂ ◌||◌ (bit_or (get_or t a 0) w b ∙ ap₂ ◌||◌ (bits t a b h l) (sym (ap not (comes_by n w b l) ∙ not_not (bit_of w b)))) (bits u a b h l))
+        (λ b l. ap₂ ◌||◌ (bit_or_lem (get_or t a 0) w b ∙ ap₂ ◌||◌ (bits t a b h l) (sym (ap not (comes_by n w b l) ∙ not_not (bit_of w b)))) (bits u a b h l))
 
   pub within_by_words : (t : List ℕ) (a b : ℕ) → a < n → b < n
       → within n (bit_of (without (get_or t a 0) w)) (bit_of (get_or t b 0)) ≡ within n (comers (operators_by n w) (closes_in t a)) (closes_in t b)

@@ -37,14 +37,13 @@ abbrev wide : List ℕ → ℕ
 wide kinds = most_operators - from kinds
 
 module _ (kinds bytes part : List ℕ) (few : length kinds ≤ most_operators) (size : length bytes ≡ buffer_bytes)
-    (e : part ≡ take (length kinds) kinds ++ drop (length kinds) (mid_of (from kinds) (wide kinds) bytes)) where
+    (e : part ≡ kinds ++ drop (length kinds) (mid_of (from kinds) (wide kinds) bytes)) where
   -- the copy fills its part
   copied : part ≡ kinds
   copied =
       let mid : List ℕ = mid_of (from kinds) (wide kinds) bytes in
       let short : length mid ≤ length kinds = omega (arith, mid_len (from kinds) most_operators bytes (omega (arith, size))) in
       e
-      ∙ ap (λ (s : List ℕ). s ++ drop (length kinds) mid) (take-length kinds)
       ∙ ap (λ (s : List ℕ). kinds ++ s) (drop_of_length-le mid short)
       ∙ append-nil kinds
 

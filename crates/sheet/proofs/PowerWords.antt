@@ -25,7 +25,7 @@ use Rattle.disambiguation.proofs.Counts.{count_same}
 use Rattle.disambiguation.proofs.Standing.{not_infix_lem}
 use Rattle.relation.specs.Relation.{bit_of, closes_in}
 use Rattle.relation.specs.Words.{without, SetOf, outside_of}
-use Rattle.relation.proofs.Bits.{bit_and}
+use Rattle.relation.proofs.Bits.{bit_and_lem}
 use Rattle.relation.proofs.WordSets.{where_bit, bit_without, mask_bit}
 use Rattle.relation.proofs.WordTests.{closes_bit}
 use Rattle.sheet.specs.Layout.{prefix_word_at, operators_of, prefix_in}
@@ -36,7 +36,7 @@ use Rattle.sheet.proofs.LayoutWays.{prefix_bit}
 -- ---- the lowest bits of a word
 low_bit : (x w c : ℕ) → c < w → bit_of (x % 2 ^ w) c ≡ bit_of x c
 low_bit x w c h =
-    ap (λ (z : ℕ). bit_of z c) (sym (and_mask x w)) ∙ bit_and x (2 ^ w - 1) c ∙ ap (λ b. bit_of x c && b) (mask_bit w c ∙ lt-ltb c w h) ∙ and-true (bit_of x c)
+    ap (λ (z : ℕ). bit_of z c) (sym (and_mask x w)) ∙ bit_and_lem x (2 ^ w - 1) c ∙ ap (λ b. bit_of x c && b) (mask_bit w c ∙ lt-ltb c w h) ∙ and-true (bit_of x c)
 
 -- ---- the ones of a word are the numbers whose bits are set
 one_digit : (d : ℕ) → d < 2 → ones d ≡ one_if (eqb (d % 2) 1)
@@ -101,7 +101,7 @@ unfolding below infix_in
 below_set sheet a {x} {y} {z} ha small among e f =
     record {
       bit = λ c h.
-          bit_and x z c
+          bit_and_lem x z c
           ∙ ap₂ ◌&&◌ (among.bit c h)
           (ap (λ (w : ℕ). bit_of w c) f ∙ bit_without (get_or sheet a 0) y c small.fits h
           ∙ ap₂ (λ p q. p && not q) (sym (closes_bit sheet a c ha h)) (ap (λ (w : ℕ). bit_of w c) e ∙ where_bit (λ b. closes_in sheet b a) most_operators c h));

@@ -1,5 +1,7 @@
 // Operator sheets: kinds and rules in bytes, the relation that they give, and the numbers 1 to 5 (docs/REFERENCE.md, section 4). A sheet is a lent list of words:
 // those of the relation, and others whose layout is known here alone; all zero is the fresh one.
+#![tactic(auto)]
+
 ghost use Rattle.std.specs.Prelude.{◌≡◌, ◌&&◌, ltb};
 ghost use Rattle.expression.specs.Limits.{most_operators};
 ghost use Rattle.sheet.specs.Layout.{operators_of, prefix_in, some_prefix, is_loaded, fresh};

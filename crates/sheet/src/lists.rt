@@ -3,7 +3,7 @@ ghost use Rattle.std.specs.Prelude.{◌≡◌, ◌≤◌, length};
 ghost use Rattle.expression.specs.Limits.{most_operators};
 ghost use Rattle.sheet.specs.Lists.{kinds_number, buffer_bytes, PutsKinds};
 
-use expression::{limits, refusal};
+use expression::{bytes, limits, refusal};
 
 // Room for a kind byte of every operator, and then for the bytes of the most rules.
 pub const KIND_BYTES: usize = limits::MOST_OPERATORS as usize;

@@ -71,15 +71,14 @@ module _ {r word : ℕ} (n : ℕ) (bytes t u out : List ℕ) (reads : ReadsSheet
       front_is = ap (λ m. take m text) (sub-zero size) ∙ tells.written ∙ told_is
 
       pub explain_done : {after : List ℕ} → size ≤ length out
-          → after ≡ take (length (take (size - 0) (drop 0 text))) (take (size - 0) (drop 0 text)) ++ drop (length (take (size - 0) (drop 0 text))) out
+          → after ≡ take (size - 0) (drop 0 text) ++ drop (length (take (size - 0) (drop 0 text))) out
           → Explains n bytes out after (record { number = accepted; length = size })
       explain_done enough copied =
           record {
             numbered = sym (first_roomy (order_checks n bytes) (length (explained n bytes)) (length out) (sym reads.number ∙ zero) (order_numbered n bytes) (omega (arith, size_is)));
             measured = size_is;
             output =
-                copied ∙ ap (λ d. take (length d) d ++ drop (length d) out) front_is
-                ∙ ap (λ d. d ++ drop (length (explained n bytes)) out) (take_all (length (explained n bytes)) (explained n bytes) (omega arith));
+                copied ∙ ap (λ d. d ++ drop (length d) out) front_is;
           }
 
 pub ruleset explain_ways = (explain_order, few_operators, text_holds, explain_short, explain_done, rules)

@@ -30,12 +30,12 @@ abbrev wide : ℕ
 wide = buffer_bytes - most_operators
 
 module _ (rules before part : List ℕ) (size : length before ≡ buffer_bytes)
-    (copied : part ≡ take (length rules) rules ++ drop (length rules) (mid_of most_operators wide before)) where
+    (copied : part ≡ rules ++ drop (length rules) (mid_of most_operators wide before)) where
   -- the copy puts the rules at their place
   rules_there : take (length rules) (drop most_operators (put_mid most_operators wide before part)) ≡ rules
   rules_there =
       ap (take (length rules)) (drop_at (take most_operators before) (part ++ behind) most_operators (length-take-le most_operators before (omega (arith, size))))
-      ∙ ap (λ s. take (length rules) (s ++ behind)) (copied ∙ ap (λ s. s ++ left_over) (take-length rules))
+      ∙ ap (λ s. take (length rules) (s ++ behind)) copied
       ∙ ap (take (length rules)) (append_assoc rules left_over behind)
       ∙ take-append_seam rules (left_over ++ behind)
     where

@@ -6,7 +6,7 @@ ghost use Rattle.sheet.specs.Lists.{buffer_bytes};
 ghost use Rattle.witness.specs.Explaining.{Explains, ExplainsList};
 
 use crate::explain;
-use expression::{limits, refusal};
+use expression::{bytes, limits, refusal};
 use record::Answer;
 use sheet::lists;
 

@@ -6,18 +6,18 @@ use Rattle.line_io.proofs.LineWays.{test_ways}
 use Rattle.line_io.proofs.has_end.Statement.{statement}
 use Rattle.line_io.proofs.has_end.Tie as tie
 
-abbrev invariant-loop : tie.invariant-loop
-invariant-loop buf at found₀ i₀ found i = Testing buf at i found
+abbrev invariant-loop-i : tie.invariant-loop-i
+invariant-loop-i buf at found₀ i₀ found i = Testing buf at i found
 
-abbrev decreases-loop : tie.decreases-loop
-decreases-loop buf at found₀ i₀ found i = 32 - i
+abbrev decreases-loop-i : tie.decreases-loop-i
+decreases-loop-i buf at found₀ i₀ found i = 32 - i
 
 pub has_end_spec : {M : Type 1} → statement M
 has_end_spec =
     tie.close
     (tie.spec
-    invariant-loop
-    decreases-loop
+    invariant-loop-i
+    decreases-loop-i
     (λ c. search test_ways)
     (λ c. omega arith)
     (λ c. omega arith)

@@ -7,18 +7,18 @@ use Rattle.line_io.proofs.LineWays.{end_ways}
 use Rattle.line_io.proofs.line_end.Statement.{statement}
 use Rattle.line_io.proofs.line_end.Tie as tie
 
-abbrev invariant-loop : tie.invariant-loop
-invariant-loop buf from i₀ i = Skips buf from i
+abbrev invariant-loop-i : tie.invariant-loop-i
+invariant-loop-i buf from i₀ i = Skips buf from i
 
-abbrev decreases-loop : tie.decreases-loop
-decreases-loop buf from i₀ i = length buf - i
+abbrev decreases-loop-i : tie.decreases-loop-i
+decreases-loop-i buf from i₀ i = length buf - i
 
 pub line_end_spec : {M : Type 1} → statement M
 line_end_spec =
     tie.close
     (tie.spec
-    invariant-loop
-    decreases-loop
+    invariant-loop-i
+    decreases-loop-i
     (λ c. search end_ways)
     (λ c κs. search end_ways)
     (λ c. search end_ways)

@@ -6,18 +6,18 @@ use Rattle.line_io.proofs.MoveWays.{move_ways}
 use Rattle.line_io.proofs.move_to_front.Statement.{statement}
 use Rattle.line_io.proofs.move_to_front.Tie as tie
 
-abbrev invariant-loop : tie.invariant-loop
-invariant-loop buf₀ from to i₀ o₀ buf i o = Moving buf₀ from to buf i o
+abbrev invariant-loop-i : tie.invariant-loop-i
+invariant-loop-i buf₀ from to i₀ o₀ buf i o = Moving buf₀ from to buf i o
 
-abbrev decreases-loop : tie.decreases-loop
-decreases-loop buf₀ from to i₀ o₀ buf i o = to - i
+abbrev decreases-loop-i : tie.decreases-loop-i
+decreases-loop-i buf₀ from to i₀ o₀ buf i o = to - i
 
 pub move_to_front_spec : {M : Type 1} → statement M
 move_to_front_spec =
     tie.close
     (tie.spec
-    invariant-loop
-    decreases-loop
+    invariant-loop-i
+    decreases-loop-i
     (λ c. search move_ways)
     (λ c. search move_ways)
     (λ c. search move_ways)

@@ -7,18 +7,18 @@ use Rattle.line_io.proofs.LineWays.{skip_ways}
 use Rattle.line_io.proofs.skip_steps.Statement.{statement}
 use Rattle.line_io.proofs.skip_steps.Tie as tie
 
-abbrev invariant-loop : tie.invariant-loop
-invariant-loop buf from i₀ i = Skips buf from i
+abbrev invariant-loop-i : tie.invariant-loop-i
+invariant-loop-i buf from i₀ i = Skips buf from i
 
-abbrev decreases-loop : tie.decreases-loop
-decreases-loop buf from i₀ i = length buf - i
+abbrev decreases-loop-i : tie.decreases-loop-i
+decreases-loop-i buf from i₀ i = length buf - i
 
 pub skip_steps_spec : {M : Type 1} → statement M
 skip_steps_spec =
     tie.close
     (tie.spec
-    invariant-loop
-    decreases-loop
+    invariant-loop-i
+    decreases-loop-i
     (λ c. search skip_ways)
     (λ c. omega arith)
     (λ c κs. search skip_ways)

@@ -7,18 +7,18 @@ use Rattle.brackets.proofs.PrefixBytes.{any_prefix_ways}
 use Rattle.brackets.proofs.edges.any_prefix.Statement.{statement}
 use Rattle.brackets.proofs.edges.any_prefix.Tie as tie
 
-abbrev invariant-loop : tie.invariant-loop
-invariant-loop sheet bytes found₀ at₀ found at = Looked (prefix_in sheet) bytes found at
+abbrev invariant-loop-at : tie.invariant-loop-at
+invariant-loop-at sheet bytes found₀ at₀ found at = Looked (prefix_in sheet) bytes found at
 
-abbrev decreases-loop : tie.decreases-loop
-decreases-loop sheet bytes found₀ at₀ found at = length bytes - at
+abbrev decreases-loop-at : tie.decreases-loop-at
+decreases-loop-at sheet bytes found₀ at₀ found at = length bytes - at
 
 pub any_prefix_spec : {M : Type 1} → statement M
 any_prefix_spec =
     tie.close
     (tie.spec
-    invariant-loop
-    decreases-loop
+    invariant-loop-at
+    decreases-loop-at
     (λ c. search any_prefix_ways)
     (λ c. search any_prefix_ways)
     (λ c κs. search any_prefix_ways)

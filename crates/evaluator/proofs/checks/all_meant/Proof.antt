@@ -7,18 +7,18 @@ use Rattle.evaluator.proofs.Lacking.{all_meant_ways}
 use Rattle.evaluator.proofs.checks.all_meant.Statement.{statement}
 use Rattle.evaluator.proofs.checks.all_meant.Tie as tie
 
-abbrev invariant-loop : tie.invariant-loop
-invariant-loop sheet lent n meant₀ o₀ meant o = (o ≤ n) × (meant ≡ all_meant sheet lent o)
+abbrev invariant-loop-o : tie.invariant-loop-o
+invariant-loop-o sheet lent n meant₀ o₀ meant o = (o ≤ n) × (meant ≡ all_meant sheet lent o)
 
-abbrev decreases-loop : tie.decreases-loop
-decreases-loop sheet lent n meant₀ o₀ meant o = n - o
+abbrev decreases-loop-o : tie.decreases-loop-o
+decreases-loop-o sheet lent n meant₀ o₀ meant o = n - o
 
 pub all_meant_spec : {M : Type 1} → statement M
 all_meant_spec =
     tie.close
     (tie.spec
-    invariant-loop
-    decreases-loop
+    invariant-loop-o
+    decreases-loop-o
     (λ c. (omega arith, search all_meant_ways))
     (λ c κs. search all_meant_ways)
     (λ c. search all_meant_ways)

@@ -7,18 +7,18 @@ use Rattle.evaluator.proofs.Lacking.{looking_ways}
 use Rattle.evaluator.proofs.checks.any_from.Statement.{statement}
 use Rattle.evaluator.proofs.checks.any_from.Tie as tie
 
-abbrev invariant-loop : tie.invariant-loop
-invariant-loop limit bytes found₀ at₀ found at = Looked (leb limit) bytes found at
+abbrev invariant-loop-at : tie.invariant-loop-at
+invariant-loop-at limit bytes found₀ at₀ found at = Looked (leb limit) bytes found at
 
-abbrev decreases-loop : tie.decreases-loop
-decreases-loop limit bytes found₀ at₀ found at = length bytes - at
+abbrev decreases-loop-at : tie.decreases-loop-at
+decreases-loop-at limit bytes found₀ at₀ found at = length bytes - at
 
 pub any_from_spec : {M : Type 1} → statement M
 any_from_spec =
     tie.close
     (tie.spec
-    invariant-loop
-    decreases-loop
+    invariant-loop-at
+    decreases-loop-at
     (λ c. search looking_ways)
     (λ c. search looking_ways)
     (λ c. search looking_ways)

@@ -7,18 +7,18 @@ use Rattle.hexadecimal.proofs.PairWays.{test_ways}
 use Rattle.hexadecimal.proofs.pairs.all_digits.Statement.{statement}
 use Rattle.hexadecimal.proofs.pairs.all_digits.Tie as tie
 
-abbrev invariant-loop : tie.invariant-loop
-invariant-loop line ok₀ i₀ ok i = Testing line ok i
+abbrev invariant-loop-i : tie.invariant-loop-i
+invariant-loop-i line ok₀ i₀ ok i = Testing line ok i
 
-abbrev decreases-loop : tie.decreases-loop
-decreases-loop line ok₀ i₀ ok i = length line - i
+abbrev decreases-loop-i : tie.decreases-loop-i
+decreases-loop-i line ok₀ i₀ ok i = length line - i
 
 pub all_digits_spec : {M : Type 1} → statement M
 all_digits_spec =
     tie.close
     (tie.spec
-    invariant-loop
-    decreases-loop
+    invariant-loop-i
+    decreases-loop-i
     (λ c. search test_ways)
     (λ c. search test_ways)
     (λ c κs. search test_ways)

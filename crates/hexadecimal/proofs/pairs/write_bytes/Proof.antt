@@ -6,18 +6,18 @@ use Rattle.hexadecimal.proofs.PairWays.{read_ways}
 use Rattle.hexadecimal.proofs.pairs.write_bytes.Statement.{statement}
 use Rattle.hexadecimal.proofs.pairs.write_bytes.Tie as tie
 
-abbrev invariant-loop : tie.invariant-loop
-invariant-loop line out₀ n i₀ out i = Reading line out₀ n out i
+abbrev invariant-loop-i : tie.invariant-loop-i
+invariant-loop-i line out₀ n i₀ out i = Reading line out₀ n out i
 
-abbrev decreases-loop : tie.decreases-loop
-decreases-loop line out₀ n i₀ out i = n - i
+abbrev decreases-loop-i : tie.decreases-loop-i
+decreases-loop-i line out₀ n i₀ out i = n - i
 
 pub write_bytes_spec : {M : Type 1} → statement M
 write_bytes_spec =
     tie.close
     (tie.spec
-    invariant-loop
-    decreases-loop
+    invariant-loop-i
+    decreases-loop-i
     (λ c. search read_ways)
     (λ c. omega arith)
     (λ c. omega arith)

@@ -6,18 +6,18 @@ use Rattle.monitor.proofs.UseWays.{Unused, any_uses_ways}
 use Rattle.monitor.proofs.in_use.any_uses.Statement.{statement}
 use Rattle.monitor.proofs.in_use.any_uses.Tie as tie
 
-abbrev invariant-loop : tie.invariant-loop
-invariant-loop n set places place₀ place = Unused n set (records_in places) place
+abbrev invariant-loop-place : tie.invariant-loop-place
+invariant-loop-place n set places place₀ place = Unused n set (records_in places) place
 
-abbrev decreases-loop : tie.decreases-loop
-decreases-loop n set places place₀ place = place_count - place
+abbrev decreases-loop-place : tie.decreases-loop-place
+decreases-loop-place n set places place₀ place = place_count - place
 
 pub any_uses_spec : {M : Type 1} → statement M
 any_uses_spec =
     tie.close
     (tie.spec
-    invariant-loop
-    decreases-loop
+    invariant-loop-place
+    decreases-loop-place
     (λ c. search any_uses_ways)
     (λ c κs. search any_uses_ways)
     (λ c. search any_uses_ways)

@@ -6,18 +6,18 @@ use Rattle.monitor.proofs.UseWays.{within, looks_ways}
 use Rattle.monitor.proofs.in_use.uses_set.Statement.{statement}
 use Rattle.monitor.proofs.in_use.uses_set.Tie as tie
 
-abbrev invariant-loop : tie.invariant-loop
-invariant-loop set bytes found₀ i₀ found i = Looked (within set) bytes found i
+abbrev invariant-loop-i : tie.invariant-loop-i
+invariant-loop-i set bytes found₀ i₀ found i = Looked (within set) bytes found i
 
-abbrev decreases-loop : tie.decreases-loop
-decreases-loop set bytes found₀ i₀ found i = length bytes - i
+abbrev decreases-loop-i : tie.decreases-loop-i
+decreases-loop-i set bytes found₀ i₀ found i = length bytes - i
 
 pub uses_set_spec : {M : Type 1} → statement M
 uses_set_spec =
     tie.close
     (tie.spec
-    invariant-loop
-    decreases-loop
+    invariant-loop-i
+    decreases-loop-i
     (λ c. search looks_ways)
     (λ c. search looks_ways)
     (λ c κs. search looks_ways)

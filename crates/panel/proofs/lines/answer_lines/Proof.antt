@@ -6,18 +6,18 @@ use Rattle.panel.proofs.LinesWays.{Answering, lines_ways}
 use Rattle.panel.proofs.lines.answer_lines.Statement.{statement}
 use Rattle.panel.proofs.lines.answer_lines.Tie as tie
 
-abbrev invariant-loop : tie.invariant-loop
-invariant-loop sheet₀ staged₀ places₀ buf from out₀ reply₀ rest₀ filled₀ end₀ sheet staged places out reply rest filled end = Answering (panel_in (memory sheet₀ staged₀ places₀)) buf from out rest filled end (panel_in (memory sheet staged places))
+abbrev invariant-loop-end : tie.invariant-loop-end
+invariant-loop-end sheet₀ staged₀ places₀ buf from out₀ reply₀ rest₀ filled₀ end₀ sheet staged places out reply rest filled end = Answering (panel_in (memory sheet₀ staged₀ places₀)) buf from out rest filled end (panel_in (memory sheet staged places))
 
-abbrev decreases-loop : tie.decreases-loop
-decreases-loop sheet₀ staged₀ places₀ buf from out₀ reply₀ rest₀ filled₀ end₀ sheet staged places out reply rest filled end = length buf - end
+abbrev decreases-loop-end : tie.decreases-loop-end
+decreases-loop-end sheet₀ staged₀ places₀ buf from out₀ reply₀ rest₀ filled₀ end₀ sheet staged places out reply rest filled end = length buf - end
 
 pub answer_lines_spec : {M : Type 1} → statement M
 answer_lines_spec =
     tie.close
     (tie.spec
-    invariant-loop
-    decreases-loop
+    invariant-loop-end
+    decreases-loop-end
     (λ c κs. search lines_ways)
     (λ c. search lines_ways)
     (λ c. search lines_ways)

@@ -7,18 +7,18 @@ use Rattle.parser.proofs.ReaderWays.{pairs_ways}
 use Rattle.parser.proofs.row.pairs_end.Statement.{statement}
 use Rattle.parser.proofs.row.pairs_end.Tie as tie
 
-abbrev invariant-loop : tie.invariant-loop
-invariant-loop sheet row at next₀ next = Continues (operators_of sheet) row at next
+abbrev invariant-loop-next : tie.invariant-loop-next
+invariant-loop-next sheet row at next₀ next = Continues (operators_of sheet) row at next
 
-abbrev decreases-loop : tie.decreases-loop
-decreases-loop sheet row at next₀ next = length row - next
+abbrev decreases-loop-next : tie.decreases-loop-next
+decreases-loop-next sheet row at next₀ next = length row - next
 
 pub pairs_end_spec : {M : Type 1} → statement M
 pairs_end_spec =
     tie.close
     (tie.spec
-    invariant-loop
-    decreases-loop
+    invariant-loop-next
+    decreases-loop-next
     (λ c. search pairs_ways)
     (λ c. search pairs_ways)
     (λ c. search pairs_ways)

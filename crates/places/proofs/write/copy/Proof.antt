@@ -5,18 +5,18 @@ use Rattle.places.proofs.Writes.{Written, copy_ways}
 use Rattle.places.proofs.write.copy.Statement.{statement}
 use Rattle.places.proofs.write.copy.Tie as tie
 
-abbrev invariant-loop : tie.invariant-loop
-invariant-loop to₀ at bytes i₀ to i = Written to₀ at bytes i to
+abbrev invariant-loop-i : tie.invariant-loop-i
+invariant-loop-i to₀ at bytes i₀ to i = Written to₀ at bytes i to
 
-abbrev decreases-loop : tie.decreases-loop
-decreases-loop to₀ at bytes i₀ to i = length bytes - i
+abbrev decreases-loop-i : tie.decreases-loop-i
+decreases-loop-i to₀ at bytes i₀ to i = length bytes - i
 
 pub copy_spec : {M : Type 1} → statement M
 copy_spec =
     tie.close
     (tie.spec
-    invariant-loop
-    decreases-loop
+    invariant-loop-i
+    decreases-loop-i
     (λ c. search copy_ways)
     (λ c. search copy_ways)
     (λ c. search copy_ways)

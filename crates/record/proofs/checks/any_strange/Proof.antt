@@ -6,18 +6,18 @@ use Rattle.record.proofs.Checking.{strange, strange_ways}
 use Rattle.record.proofs.checks.any_strange.Statement.{statement}
 use Rattle.record.proofs.checks.any_strange.Tie as tie
 
-abbrev invariant-loop : tie.invariant-loop
-invariant-loop n bytes found₀ at₀ found at = Looked (strange n) bytes found at
+abbrev invariant-loop-at : tie.invariant-loop-at
+invariant-loop-at n bytes found₀ at₀ found at = Looked (strange n) bytes found at
 
-abbrev decreases-loop : tie.decreases-loop
-decreases-loop n bytes found₀ at₀ found at = length bytes - at
+abbrev decreases-loop-at : tie.decreases-loop-at
+decreases-loop-at n bytes found₀ at₀ found at = length bytes - at
 
 pub any_strange_spec : {M : Type 1} → statement M
 any_strange_spec =
     tie.close
     (tie.spec
-    invariant-loop
-    decreases-loop
+    invariant-loop-at
+    decreases-loop-at
     (λ c. search strange_ways)
     (λ c. search strange_ways)
     (λ c κs. search strange_ways)

@@ -12,19 +12,19 @@ use Rattle.record.proofs.Checking.{brackets_fit, brackets_small, brackets_on, br
 use Rattle.record.proofs.checks.row_length.Statement.{statement}
 use Rattle.record.proofs.checks.row_length.Tie as tie
 
-abbrev invariant-loop : tie.invariant-loop
-invariant-loop bytes brackets₀ at₀ brackets at =
+abbrev invariant-loop-at : tie.invariant-loop-at
+invariant-loop-at bytes brackets₀ at₀ brackets at =
     (at ≤ length bytes) × (brackets ≤ at) × (brackets + how_many (λ c. eqb c opening) (drop at bytes) ≡ how_many (λ c. eqb c opening) bytes)
 
-abbrev decreases-loop : tie.decreases-loop
-decreases-loop bytes brackets₀ at₀ brackets at = length bytes - at
+abbrev decreases-loop-at : tie.decreases-loop-at
+decreases-loop-at bytes brackets₀ at₀ brackets at = length bytes - at
 
 pub row_length_spec : {M : Type 1} → statement M
 row_length_spec =
     tie.close
     (tie.spec
-    invariant-loop
-    decreases-loop
+    invariant-loop-at
+    decreases-loop-at
     (λ c. (omega arith, omega arith, zero-add _))
     (λ c. omega arith)
     (λ c κs. search rules)

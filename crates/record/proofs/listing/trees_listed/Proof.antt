@@ -4,18 +4,18 @@ use Rattle.record.proofs.ListedTrees.{Counted, trees_listed_ways}
 use Rattle.record.proofs.listing.trees_listed.Statement.{statement}
 use Rattle.record.proofs.listing.trees_listed.Tie as tie
 
-abbrev invariant-loop : tie.invariant-loop
-invariant-loop sheet bytes listed₀ at₀ listed at = Counted sheet bytes listed at
+abbrev invariant-loop-at : tie.invariant-loop-at
+invariant-loop-at sheet bytes listed₀ at₀ listed at = Counted sheet bytes listed at
 
-abbrev decreases-loop : tie.decreases-loop
-decreases-loop sheet bytes listed₀ at₀ listed at = at
+abbrev decreases-loop-at : tie.decreases-loop-at
+decreases-loop-at sheet bytes listed₀ at₀ listed at = at
 
 pub trees_listed_spec : {M : Type 1} → statement M
 trees_listed_spec =
     tie.close
     (tie.spec
-    invariant-loop
-    decreases-loop
+    invariant-loop-at
+    decreases-loop-at
     (λ c. search trees_listed_ways)
     (λ c. omega arith)
     (λ c. search trees_listed_ways)

@@ -7,18 +7,18 @@ use Rattle.relation.proofs.ChainWays.{add_ways}
 use Rattle.relation.proofs.chains.add.Statement.{statement}
 use Rattle.relation.proofs.chains.add.Tie as tie
 
-abbrev invariant-loop : tie.invariant-loop
-invariant-loop n kind marks table₀ a₀ table a = (a ≤ n) × (table ≡ added a kind marks table₀)
+abbrev invariant-loop-a : tie.invariant-loop-a
+invariant-loop-a n kind marks table₀ a₀ table a = (a ≤ n) × (table ≡ added a kind marks table₀)
 
-abbrev decreases-loop : tie.decreases-loop
-decreases-loop n kind marks table₀ a₀ table a = n - a
+abbrev decreases-loop-a : tie.decreases-loop-a
+decreases-loop-a n kind marks table₀ a₀ table a = n - a
 
 pub add_spec : {M : Type 1} → statement M
 add_spec =
     tie.close
     (tie.spec
-    invariant-loop
-    decreases-loop
+    invariant-loop-a
+    decreases-loop-a
     (λ c. (omega arith, search add_ways))
     (λ c. omega arith)
     (λ c. omega arith)

@@ -7,18 +7,18 @@ use Rattle.relation.proofs.ChainWays.{chain_ways}
 use Rattle.relation.proofs.chains.chain.Statement.{statement}
 use Rattle.relation.proofs.chains.chain.Tie as tie
 
-abbrev invariant-loop : tie.invariant-loop
-invariant-loop n table₀ k₀ table k = (k ≤ n) × (table ≡ chained n k table₀)
+abbrev invariant-loop-k : tie.invariant-loop-k
+invariant-loop-k n table₀ k₀ table k = (k ≤ n) × (table ≡ chained n k table₀)
 
-abbrev decreases-loop : tie.decreases-loop
-decreases-loop n table₀ k₀ table k = n - k
+abbrev decreases-loop-k : tie.decreases-loop-k
+decreases-loop-k n table₀ k₀ table k = n - k
 
 pub chain_spec : {M : Type 1} → statement M
 chain_spec =
     tie.close
     (tie.spec
-    invariant-loop
-    decreases-loop
+    invariant-loop-k
+    decreases-loop-k
     (λ c. (omega arith, search chain_ways))
     (λ c κs. search chain_ways)
     (λ c. omega arith)

@@ -5,18 +5,18 @@ use Rattle.relation.proofs.ChainWays.{Passing, pass_ways}
 use Rattle.relation.proofs.chains.pass.Statement.{statement}
 use Rattle.relation.proofs.chains.pass.Tie as tie
 
-abbrev invariant-loop : tie.invariant-loop
-invariant-loop n k table₀ row a₀ table a = (a ≤ n) × Passing k row table₀ a table
+abbrev invariant-loop-a : tie.invariant-loop-a
+invariant-loop-a n k table₀ row a₀ table a = (a ≤ n) × Passing k row table₀ a table
 
-abbrev decreases-loop : tie.decreases-loop
-decreases-loop n k table₀ row a₀ table a = n - a
+abbrev decreases-loop-a : tie.decreases-loop-a
+decreases-loop-a n k table₀ row a₀ table a = n - a
 
 pub pass_spec : {M : Type 1} → statement M
 pass_spec =
     tie.close
     (tie.spec
-    invariant-loop
-    decreases-loop
+    invariant-loop-a
+    decreases-loop-a
     (λ c. omega arith)
     (λ c. omega arith)
     (λ c. (omega arith, search pass_ways))

@@ -7,18 +7,18 @@ use Rattle.relation.proofs.Reading.{read_ways}
 use Rattle.relation.proofs.rules.read.Statement.{statement}
 use Rattle.relation.proofs.rules.read.Tie as tie
 
-abbrev invariant-loop : tie.invariant-loop
-invariant-loop n rules ahead₀ back₀ i₀ ahead back i = (i ≤ length rules) × Remaining n rules ahead₀ back₀ i ahead back
+abbrev invariant-loop-i : tie.invariant-loop-i
+invariant-loop-i n rules ahead₀ back₀ i₀ ahead back i = (i ≤ length rules) × Remaining n rules ahead₀ back₀ i ahead back
 
-abbrev decreases-loop : tie.decreases-loop
-decreases-loop n rules ahead₀ back₀ i₀ ahead back i = length rules - i
+abbrev decreases-loop-i : tie.decreases-loop-i
+decreases-loop-i n rules ahead₀ back₀ i₀ ahead back i = length rules - i
 
 pub read_spec : {M : Type 1} → statement M
 read_spec =
     tie.close
     (tie.spec
-    invariant-loop
-    decreases-loop
+    invariant-loop-i
+    decreases-loop-i
     (λ c. (omega arith, search read_ways))
     (λ c. omega arith)
     (λ c. omega arith)
@@ -30,5 +30,5 @@ read_spec =
     (λ c. search read_ways)
     (λ c. omega arith)
     (λ c. omega arith)
-    (λ c. (omega arith, search (read_ways, c.before.take-rule.ensures)))
+    (λ c. (omega arith, search (read_ways, c.before.take_rule.ensures)))
     (λ c. search read_ways))

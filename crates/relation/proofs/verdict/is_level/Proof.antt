@@ -11,18 +11,18 @@ use Rattle.relation.proofs.Testing.{level_ways}
 use Rattle.relation.proofs.verdict.is_level.Statement.{statement}
 use Rattle.relation.proofs.verdict.is_level.Tie as tie
 
-abbrev invariant-loop : tie.invariant-loop
-invariant-loop n prefixes relation a₀ a = (a ≤ n) × (all_below a (level_for (operators_by n prefixes) (closes_in relation)) ≡ true)
+abbrev invariant-loop-a : tie.invariant-loop-a
+invariant-loop-a n prefixes relation a₀ a = (a ≤ n) × (all_below a (level_for (operators_by n prefixes) (closes_in relation)) ≡ true)
 
-abbrev decreases-loop : tie.decreases-loop
-decreases-loop n prefixes relation a₀ a = n - a
+abbrev decreases-loop-a : tie.decreases-loop-a
+decreases-loop-a n prefixes relation a₀ a = n - a
 
 pub is_level_spec : {M : Type 1} → statement M
 is_level_spec =
     tie.close
     (tie.spec
-    invariant-loop
-    decreases-loop
+    invariant-loop-a
+    decreases-loop-a
     (λ c. (omega arith, search level_ways))
     (λ c κs. search level_ways)
     (λ c. search level_ways)

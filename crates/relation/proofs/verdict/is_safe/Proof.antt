@@ -11,18 +11,18 @@ use Rattle.relation.proofs.Testing.{safe_ways}
 use Rattle.relation.proofs.verdict.is_safe.Statement.{statement}
 use Rattle.relation.proofs.verdict.is_safe.Tie as tie
 
-abbrev invariant-loop : tie.invariant-loop
-invariant-loop n prefixes closes yields a₀ a = (a ≤ n) × (all_below a (safe_for (operators_by n prefixes) (turned (closes_in yields)) (closes_in closes)) ≡ true)
+abbrev invariant-loop-a : tie.invariant-loop-a
+invariant-loop-a n prefixes closes yields a₀ a = (a ≤ n) × (all_below a (safe_for (operators_by n prefixes) (turned (closes_in yields)) (closes_in closes)) ≡ true)
 
-abbrev decreases-loop : tie.decreases-loop
-decreases-loop n prefixes closes yields a₀ a = n - a
+abbrev decreases-loop-a : tie.decreases-loop-a
+decreases-loop-a n prefixes closes yields a₀ a = n - a
 
 pub is_safe_spec : {M : Type 1} → statement M
 is_safe_spec =
     tie.close
     (tie.spec
-    invariant-loop
-    decreases-loop
+    invariant-loop-a
+    decreases-loop-a
     (λ c. (omega arith, search safe_ways))
     (λ c. search safe_ways)
     (λ c. search safe_ways)

@@ -11,18 +11,18 @@ use Rattle.relation.proofs.Testing.{total_ways}
 use Rattle.relation.proofs.verdict.is_total.Statement.{statement}
 use Rattle.relation.proofs.verdict.is_total.Tie as tie
 
-abbrev invariant-loop : tie.invariant-loop
-invariant-loop n prefixes closes yields a₀ a = (a ≤ n) × (all_below a (total_for (operators_by n prefixes) (turned (closes_in yields)) (closes_in closes)) ≡ true)
+abbrev invariant-loop-a : tie.invariant-loop-a
+invariant-loop-a n prefixes closes yields a₀ a = (a ≤ n) × (all_below a (total_for (operators_by n prefixes) (turned (closes_in yields)) (closes_in closes)) ≡ true)
 
-abbrev decreases-loop : tie.decreases-loop
-decreases-loop n prefixes closes yields a₀ a = n - a
+abbrev decreases-loop-a : tie.decreases-loop-a
+decreases-loop-a n prefixes closes yields a₀ a = n - a
 
 pub is_total_spec : {M : Type 1} → statement M
 is_total_spec =
     tie.close
     (tie.spec
-    invariant-loop
-    decreases-loop
+    invariant-loop-a
+    decreases-loop-a
     (λ c. (omega arith, search total_ways))
     (λ c. search total_ways)
     (λ c. search total_ways)

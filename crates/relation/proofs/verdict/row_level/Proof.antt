@@ -11,18 +11,18 @@ use Rattle.relation.proofs.Testing.{row_ways}
 use Rattle.relation.proofs.verdict.row_level.Statement.{statement}
 use Rattle.relation.proofs.verdict.row_level.Tie as tie
 
-abbrev invariant-loop : tie.invariant-loop
-invariant-loop n prefixes relation a b₀ b = (b ≤ n) × (all_below b (level_pair (operators_by n prefixes) (closes_in relation) a) ≡ true)
+abbrev invariant-loop-b : tie.invariant-loop-b
+invariant-loop-b n prefixes relation a b₀ b = (b ≤ n) × (all_below b (level_pair (operators_by n prefixes) (closes_in relation) a) ≡ true)
 
-abbrev decreases-loop : tie.decreases-loop
-decreases-loop n prefixes relation a b₀ b = n - b
+abbrev decreases-loop-b : tie.decreases-loop-b
+decreases-loop-b n prefixes relation a b₀ b = n - b
 
 pub row_level_spec : {M : Type 1} → statement M
 row_level_spec =
     tie.close
     (tie.spec
-    invariant-loop
-    decreases-loop
+    invariant-loop-b
+    decreases-loop-b
     (λ c. (omega arith, search row_ways))
     (λ c κs. search row_ways)
     (λ c. search row_ways)

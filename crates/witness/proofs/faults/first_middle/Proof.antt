@@ -8,18 +8,18 @@ use Rattle.witness.proofs.FaultWays.{NoneBefore, middle_ways}
 use Rattle.witness.proofs.faults.first_middle.Statement.{statement}
 use Rattle.witness.proofs.faults.first_middle.Tie as tie
 
-abbrev invariant-loop : tie.invariant-loop
-invariant-loop n prefixes closes a b₀ b = (b ≤ n) × NoneBefore n (uneven (operators_by n prefixes) (closes_in closes) a) b
+abbrev invariant-loop-b : tie.invariant-loop-b
+invariant-loop-b n prefixes closes a b₀ b = (b ≤ n) × NoneBefore n (uneven (operators_by n prefixes) (closes_in closes) a) b
 
-abbrev decreases-loop : tie.decreases-loop
-decreases-loop n prefixes closes a b₀ b = n - b
+abbrev decreases-loop-b : tie.decreases-loop-b
+decreases-loop-b n prefixes closes a b₀ b = n - b
 
 pub first_middle_spec : {M : Type 1} → statement M
 first_middle_spec =
     tie.close
     (tie.spec
-    invariant-loop
-    decreases-loop
+    invariant-loop-b
+    decreases-loop-b
     (λ c. (omega arith, search middle_ways))
     (λ c κs. search middle_ways)
     (λ c. search middle_ways)

@@ -8,18 +8,18 @@ use Rattle.witness.proofs.FaultWays.{NoneBefore, left_ways}
 use Rattle.witness.proofs.faults.first_uneven.Statement.{statement}
 use Rattle.witness.proofs.faults.first_uneven.Tie as tie
 
-abbrev invariant-loop : tie.invariant-loop
-invariant-loop n prefixes closes a₀ a = (a ≤ n) × NoneBefore n (uneven_pair (operators_by n prefixes) (closes_in closes)) a
+abbrev invariant-loop-a : tie.invariant-loop-a
+invariant-loop-a n prefixes closes a₀ a = (a ≤ n) × NoneBefore n (uneven_pair (operators_by n prefixes) (closes_in closes)) a
 
-abbrev decreases-loop : tie.decreases-loop
-decreases-loop n prefixes closes a₀ a = n - a
+abbrev decreases-loop-a : tie.decreases-loop-a
+decreases-loop-a n prefixes closes a₀ a = n - a
 
 pub first_uneven_spec : {M : Type 1} → statement M
 first_uneven_spec =
     tie.close
     (tie.spec
-    invariant-loop
-    decreases-loop
+    invariant-loop-a
+    decreases-loop-a
     (λ c. (omega arith, search left_ways))
     (λ c κs. search left_ways)
     (λ c. search left_ways)
