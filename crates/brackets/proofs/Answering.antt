@@ -102,7 +102,7 @@ module _ (sheet bytes out zeros : List ℕ) {whole : List ℕ} {y : Answer} (roo
 
     -- it fills as many bytes as the repair says
     size_is : y.length ≡ length (record_of tree)
-    size_is = repairs.decreases ∙ ap (λ n. length_after n (built ops (closes_in sheet) row)) zero ∙ ap length made.1.recorded
+    size_is = repairs.measured ∙ ap (λ n. length_after n (built ops (closes_in sheet) row)) zero ∙ ap length made.1.recorded
 
     fills : TreeAt ops whole 0 tree y.length
     fills = subst (TreeAt ops whole 0 tree) (sym size_is) at_front

@@ -46,7 +46,7 @@ module _ (before : List ℕ) (at : ℕ) (h : at + most_reply < length before) wh
       length-drop (at + most_reply - at) (drop at before) ∙ ap (λ n. n - (at + most_reply - at)) (length-drop at before) in
       let more : length (drop (length t) mid ++ post) ≡ length (drop (length t) mid) + length post = length-append (drop (length t) mid) post in
       record {
-        written = rw (s.output, append_assoc t (drop (length t) mid) post) (line_put (take at before) t (drop (length t) mid ++ post) (at + r) (omega (arith, s.decreases)) (omega arith));
+        written = rw (s.output, append_assoc t (drop (length t) mid) post) (line_put (take at before) t (drop (length t) mid ++ post) (at + r) (omega (arith, s.measured)) (omega arith));
         inside = omega (arith, s.inside);
       }
 

@@ -28,9 +28,9 @@ use Rattle.explain.proofs.Longest.{explained_short, never_short}
 -- A number and an answer were written, and they are the bytes.
 says : {number : ℕ} {answer out after : List ℕ} {r : ℕ} → Writes number answer out after r → (bytes : List ℕ) → bytes ≡ number ∷ answer → length answer ≤ most_explained → Says bytes out after r
 says {number} {answer} {out} w bytes e l = record {
-  measured = w.decreases ∙ ap (λ b. length (text_of b)) (sym e);
+  measured = w.measured ∙ ap (λ b. length (text_of b)) (sym e);
   output = w.output ∙ ap (λ b. with_front (text_of b) out) (sym e);
-  inside = omega (arith, w.decreases, length_text_of (number ∷ answer));
+  inside = omega (arith, w.measured, length_text_of (number ∷ answer));
 }
 
 same_bytes : {bytes others out after : List ℕ} {r : ℕ} → others ≡ bytes → Says bytes out after r → Says others out after r
@@ -40,7 +40,7 @@ same_bytes {out = out} {after} {r} e s = subst (λ b. Says b out after r) (sym e
 module _ (n : ℕ) (bytes : List ℕ) {before after : List ℕ} {t : Answer} (a : AnswersWith (order_checks n bytes) (explained n bytes) before after t) (h : length before ≡ most_explained) where
   -- the answer is the front of the lent array
   answer_front : take (t.length - 0) after ≡ cond (eqb t.number accepted) (explained n bytes) []
-  answer_front = go (eqb t.number accepted) a.decreases a.output
+  answer_front = go (eqb t.number accepted) a.measured a.output
     where
       go : (b : Bool) → t.length ≡ cond b (length (explained n bytes)) 0 → after ≡ cond b (with_front (explained n bytes) before) before → take (t.length - 0) after ≡ cond b (explained n bytes) []
       go true m e = let all : t.length - 0 ≡ length (explained n bytes) = omega arith in ap₂ take all e ∙ take-append_seam (explained n bytes) (drop (length (explained n bytes)) before)
@@ -49,7 +49,7 @@ module _ (n : ℕ) (bytes : List ℕ) {before after : List ℕ} {t : Answer} (a 
   answer_short : t.length ≤ most_explained
   answer_short =
       let m : length_after t.number (explained n bytes) ≤ most_explained = by_cond (λ m. m ≤ most_explained) (eqb t.number accepted) (λ _. explained_short n bytes) (λ _. omega arith) in
-      omega (arith, a.decreases)
+      omega (arith, a.measured)
 
   pub answer_inside : length after ≡ length before → t.length ≤ length after
   answer_inside e = omega (arith, answer_short)

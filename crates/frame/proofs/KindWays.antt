@@ -120,7 +120,7 @@ module _ (sheet staged places : List ℕ) (kind : ℕ) (rest : List ℕ) {before
       let c = q.counted staged (records_in places) in
       rw e (record {
         numbered = w.numbered ∙ n;
-        measured = w.decreases ∙ ap₂ (λ x y. length_after x (y ∷ [])) n c;
+        measured = w.measured ∙ ap₂ (λ x y. length_after x (y ∷ [])) n c;
         output = w.output ∙ ap₂ (λ x y. output_after x (y ∷ []) before) n c;
         stands = refl;
         kept = λ _. refl;
@@ -131,7 +131,7 @@ module _ (sheet staged places : List ℕ) (kind : ℕ) (rest : List ℕ) {before
   unfolding call_of
   way_repair e l a =
       let w = a.answers staged places in
-      with_answer (memory sheet staged places) (call_of kind rest) {q = repair rest room} (repair_number (ops (panel_in (memory sheet staged places))) rest) _ (rw e) refl refl l w.numbered w.decreases w.output
+      with_answer (memory sheet staged places) (call_of kind rest) {q = repair rest room} (repair_number (ops (panel_in (memory sheet staged places))) rest) _ (rw e) refl refl l w.numbered w.measured w.output
 
   pub way_switch : {later : Memory} {n : ℕ} → kind ≡ 10 → length rest ≡ 0 → (r.number ≡ n) × (r.length ≡ 0) → Changes (memory sheet staged places) switch n later
       → Tells (memory sheet staged places) (call_of kind rest) before before later r
@@ -175,21 +175,21 @@ module _ (sheet staged places : List ℕ) (kind : ℕ) (rest : List ℕ) {before
     way_fetch_record e a =
         let w = (subst (λ k. AnswersFrom places (fetch_record k before) r after) byte a).answers sheet staged in
         with_answer (memory sheet staged places) (call_of kind rest) {q = fetch_record (get_or rest 0 0) room} (fetch_record_number (panel_in (memory sheet staged places)) (get_or rest 0 0)) _ (one_byte kind rest e one) refl refl l
-        w.numbered w.decreases w.output
+        w.numbered w.measured w.output
 
     pub way_fetch_row : kind ≡ 5 → AnswersOn sheet places (fetch_row named before) r after → Tells (memory sheet staged places) (call_of kind rest) before after (memory sheet staged places) r
     unfolding call_of
     way_fetch_row e a =
         let w = (subst (λ k. AnswersOn sheet places (fetch_row k before) r after) byte a).answers staged in
         with_answer (memory sheet staged places) (call_of kind rest) {q = fetch_row (get_or rest 0 0) room} (fetch_row_number (panel_in (memory sheet staged places)) (get_or rest 0 0)) _ (one_byte kind rest e one) refl refl l
-        w.numbered w.decreases w.output
+        w.numbered w.measured w.output
 
     pub way_image : kind ≡ 9 → AnswersFrom places (image named before) r after → Tells (memory sheet staged places) (call_of kind rest) before after (memory sheet staged places) r
     unfolding call_of
     way_image e a =
         let w = (subst (λ k. AnswersFrom places (image k before) r after) byte a).answers sheet staged in
         with_answer (memory sheet staged places) (call_of kind rest) {q = image (get_or rest 0 0) room} (image_number (panel_in (memory sheet staged places)) (get_or rest 0 0)) _ (one_byte kind rest e one) refl refl l
-        w.numbered w.decreases w.output
+        w.numbered w.measured w.output
 
   module _ (q : (r.number ≡ 12) × (r.length ≡ 0)) (one : kind ≡ 1 → ⊥) (two : kind ≡ 2 → ⊥) (six : kind ≡ 6 → ⊥) (seven : kind ≡ 7 → ⊥) (eight : kind ≡ 8 → ⊥) where
     pub way_more_bytes : (length rest ≡ 0 → ⊥) → (length rest ≡ 1 → ⊥) → Tells (memory sheet staged places) (call_of kind rest) before before (memory sheet staged places) r

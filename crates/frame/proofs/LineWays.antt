@@ -83,7 +83,7 @@ module _ (m : Memory) (line out : List ℕ) {after : List ℕ} {later : Memory} 
   replied number answer e w q k =
       let same : line_reply (panel_in m) line ≡ text_of (number ∷ answer) = ap text_of e in
       record {
-        measured = w.decreases ∙ ap length (sym same);
+        measured = w.measured ∙ ap length (sym same);
         output = w.output ∙ ap (λ t. with_front t out) (sym same);
         stands = q;
         kept = λ n _ f h. k (λ z. h (ap (λ l. get_or l 0 0) (sym f ∙ e) ∙ z));
@@ -126,14 +126,14 @@ module _ (line room : List ℕ) {after : List ℕ} {d : Decoded} (reads : Decode
 -- what a call wrote of its answer
 module _ {m : Memory} {call : Option Call} {before after : List ℕ} {later : Memory} {t : Answer} (tells : Tells m call before after later t) where
   answer_front : take (t.length - 0) after ≡ if_accepted (frame_number (panel_in m) call) (frame_answer (panel_in m) call) []
-  answer_front = go (eqb (frame_number (panel_in m) call) accepted) (frame_answer (panel_in m) call) tells.decreases tells.output
+  answer_front = go (eqb (frame_number (panel_in m) call) accepted) (frame_answer (panel_in m) call) tells.measured tells.output
     where
       go : (b : Bool) (answer : List ℕ) → t.length ≡ cond b (length answer) 0 → after ≡ cond b (with_front answer before) before → take (t.length - 0) after ≡ cond b answer []
       go true answer n e = let all : t.length - 0 ≡ length answer = omega arith in ap₂ take all e ∙ take-append_seam answer (drop (length answer) before)
       go false answer n e = let none : t.length - 0 ≡ 0 = omega arith in ap (λ k. take k after) none
 
   pub answer_inside : t.length ≤ length after
-  answer_inside = go (eqb (frame_number (panel_in m) call) accepted) (frame_answer (panel_in m) call) tells.decreases tells.output
+  answer_inside = go (eqb (frame_number (panel_in m) call) accepted) (frame_answer (panel_in m) call) tells.measured tells.output
     where
       go : (b : Bool) (answer : List ℕ) → t.length ≡ cond b (length answer) 0 → after ≡ cond b (with_front answer before) before → t.length ≤ length after
       go true answer n e = let size : length after ≡ length answer + length (drop (length answer) before) = ap length e ∙ length-append answer (drop (length answer) before) in omega arith

@@ -52,16 +52,16 @@ module _ (m : Memory) (q : Question) where
 -- ---- build, repair, yield, the shortest row: what the lower crates promise is the run's answer
 module _ (sheet : List ℕ) {bytes before later : List ℕ} {r : Answer} where
   pub build_answered : AnswersBuild sheet bytes before later r → AnswersUnder sheet (build bytes before) r later
-  build_answered a = record { answers = λ staged store. as_told (memory sheet staged store) (build bytes before) _ _ refl refl a.numbered a.decreases a.output }
+  build_answered a = record { answers = λ staged store. as_told (memory sheet staged store) (build bytes before) _ _ refl refl a.numbered a.measured a.output }
 
   pub repair_answered : AnswersRepair sheet bytes before later r → AnswersUnder sheet (repair bytes before) r later
-  repair_answered a = record { answers = λ staged store. as_told (memory sheet staged store) (repair bytes before) _ _ refl refl a.numbered a.decreases a.output }
+  repair_answered a = record { answers = λ staged store. as_told (memory sheet staged store) (repair bytes before) _ _ refl refl a.numbered a.measured a.output }
 
   pub yield_answered : Yields (operators_of sheet) bytes before later r → AnswersUnder sheet (yield bytes before) r later
-  yield_answered a = record { answers = λ staged store. as_told (memory sheet staged store) (yield bytes before) _ _ refl refl a.numbered a.decreases a.output }
+  yield_answered a = record { answers = λ staged store. as_told (memory sheet staged store) (yield bytes before) _ _ refl refl a.numbered a.measured a.output }
 
   pub shortest_answered : AnswersShortest sheet bytes before later r → AnswersUnder sheet (shortest_row bytes before) r later
-  shortest_answered a = record { answers = λ staged store. as_told (memory sheet staged store) (shortest_row bytes before) _ _ refl refl a.numbered a.decreases a.output }
+  shortest_answered a = record { answers = λ staged store. as_told (memory sheet staged store) (shortest_row bytes before) _ _ refl refl a.numbered a.measured a.output }
 
 pub ruleset under_sheet_ways = (build_answered, repair_answered, yield_answered, shortest_answered, rules)
 
@@ -132,7 +132,7 @@ module _ (sheet store : List ℕ) (k : ℕ) (out : List ℕ) where
               simp (lt-ltb k place_count h, empty_false (held (records_in store) k) (λ z. n (ap length e ∙ z))) in
               as_told (memory sheet staged store) (fetch_row k out) (yield_number (operators_of sheet) bytes (length out)) (row_of (tree_of (class (operators_of sheet)) bytes))
               (ap (λ b. yield_number (operators_of sheet) b (length out)) e ∙ due)
-              (ap (λ b. row_of (tree_of (class (operators_of sheet)) b)) e) y.numbered y.decreases y.output;
+              (ap (λ b. row_of (tree_of (class (operators_of sheet)) b)) e) y.numbered y.measured y.output;
         }
 
 pub ruleset fetch_row_ways = (row_over, row_none, row_yielded, rules)

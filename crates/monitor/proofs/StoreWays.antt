@@ -98,12 +98,12 @@ module _ (sheet store : List ℕ) (k : ℕ) {row before after : List ℕ} {r : A
         omega (arith, built_length_accepted (closes_in sheet) (operators_of sheet) row e, few_bytes row, ((row_accepted (operators_of sheet) row).0 e).0)
 
     pub row_part : r.length ≤ length after
-    row_part = front_inside record_of_row before a.decreases a.output zero
+    row_part = front_inside record_of_row before a.measured a.output zero
 
     pub row_stored : {later : List ℕ} → Enters store k (take (r.length - 0) after) later → StoresRow sheet store k row 0 later
     row_stored e =
         stored_front (row_number (operators_of sheet) row) record_of_row store k row_number_is zero row_fits
-        (front_is record_of_row before a.decreases a.output zero) e
+        (front_is record_of_row before a.measured a.output zero) e
 
 pub ruleset store_row_ways = (row_refused, row_part, row_stored, rules)
 
@@ -117,13 +117,13 @@ module _ (sheet store : List ℕ) (k : ℕ) {bytes before after : List ℕ} {r :
 
   module _ (zero : r.number ≡ 0) where
     pub record_part : r.length ≤ length after
-    record_part = front_inside (rebuilt sheet bytes) before a.decreases a.output zero
+    record_part = front_inside (rebuilt sheet bytes) before a.measured a.output zero
 
     pub record_stored : {later : List ℕ} → Enters store k (take (r.length - 0) after) later → StoresRecord sheet store k bytes 0 later
     record_stored e =
         stored_front (record_number (operators_of sheet) bytes) (rebuilt sheet bytes) store k record_number_is zero
         (rebuilt_fits sheet bytes (sym record_number_is ∙ zero))
-        (front_is (rebuilt sheet bytes) before a.decreases a.output zero) e
+        (front_is (rebuilt sheet bytes) before a.measured a.output zero) e
 
   -- the bytes are what the place holds
   module _ (same : bytes ≡ held (records_in store) k) where

@@ -35,13 +35,13 @@ module _ {sheet staged store line text text' sheet' staged' store' : List ℕ} {
 
   -- the reply is the front of the lent array
   reply_front : take (r - 0) text' ≡ line_reply p line
-  reply_front = ap (take (r - 0)) w.output ∙ take_at (line_reply p line) (drop (length (line_reply p line)) text) (r - 0) (omega (arith, w.decreases))
+  reply_front = ap (take (r - 0)) w.output ∙ take_at (line_reply p line) (drop (length (line_reply p line)) text) (r - 0) (omega (arith, w.measured))
 
   pub reply_inside : r ≤ length text'
-  reply_inside = omega (arith, w.decreases, ap length w.output, length-append (line_reply p line) (drop (length (line_reply p line)) text))
+  reply_inside = omega (arith, w.measured, ap length w.output, length-append (line_reply p line) (drop (length (line_reply p line)) text))
 
   pub reply_fits : (before : List ℕ) (at : ℕ) → length before ≡ block → at + most_reply_line ≤ block → length (take (r - 0) text') ≤ length (mid_of at (at + most_reply - at) before)
-  reply_fits before at l h = omega (arith, ap length reply_front, w.decreases, w.inside, mid_len at (at + most_reply) before (omega arith))
+  reply_fits before at l h = omega (arith, ap length reply_front, w.measured, w.inside, mid_len at (at + most_reply) before (omega arith))
 
   pub line_answered : {before part : List ℕ} {at : ℕ} → length before ≡ block → at + most_reply_line ≤ block
       → part ≡ take (r - 0) text' ++ drop (length (take (r - 0) text')) (mid_of at (at + most_reply - at) before)
@@ -61,7 +61,7 @@ module _ {sheet staged store line text text' sheet' staged' store' : List ℕ} {
       record {
         written =
             rw (output, append_assoc t (drop (length t) mid) post)
-            (line_put (take at before) t (drop (length t) mid ++ post) (at + r) (omega (arith, w.decreases)) (omega arith));
+            (line_put (take at before) t (drop (length t) mid ++ post) (at + r) (omega (arith, w.measured)) (omega arith));
         stands = w.stands;
         inside = omega (arith, w.inside);
         more = omega arith;

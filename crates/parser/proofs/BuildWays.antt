@@ -111,7 +111,7 @@ whole_begins {ops} {closes} {row} b = record { rest = []; tree = b.tree; makes =
 
 module _ (ops : Operators) (closes : ℕ → ℕ → Bool) (row out : List ℕ) (b : Buildable ops closes row) (size : length out ≡ record_bytes row) where
   fills : length (record_of b.tree) ≡ length out
-  fills = b.decreases ∙ sym size
+  fills = b.measured ∙ sym size
 
   module _ {words : List ℕ} {f : Front} (r : Reads ops closes row words f) where
     -- what waits at the end closes there, and the notes are those of the tree

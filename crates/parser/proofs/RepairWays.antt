@@ -84,7 +84,7 @@ module _ (sheet bytes out row : List ℕ) {row' : List ℕ} {y : Answer} (room :
 
     -- the front of the lent buffer is the row
     tokens_are : y.length ≡ length (row_here (operators_of sheet) bytes)
-    tokens_are = yields.decreases ∙ rw zero
+    tokens_are = yields.measured ∙ rw zero
 
     filled : row' ≡ row_here (operators_of sheet) bytes ++ drop (length (row_here (operators_of sheet) bytes)) row
     filled = yields.output ∙ rw zero

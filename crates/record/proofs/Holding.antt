@@ -20,10 +20,10 @@ pub front_fits : (size : ℕ) (whole : List ℕ) → size ≤ most_record_bytes 
 front_fits size whole h = omega (arith, front_short size whole)
 
 -- a copy of the record stands at the front
-pub front_copied : (bytes whole rest : List ℕ) → whole ≡ take (length bytes) bytes ++ rest → front (length bytes) whole ≡ bytes
+pub front_copied : (bytes whole rest : List ℕ) → whole ≡ bytes ++ rest → front (length bytes) whole ≡ bytes
 unfolding front
 front_copied bytes whole rest e =
-    ap (take (length bytes)) (e ∙ ap (λ b. b ++ rest) (take_all (length bytes) bytes (omega arith))) ∙ take_at bytes rest (length bytes) refl
+    ap (take (length bytes)) e ∙ take_at bytes rest (length bytes) refl
 
 -- the part from the start on
 pub from_start : (ops : Operators) (size at : ℕ) (whole : List ℕ) {x : Node} → x ≡ node_at ops (take (size - 0) (drop 0 whole)) at → x ≡ node_at ops (front size whole) at

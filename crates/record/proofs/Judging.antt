@@ -39,7 +39,7 @@ module _ (sheet bytes : List ℕ) where
     pub strange : {r : Judgement} → s ≡ true → r ≡ record { number = stranger; count = 0 } → r ≡ judgement sheet bytes
     strange q e = e ∙ refused stranger (numbering.strange (operators_of sheet) bytes fits tested q) (λ z. omega arith)
 
-    module _ (q : s ≡ false) (copy : List ℕ) (v : ℕ) (rest : List ℕ) (copied : copy ≡ take (length bytes) bytes ++ rest)
+    module _ (q : s ≡ false) (copy : List ℕ) (v : ℕ) (rest : List ℕ) (copied : copy ≡ bytes ++ rest)
         (h : Counts sheet (front (length bytes) copy) 0 opening opening 0 v) where
       on_bytes : Counts sheet bytes 0 opening opening 0 v
       on_bytes = rw (front_copied bytes copy rest copied) at h

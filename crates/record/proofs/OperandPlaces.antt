@@ -88,7 +88,7 @@ module _ (ops : Operators) (right : Bool) (bytes : List ℕ) where
         }
 
   -- the record stands at the front of a copy
-  module _ (whole rest : List ℕ) (copied : whole ≡ take (length bytes) bytes ++ rest) {x : Node} (seen : x ≡ node_at ops (front (length bytes) whole) 0) where
+  module _ (whole rest : List ℕ) (copied : whole ≡ bytes ++ rest) {x : Node} (seen : x ≡ node_at ops (front (length bytes) whole) 0) where
     same : front (length bytes) whole ≡ bytes
     same = front_copied bytes whole rest copied
 

@@ -60,7 +60,7 @@ module _ (ops : Operators) (bytes before : List ℕ) where
     strange q e = refused stranger (numbering.strange ops bytes fits tested q) (λ z. omega arith) e
 
     module _ {tokens : ℕ} (q : s ≡ false) (v : tokens ≡ row_length bytes) (low : tokens ≤ most_tokens) (copy rest zeros row : List ℕ) (w : ℕ)
-        (copied : copy ≡ take (length bytes) bytes ++ rest) (h : Writes ops (front (length bytes) copy) 0 zeros 0 row w) where
+        (copied : copy ≡ bytes ++ rest) (h : Writes ops (front (length bytes) copy) 0 zeros 0 row w) where
       on_bytes : Writes ops bytes 0 zeros 0 row w
       on_bytes = rw (front_copied bytes copy rest copied) at h
 

@@ -54,7 +54,7 @@ module _ {r word : ℕ} (n : ℕ) (bytes t u out : List ℕ) (reads : ReadsSheet
       told_is = ap witness_bytes witness_is
 
       size_is : size ≡ length (explained n bytes)
-      size_is = tells.decreases ∙ ap length told_is
+      size_is = tells.measured ∙ ap length told_is
 
       pub text_holds : length text ≡ most_explained → size ≤ length text
       text_holds h = omega (arith, tells.inside)

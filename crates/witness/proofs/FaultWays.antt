@@ -19,7 +19,7 @@ use Rattle.disambiguation.specs.Witness.{first_left, first_right, first_third, u
 use Rattle.disambiguation.proofs.FirstBelow.{IsFirst, first_is, first_only, first_same}
 use Rattle.relation.specs.Relation.{bit_of, closes_in, turned}
 use Rattle.relation.specs.Words.{operators_by, without, SetOf}
-use Rattle.relation.proofs.Bits.{bit_and, bit_or, bit_not}
+use Rattle.relation.proofs.Bits.{bit_and_lem, bit_or_lem, bit_not}
 use Rattle.relation.proofs.WordSets.{comes_by, bit_without}
 use Rattle.relation.proofs.WordTests.{bits, bits_without, closes_bit}
 use Rattle.witness.specs.Faults.{fault_of, only_in, in_none}
@@ -35,7 +35,7 @@ in_none_lem x y z hx hy hz =
     record {
       bit = λ c h.
           bit_not 32 (bit_or (bit_or x y) z) c (or_lt 32 (bit_or x y) z (or_lt 32 x y hx.fits hy.fits) hz.fits) h
-          ∙ ap not (bit_or (bit_or x y) z c ∙ ap (λ b. b || bit_of z c) (bit_or x y c));
+          ∙ ap not (bit_or_lem (bit_or x y) z c ∙ ap (λ b. b || bit_of z c) (bit_or_lem x y c));
     }
 
 pub ruleset set_ways = (only_in_lem, in_none_lem, rules)
@@ -47,7 +47,7 @@ module _ (n w a : ℕ) (t u : List ℕ) {dead : Bool} {r x : ℕ} (few : n ≤ m
   right_dead z e f =
       f
       ∙ first_same n _ _
-      (λ b l. bit_and x (get_or u a 0) b
+      (λ b l. bit_and_lem x (get_or u a 0) b
       ∙ ap₂ ◌&&◌ (ap (λ (v : ℕ). bit_of v b) e ∙ bits_without n w few small.fits t a b h l) (bits n w few small.fits u a b h l))
       ∙ ap (λ d. first_right (operators_by n w) (fault_of d (operators_by n w) (turned (closes_in u)) (closes_in t)) a) (sym z)
 

@@ -67,7 +67,7 @@ fitted_append p (x ∷ xs) ys = go (is_there p x) (fitted_append p xs ys)
 -- one shape behind another
 fits_append : {text middle later : List ℕ} {from m r : ℕ} (p : Bool) (xs ys : List ℕ) → Fits p xs text from middle m → Fits p ys middle m later r → Fits p (xs ++ ys) text from later r
 fits_append {text} {from = from} p xs ys f g = record {
-  measured = omega (arith, f.decreases, g.decreases, ap length (fitted_append p xs ys), length-append (fitted p xs) (fitted p ys));
+  measured = omega (arith, f.measured, g.measured, ap length (fitted_append p xs ys), length-append (fitted p xs) (fitted p ys));
   few = omega (arith, f.few, g.few, length-append xs ys);
   as_long = g.as_long ∙ f.as_long;
   written = g.written ∙ ap (λ s. s ++ fitted p ys) f.written ∙ append_assoc (take from text) (fitted p xs) (fitted p ys) ∙ ap (λ s. take from text ++ s) (sym (fitted_append p xs ys));
@@ -127,7 +127,7 @@ module _ (c : ℕ) (h : c < most_operators) where
 
 -- a row, and two records behind it
 tells : (w : Witness) {text later : List ℕ} {r : ℕ} (p : Bool) (shape : List ℕ) → fitted p shape ≡ witness_bytes w → length shape ≤ most_explained → Fits p shape text 0 later r → Tells w later r
-tells w p shape e h f = record { measured = omega (arith, f.decreases, ap length e); inside = omega (arith, f.few); written = f.written ∙ e }
+tells w p shape e h f = record { measured = omega (arith, f.measured, ap length e); inside = omega (arith, f.few); written = f.written ∙ e }
 
 by_parts : (p : Bool) (row first second : List ℕ) {row' first' second' : List ℕ} → fitted p row ≡ row' → fitted p first ≡ first' → fitted p second ≡ second'
     → fitted p (row ++ first ++ second) ≡ row' ++ first' ++ second'

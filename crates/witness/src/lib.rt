@@ -20,6 +20,7 @@ pub mod lists;
 mod shapes;
 
 // Puts what triples show at the front of the text; its length.
+#[tactic(auto, using(crate::proofs::TellWays::triple_ways))]
 fn tell_triple(n: usize, prefixes: u32, closes: &[u32; SHEET_WORDS], text: &mut [u8]) -> usize
     requires { (n ≤ most_operators) × (length text.old ≡ most_explained) }
     ensures { Tells (of_triples (operators_by n prefixes) (closes_in closes.now)) text.new result }

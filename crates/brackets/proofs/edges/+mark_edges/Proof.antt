@@ -25,8 +25,8 @@ mark_edges_below t = and 3 mark_edges_kinds.ps (falls 3 mark_edges_kinds.ps ◌<
 
 ruleset ways = (infix_ways, mark_ways)
 
-pub +mark-edges-spec : {M : Type 1} → statement M
-+mark-edges-spec =
+pub +mark_edges_spec : {M : Type 1} → statement M
++mark_edges_spec =
     close μ_mark_edges λ t. mark_edges_lts.spec (top_at.Asked, top_at.Learnt, mark_edges_below t, mark_edges.Post, sees_edge_lem.Asked, sees_edge_lem.Learnt, seer_past_lem.Asked, seer_past_lem.Learnt) (mark_edges_at t) mark_edges.Post
     (λ c κs. search ways)
     (λ c. search ways)

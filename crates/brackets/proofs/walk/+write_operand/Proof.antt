@@ -28,8 +28,8 @@ write_operand_below t = and 4 write_operand_kinds.ps (falls 4 write_operand_kind
 ruleset ways = (bracket_ways, node_ways, infix_ways, rules)
 
 -- Where the tree that stands at the place is named, the search is too long without it.
-pub +write-operand-spec : {M : Type 1} → statement M
-+write-operand-spec =
+pub +write_operand_spec : {M : Type 1} → statement M
++write_operand_spec =
     close μ_write_operand λ t. write_operand_lts.spec (write_operand_below t, write_operand.Post, top_at.Asked, top_at.Learnt, shows.Asked, shows.Learnt, leaf_at.Asked, leaf_at.Learnt, set_two.Asked, set_two.Learnt) (write_operand_at t) write_operand.Post
     (λ c. search ways)
     (λ c. search ways)
@@ -70,12 +70,12 @@ pub +write-operand-spec : {M : Type 1} → statement M
     (λ c. search ways)
     (λ c κs. (search ways, search ways))
     (λ c. search ways)
-    (λ c κs. (search ways, search (leaf_stands _ _ _ _ _ _ _ c.before.before.before.before.before.before.before.before.before.before.before.before.before.before.before.requires.1, rules)))
+    (λ c κs. (search ways, search (leaf_stands _ _ _ _ _ _ _ c.before.before.before.before.before.before.before.before.before.before.before.before.before.requires.1, rules)))
     (λ c. search ways)
     (λ c. search ways)
     (λ c. search ways)
-    (λ c κs. (search ways, search (left_stands _ _ _ _ _ _ _ c.before.before.before.before.before.before.before.before.before.before.before.before.before.before.requires.1, rules)))
+    (λ c κs. (search ways, search (left_stands _ _ _ _ _ _ _ c.before.before.before.before.before.before.before.before.before.before.before.before.requires.1, rules)))
     (λ c. search ways)
     (λ c. search ways)
-    (λ c κs. (search ways, search (right_stands _ _ _ _ _ _ _ c.before.before.before.before.before.before.before.before.before.before.before.before.before.before.before.before.requires.1, rules)))
+    (λ c κs. (search ways, search (right_stands _ _ _ _ _ _ _ c.before.before.before.before.before.before.before.before.before.before.before.before.before.before.requires.1, rules)))
     (λ c. search ways)

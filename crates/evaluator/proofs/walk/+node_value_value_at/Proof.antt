@@ -34,8 +34,8 @@ abbrev value_at_below : ℕ → In 7 value_at_kinds.ps
 value_at_below t = and 7 value_at_kinds.ps (falls 7 value_at_kinds.ps ◌<◌ μ_value_at t) value_at.Pre
 
 -- Where the tree that stands at the place is named, the search is too long without it.
-pub +node-value-value-at-spec : {M : Type 1} → statement M
-+node-value-value-at-spec =
+pub +node_value_value_at_spec : {M : Type 1} → statement M
++node_value_value_at_spec =
     close μ_node_value μ_value_at
     (λ t. node_value_lts.spec (value_at_below t, value_at.Post, apply_prefix.Asked, apply_prefix.Learnt, apply.Asked, apply.Learnt) (node_value_at t) node_value.Post
     (λ c. search walk_ways)

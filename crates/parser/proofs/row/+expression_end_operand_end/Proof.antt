@@ -49,8 +49,8 @@ abbrev operand_end_below : ℕ → In 3 operand_end_kinds.ps
 operand_end_below t =
     and 3 operand_end_kinds.ps (falls 3 operand_end_kinds.ps ◌<◌ μ_operand_end t) operand_end.Pre
 
-pub +expression-end-operand-end-spec : {M : Type 1} → statement M
-+expression-end-operand-end-spec =
+pub +expression_end_operand_end_spec : {M : Type 1} → statement M
++expression_end_operand_end_spec =
     close μ_expression_end μ_operand_end (λ t. expression_end_lts.spec (
       pairs_end_reads.Asked,
       pairs_end_reads.Learnt,

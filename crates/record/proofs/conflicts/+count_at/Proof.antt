@@ -23,8 +23,8 @@ count_at_at t = and 2 count_at_kinds.ps (is 2 count_at_kinds.ps μ_count_at t) c
 abbrev count_at_below : ℕ → In 2 count_at_kinds.ps
 count_at_below t = and 2 count_at_kinds.ps (falls 2 count_at_kinds.ps ◌<◌ μ_count_at t) count_at.Pre
 
-pub +count-at-spec : {M : Type 1} → statement M
-+count-at-spec =
+pub +count_at_spec : {M : Type 1} → statement M
++count_at_spec =
     close μ_count_at λ t. count_at_lts.spec (
       Node_in.Asked,
       Node_in.Learnt,

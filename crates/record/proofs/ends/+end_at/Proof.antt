@@ -21,8 +21,8 @@ end_at_at t = and 2 end_at_kinds.ps (is 2 end_at_kinds.ps μ_end_at t) end_at.Pr
 abbrev end_at_below : ℕ → In 2 end_at_kinds.ps
 end_at_below t = and 2 end_at_kinds.ps (falls 2 end_at_kinds.ps ◌<◌ μ_end_at t) end_at.Pre
 
-pub +end-at-spec : {M : Type 1} → statement M
-+end-at-spec =
+pub +end_at_spec : {M : Type 1} → statement M
++end_at_spec =
     close μ_end_at λ t. end_at_lts.spec (Node_in.Asked, Node_in.Learnt, end_at_below t, end_at.Post) (end_at_at t) end_at.Post
     (λ c. search end_at_ways)
     (λ c κs. omega arith)

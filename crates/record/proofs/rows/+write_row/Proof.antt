@@ -22,8 +22,8 @@ write_row_at t = and 3 write_row_kinds.ps (is 3 write_row_kinds.ps μ_write_row 
 abbrev write_row_below : ℕ → In 3 write_row_kinds.ps
 write_row_below t = and 3 write_row_kinds.ps (falls 3 write_row_kinds.ps ◌<◌ μ_write_row t) write_row.Pre
 
-pub +write-row-spec : {M : Type 1} → statement M
-+write-row-spec =
+pub +write_row_spec : {M : Type 1} → statement M
++write_row_spec =
     close μ_write_row λ t. write_row_lts.spec (Node_in.Asked, Node_in.Learnt, write_row_below t, write_row.Post, set_two.Asked, set_two.Learnt) (write_row_at t) write_row.Post
     (λ c. search write_row_ways)
     (λ c κs. omega arith)

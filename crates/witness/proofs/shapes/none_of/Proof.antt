@@ -1,7 +1,7 @@
 -- `witness::shapes::none_of` meets its contract. Assumes nothing.
 use Rattle.witness.proofs.ShapeWays.{told_ways}
-use Rattle.witness.proofs.shapes.none_of_lem.Statement.{statement}
-use Rattle.witness.proofs.shapes.none_of_lem.Tie as tie
+use Rattle.witness.proofs.shapes.none_of.Statement.{statement}
+use Rattle.witness.proofs.shapes.none_of.Tie as tie
 
 pub none_of_spec : {M : Type 1} → statement M
 none_of_spec =
