@@ -1,4 +1,3 @@
 pub mod Refusals
 pub mod WrittenWays
 pub mod Bytes
-pub mod Lent

@@ -12,7 +12,7 @@ mod written;
 
 // A rule: its kind, and the operators that it names first and second.
 #[repr(C)]
-#[derive(Drop)]
+#[derive(Clone, Copy)]
 pub struct Rule {
     pub kind: u8,
     pub first: u8,
