@@ -3,7 +3,7 @@ ghost use Rattle.std.specs.Prelude.{◌≡◌, ◌≤◌, length, take, drop};
 ghost use Rattle.panel.specs.CallContracts.{most_kept, buffer_bytes, Keeps, Fetches};
 
 use crate::limits::{BLOCK, MOST_KEPT};
-use libc::STDIN_FILENO;
+use std::io::{Read, Stdin};
 
 // A read: where what it gave ends, and whether it failed.
 #[derive(Drop)]
@@ -26,15 +26,20 @@ pub fn keep_rest(buf: &mut [u8], rest: usize, to: usize) -> usize
 }
 
 // One read, behind the unfinished line. At the end of the input what is read ends where it began.
-pub fn read_block(buf: &mut [u8], kept: usize) -> Fetched
+#[tactic(auto, using(crate::proofs::TurnWays::fetch_ways))]
+pub fn read_block(mut stdin: Stdin, buf: &mut [u8], kept: usize) -> Fetched
     requires { (kept ≤ most_kept) × (length buf.old ≡ buffer_bytes) }
     ensures { Fetches buf.old kept buf.new result.to }
 {
     let to = kept + BLOCK;
-    let got = libc::read(STDIN_FILENO, &mut buf[kept..to]);
-    let end = kept + io::count(got, &buf[kept..to]);
-    Fetched {
-        to: end,
-        failed: got < 0,
+    match stdin.read(&mut buf[kept..to]) {
+        Ok(count) => Fetched {
+            to: kept + count,
+            failed: false,
+        },
+        Err(_) => Fetched {
+            to: kept,
+            failed: true,
+        },
     }
 }

@@ -3,8 +3,8 @@ ghost use Rattle.std.specs.Prelude.{◌≡◌, ◌+◌, ◌≤◌, length};
 ghost use Rattle.places.specs.Memory.{memory, panel_in};
 ghost use Rattle.panel.specs.CallContracts.{block, most_reply_line, Puts, AnswersLines};
 
-use expression::bytes;
 use crate::limits::MOST_FILLED;
+use expression::bytes;
 use frame::limits::MOST_REPLY;
 use line_io::LINE_FEED;
 use places::limits::STORE_BYTES;

@@ -1,5 +1,6 @@
 // Drives one panel from lines of hexadecimal: reads them from standard input and writes the reply to each to standard output.
 #![tactic(auto)]
+
 ghost use Rattle.std.specs.Prelude.{◌≡◌, false, ◌≤◌, length, take, drop};
 ghost use Rattle.places.specs.Memory.{memory, panel_in};
 ghost use Rattle.panel.specs.CallContracts.{block, buffer_bytes, Finishes, AnswersRead, Hands};
@@ -7,10 +8,10 @@ ghost use Rattle.panel.specs.Runs.{is_full, Steps, Turns, Runs};
 
 use frame::limits::MOST_REPLY;
 use input::Fetched;
-use libc::STDOUT_FILENO;
 use limits::{BLOCK, BUFFER_BYTES, MOST_FILLED};
 use places::limits::STORE_BYTES;
 use sheet::layout::SHEET_WORDS;
+use std::io::{Print, Stdin, Stdout};
 
 mod input;
 mod limits;
@@ -100,6 +101,7 @@ fn answer_read(
 
 // One read behind what is kept of the bytes that are not answered, and the replies to the lines that it completes.
 fn take_read(
+    stdin: Stdin,
     sheet: &mut [u32; SHEET_WORDS],
     staged: &mut [u32; SHEET_WORDS],
     places: &mut [u8; STORE_BYTES],
@@ -116,12 +118,13 @@ fn take_read(
         (panel_in (memory sheet.new staged.new places.new)) }
 {
     let kept = input::keep_rest(buf, rest, to);
-    let read = input::read_block(buf, kept);
+    let read = input::read_block(stdin, buf, kept);
     answer_read(sheet, staged, places, buf, out, kept, read)
 }
 
 // The replies that are to be written next: where the output was full, to lines that are left in the buffer; else a read is made.
 fn step(
+    stdin: Stdin,
     sheet: &mut [u32; SHEET_WORDS],
     staged: &mut [u32; SHEET_WORDS],
     places: &mut [u8; STORE_BYTES],
@@ -148,14 +151,15 @@ fn step(
             go: true,
         };
     }
-    take_read(sheet, staged, places, buf, out, rest, to)
+    take_read(stdin, sheet, staged, places, buf, out, rest, to)
 }
 
 // Hands bytes to the write call. What that call does with them is in no contract.
-fn write_out(bytes: &[u8]) -> Written
+#[tactic(auto, using(crate::proofs::TurnWays::write_ways))]
+fn write_out(stdout: Stdout, bytes: &[u8]) -> Written
     ensures { Hands bytes.now result.count }
 {
-    let ok = io::write_all(STDOUT_FILENO, bytes);
+    let ok = stdout.write_all(bytes).is_ok();
     Written {
         count: bytes.len(),
         ok: ok,
@@ -164,6 +168,8 @@ fn write_out(bytes: &[u8]) -> Written
 
 // One filling of the output, written out.
 fn turn(
+    stdin: Stdin,
+    stdout: Stdout,
     sheet: &mut [u32; SHEET_WORDS],
     staged: &mut [u32; SHEET_WORDS],
     places: &mut [u8; STORE_BYTES],
@@ -179,9 +185,9 @@ fn turn(
         buf.new out.new result.rest result.to result.filled result.go
         (panel_in (memory sheet.new staged.new places.new)) }
 {
-    let next = step(sheet, staged, places, buf, out, s);
+    let next = step(stdin, sheet, staged, places, buf, out, s);
     let filled = next.filled;
-    let w = write_out(&out[0..filled]);
+    let w = write_out(stdout, &out[0..filled]);
     State {
         rest: next.rest,
         to: next.to,
@@ -191,7 +197,10 @@ fn turn(
 }
 
 // Turns are made until the input ends. A proved loop has to end, and nothing says that the input does, so the turns are counted down.
+#[tactic(auto, using(crate::proofs::RunWays::run_ways))]
 fn run(
+    stdin: Stdin,
+    stdout: Stdout,
     sheet: &mut [u32; SHEET_WORDS],
     staged: &mut [u32; SHEET_WORDS],
     places: &mut [u8; STORE_BYTES],
@@ -212,17 +221,25 @@ fn run(
         go: true,
     };
     while 0 < turns && s.go {
-        s = turn(sheet, staged, places, buf, out, s);
+        s = turn(stdin, stdout, sheet, staged, places, buf, out, s);
         turns -= 1;
     }
     s
 }
 
-fn main() {
+fn main(rt: HostRuntime) {
     let mut sheet = [0u32; SHEET_WORDS];
     let mut staged = [0u32; SHEET_WORDS];
     let mut places = [0u8; STORE_BYTES];
     let mut buf = [0u8; BUFFER_BYTES];
     let mut out = [0u8; BLOCK];
-    run(&mut sheet, &mut staged, &mut places, &mut buf, &mut out);
+    run(
+        rt.stdin(),
+        rt.stdout(),
+        &mut sheet,
+        &mut staged,
+        &mut places,
+        &mut buf,
+        &mut out,
+    );
 }
