@@ -1,5 +1,6 @@
 // Which brackets a row needs: the shortest row that means the same as a record's row.
 #![tactic(auto)]
+
 ghost use Rattle.brackets.specs.Shortest.{AnswersShortest};
 
 use expression::{bytes, limits, refusal, token};

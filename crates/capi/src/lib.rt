@@ -1,5 +1,6 @@
 // The calls for C and Rust, under names of their own. They take numbers and addresses alone: a list is an address and a length.
 #![tactic(auto)]
+
 ghost use Rattle.std.specs.Prelude.{◌≡◌};
 ghost use Rattle.disambiguation.specs.SheetChecks.{rules_of};
 ghost use Rattle.sheet.specs.Layout.{operators_of};

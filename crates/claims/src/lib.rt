@@ -1,6 +1,7 @@
 // A row and the record that a tool claims for it: whether the record is that of the row's conflict-free tree. Nothing is built. The record
 // is read, its row is compared with the one that came with it, and its conflicts are counted.
 #![tactic(auto)]
+
 ghost use Rattle.std.specs.Prelude.{◌≡◌};
 ghost use Rattle.expression.specs.Refusal.{first};
 ghost use Rattle.claims.specs.Claims.{same_bytes, claim_checks, beside_number_in, claim_number_in};

@@ -1,7 +1,7 @@
 -- Going through the rules decides whether priority leads from one operator to another; so the patterns are those that chains give. Assumes nothing.
 use Prim.Native.Nat.{ℕ}
 use mathlib.Core.Path.{◌≡◌, refl, sym, subst}
-use mathlib.Core.Bool.{true, false, ◌&&◌, ◌||◌, or-true, false≢true}
+use mathlib.Core.Bool.{true, ◌&&◌, ◌||◌, or-true, false≢true}
 use mathlib.Core.Logic.{◌↔◌, ◌⊎◌, inl, inr}
 use mathlib.Core.List.{List, [], ◌∷◌}
 use borrow.Author.Tests.{eqb-true, eq-eqb}

@@ -1,6 +1,5 @@
 -- Small sheets and the witness of each, in bytes. Assumes nothing.
 use Rattle.std.specs.Prelude.{ℕ, ◌≡◌, List, [], ◌∷◌}
-use Rattle.expression.specs.Lists.{All}
 use Rattle.expression.specs.Token.{infix_kind, prefix_kind}
 use Rattle.disambiguation.specs.Rules.{left, right}
 use Rattle.disambiguation.specs.Cases.{Sheet, infixes, ops, rules, undecided, excluded, empty, falling, round}

@@ -26,7 +26,7 @@ use Rattle.run.specs.Places.{place_count, held}
 use Rattle.run.specs.Panel.{place_check, empty_check}
 use Rattle.run.proofs.Replies.{front_accepted}
 use Rattle.run.proofs.Places.{empty_true, empty_false}
-use Rattle.evaluator.specs.Value.{lacks_meaning, lacks_reading, value, tree_checks}
+use Rattle.evaluator.specs.Value.{lacks_meaning, lacks_reading, tree_checks}
 use Rattle.evaluator.specs.Bytes.{any_meaningless, any_beyond}
 use Rattle.evaluator.specs.Walk.{Evaluable, IsValue}
 use Rattle.evaluator.specs.Evaluation.{EvaluatesOn, evaluated, checks_in, value_in, record_and_tree, number_of, evaluation_of_record, evaluation}

@@ -1,6 +1,7 @@
 // Conditions worked out: the value of the tree that a place of the panel holds, from lent meanings of its operators and lent readings.
 // A library above the panel's: nothing of the panel rests on it.
 #![tactic(auto)]
+
 ghost use Rattle.std.specs.Prelude.{◌≡◌, pos};
 ghost use Rattle.sheet.specs.Layout.{operators_of};
 ghost use Rattle.places.specs.Store.{records_in};

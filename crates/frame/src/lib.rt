@@ -1,5 +1,6 @@
 // Lines of hexadecimal: one frame a line, and the reply to it. No answer is longer than an image, so a line never meets 10.
 #![tactic(auto)]
+
 ghost use Rattle.std.specs.Prelude.{◌*◌, ◌≤◌, ◌≡◌, [], length};
 ghost use Rattle.places.specs.Memory.{memory};
 ghost use Rattle.frame.specs.Frames.{most_answer};

@@ -1,5 +1,6 @@
 // Bytes as text: pairs of hexadecimal digits, either letter case read, lower case written.
 #![tactic(auto)]
+
 ghost use Rattle.std.specs.Prelude.{◌≡◌};
 ghost use Rattle.hexadecimal.specs.Text.{Decodes, Encodes};
 

@@ -1,5 +1,6 @@
 // Lines in a buffer: where one ends, and the unfinished one moved to the front.
 #![tactic(auto)]
+
 ghost use Rattle.std.specs.Prelude.{◌≡◌, ◌+◌, ◌≤◌, length};
 ghost use Rattle.line_io.specs.Lines.{Ends, Tests, Skips};
 ghost use Rattle.line_io.specs.Moves.{moved_to_front};

@@ -1,5 +1,6 @@
 // The meanings of operators, by their numbers (docs/REFERENCE.md, section 7). Zero is false, all else is true; a truth answer is 0 or 1.
 #![tactic(auto)]
+
 ghost use Rattle.std.specs.Prelude.{◌≡◌};
 ghost use Rattle.meanings.specs.Meanings.{is_true, truth, Or, And, Less, AtMost, Equal, Smaller, Larger, Not, Minus, applied, applied_to, meant, prefix_meant, worked, worked_on, is_missing};
 

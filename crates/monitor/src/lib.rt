@@ -1,11 +1,12 @@
 // The panel's calls: the sheet in force, the staged one and the sixteen places are lent. After a refusal the panel and a lent output are as they were.
 #![tactic(auto)]
+
 ghost use Rattle.run.specs.Call.{stage, switch, put_row, put_record, put_claim, fetch_record, fetch_row, image, build, repair, yield, shortest_row};
 ghost use Rattle.places.specs.Memory.{memory};
 ghost use Rattle.monitor.specs.CallContracts.{Changes, Stages, Puts, Drops, AnswersOn, AnswersUnder, AnswersFrom, Judges, NumbersOperand, FindsOperand, PlacesOperand};
 
 use expression::limits::MOST_RECORD_BYTES;
-use expression::{refusal, bytes};
+use expression::{bytes, refusal};
 use places::limits;
 use places::limits::STORE_BYTES;
 use record::operands::Part;

@@ -7,7 +7,7 @@ use native.Mathlib.Omega.{arith}
 use borrow.Author.Rules.{rules}
 use borrow.Rule.Slice.PartMut.{mid_of, post_of, put_mid, mid_len}
 use lib.ListN.{length, take, drop, set, length-append, length-drop}
-use lib.Seq.{take-suc-set, take_at, take_all, length-take-le}
+use lib.Seq.{take-suc-set, take_at, length-take-le}
 use Rattle.run.specs.Panel.{Panel}
 use Rattle.places.specs.Memory.{memory, panel_in}
 use Rattle.hexadecimal.specs.Text.{with_front}

@@ -16,7 +16,7 @@ use Rattle.expression.specs.Checks.{record_bytes}
 use Rattle.disambiguation.specs.LeftToRight.{bottom, State, due, have, stuck, finish, run, state_after, parse, made}
 use Rattle.disambiguation.proofs.LeftToRight.{run_append}
 use Rattle.parser.specs.Build.{record_in, built}
-use Rattle.parser.specs.Notes.{notes_of, notes_at, laid_out, Inside}
+use Rattle.parser.specs.Notes.{notes_of, laid_out, Inside}
 use Rattle.parser.specs.Reading.{next, Goes, Noted, Takeable, Takes, Buildable, Beginning, Reads}
 use Rattle.parser.specs.declared.build.Front.{Front}
 use Rattle.parser.proofs.Shares.{share_small}

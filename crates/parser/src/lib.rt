@@ -1,5 +1,6 @@
 // Rows into trees: the checks of a row, building it into the record of its tree, and repairing a record.
 #![tactic(auto)]
+
 ghost use Rattle.std.specs.Prelude.{◌≡◌, ℕ, ◌≤◌, length};
 ghost use Rattle.expression.specs.Limits.{most_tokens};
 ghost use Rattle.expression.specs.Checks.{row_number};

@@ -1,5 +1,6 @@
 // Sixteen places in one lent store, each empty or holding one record. The layout of the store is known here alone; callers see the list of its records.
 #![tactic(auto)]
+
 ghost use Rattle.std.specs.Prelude.{◌≡◌, []};
 ghost use Rattle.run.specs.Image.{image_of};
 ghost use Rattle.run.specs.Places.{held};

@@ -5,7 +5,7 @@ use native.Mathlib.Omega.{arith}
 use mathlib.Core.Path.{◌≡◌, refl, ap, ◌∙◌}
 use mathlib.Core.List.{List, ◌++◌}
 use lib.ListN.{length, take, drop, length-take}
-use lib.Seq.{take_all, take_at}
+use lib.Seq.{take_at}
 use Rattle.expression.specs.Limits.{most_record_bytes}
 use Rattle.expression.specs.Token.{Operators}
 use Rattle.record.specs.Front.{front}

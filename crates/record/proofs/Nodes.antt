@@ -14,7 +14,7 @@ use mir.Val.{Fits}
 use types.Run.{OneOf}
 use denote.Enum.Declared.{tag_of}
 use Rattle.expression.specs.Limits.{most_operators}
-use Rattle.expression.specs.Token.{Infix, Prefix, Reading, opening, first_reading, Operators, class}
+use Rattle.expression.specs.Token.{Infix, Prefix, opening, first_reading, Operators, class}
 use Rattle.expression.proofs.Classes.{by_class, class_reading, brackets}
 use Rattle.sheet.specs.Layout.{operators_of, prefix_in}
 use Rattle.sheet.proofs.Laws.{class_in}

@@ -1,5 +1,6 @@
 // Trees in records: read node by node, checked, yielded, judged; and the record of an operand.
 #![tactic(auto)]
+
 ghost use Rattle.std.specs.Prelude.{◌≡◌};
 ghost use Rattle.expression.specs.Checks.{record_number};
 ghost use Rattle.expression.specs.Operand.{operand_part};

@@ -5,7 +5,7 @@ ghost use Rattle.record.specs.Operands.{OperandAt};
 
 use crate::walks::{BASE, NO_TREE, node_in};
 use crate::{Node, checks, ends};
-use expression::{limits, bytes};
+use expression::{bytes, limits};
 use sheet::layout::SHEET_WORDS;
 
 // A part of a record, from a place up to another.

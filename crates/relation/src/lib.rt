@@ -1,5 +1,6 @@
 // The relations that a sheet's rules give, in words of bits: rules in bytes, what closes before what, what yields to what, and the tests of the verdict.
 #![tactic(auto)]
+
 ghost use Rattle.std.specs.Prelude.{◌≡◌, ◌≤◌};
 ghost use Rattle.expression.specs.Limits.{most_operators};
 ghost use Rattle.relation.specs.Relation.{fresh};

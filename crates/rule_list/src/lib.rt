@@ -1,5 +1,6 @@
 // The staging of a sheet whose kinds and rules come as two lent lists. Only `tihvomen_stage_rules` walks the list of rules; all else has plain parameters.
 #![tactic(auto)]
+
 ghost use Rattle.run.specs.Call.{stage_list};
 ghost use Rattle.monitor.specs.CallContracts.{Stages};
 ghost use Rattle.rule_list.specs.Records.{rules_in};

@@ -7,7 +7,7 @@ use borrow.Author.Rules.{rules}
 use borrow.Author.Tests.{lt-ltb, le-ltb, eq-eqb, ne_eqb}
 use borrow.Rule.Slice.PartMut.{mid_of, post_of, put_mid, mid_len, Post-is}
 use lib.ListN.{length, take, drop, drop_of_length-le}
-use lib.Seq.{take-length, take-append-add, drop_at, length-take-le}
+use lib.Seq.{take-append-add, drop_at, length-take-le}
 use Rattle.expression.specs.Limits.{most_operators}
 use Rattle.sheet.specs.Lists.{kinds_number, buffer_bytes, PutsKinds}
 

@@ -7,10 +7,9 @@ use native.Mathlib.Omega.{arith}
 use borrow.Author.Rules.{rules}
 use borrow.Author.Tests.{ne_eqb}
 use lib.ListN.{length, take, drop}
-use lib.Seq.{take_all}
 use Rattle.expression.specs.Limits.{most_operators}
 use Rattle.expression.specs.Checks.{short_check}
-use Rattle.expression.specs.Refusal.{first, accepted, short}
+use Rattle.expression.specs.Refusal.{accepted, short}
 use Rattle.expression.proofs.Numbers.{first_refused, first_short, first_roomy}
 use Rattle.disambiguation.specs.Rules.{L, R}
 use Rattle.disambiguation.specs.SheetChecks.{rules_in, operators_in, order_checks}

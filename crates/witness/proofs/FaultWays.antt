@@ -16,7 +16,7 @@ use Rattle.expression.specs.Limits.{most_operators}
 use Rattle.disambiguation.specs.Below.{first_below, some_below}
 use Rattle.disambiguation.specs.Verdict.{comes, comers}
 use Rattle.disambiguation.specs.Witness.{first_left, first_right, first_third, uneven, uneven_pair}
-use Rattle.disambiguation.proofs.FirstBelow.{IsFirst, first_is, first_only, first_same}
+use Rattle.disambiguation.proofs.FirstBelow.{first_only, first_same}
 use Rattle.relation.specs.Relation.{bit_of, closes_in, turned}
 use Rattle.relation.specs.Words.{operators_by, without, SetOf}
 use Rattle.relation.proofs.Bits.{bit_and_lem, bit_or_lem, bit_not}

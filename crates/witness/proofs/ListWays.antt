@@ -10,7 +10,7 @@ use borrow.Author.Tests.{lt-ltb, ne_eqb}
 use borrow.Rule.Slice.PartMut.{mid_of, post_of, put_mid}
 use lib.Dec.{ltb}
 use lib.ListN.{length, take, drop}
-use lib.Seq.{take-length, take-append_seam, drop_at, length-take-le}
+use lib.Seq.{take-append_seam, drop_at, length-take-le}
 use Rattle.expression.specs.Checks.{short_check}
 use Rattle.expression.specs.Limits.{most_operators, most_rules, most_rule_bytes, bytes_of_rule}
 use Rattle.expression.specs.Refusal.{Check, accepted, oversize}

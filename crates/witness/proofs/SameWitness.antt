@@ -1,13 +1,12 @@
 -- The witness depends on the relations below n alone. Assumes nothing.
-use mathlib.Core.Path.{◌≡◌, refl, sym, ap, ap₂, ◌∙◌}
+use mathlib.Core.Path.{◌≡◌, refl, ap, ap₂, ◌∙◌}
 use mathlib.Core.Bool.{Bool, true, false, not, ◌&&◌, ◌||◌, cond}
 use Prim.Native.Nat.{ℕ, ◌<◌}
-use native.Mathlib.Omega.{arith}
 use borrow.Author.Tests.{ltb-true}
 use lib.Dec.{ltb}
 use Rattle.expression.specs.Token.{Operators}
-use Rattle.disambiguation.specs.Below.{first_below, some_below}
-use Rattle.disambiguation.specs.Verdict.{comes, comers}
+use Rattle.disambiguation.specs.Below.{some_below}
+use Rattle.disambiguation.specs.Verdict.{comes}
 use Rattle.disambiguation.specs.Witness.{Witness, sound, first_left, first_right, first_third, shown_by, none_of, two_of, two_of_three, uneven, uneven_pair, two_of_uneven, of_triples, both_exclude, none_excludes, witness}
 use Rattle.disambiguation.proofs.FirstBelow.{first_same, first_below_lem, first_holds}
 

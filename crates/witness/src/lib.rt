@@ -1,5 +1,6 @@
 // Why a sheet is refused: the first row, of two operators or of three, that has no conflict-free tree, or two, and then both trees.
 #![tactic(auto)]
+
 ghost use Rattle.std.specs.Prelude.{◌≡◌, ◌≤◌, length};
 ghost use Rattle.expression.specs.Limits.{most_operators};
 ghost use Rattle.disambiguation.specs.Witness.{of_triples, witness};
@@ -8,7 +9,7 @@ ghost use Rattle.relation.specs.Words.{operators_by};
 ghost use Rattle.witness.specs.Shapes.{Tells};
 ghost use Rattle.witness.specs.Explaining.{most_explained, Explains};
 
-use expression::{refusal, bytes};
+use expression::{bytes, refusal};
 use limits::MOST_EXPLAINED;
 use record::Answer;
 use relation::words;
