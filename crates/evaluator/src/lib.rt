@@ -89,17 +89,3 @@ pub fn evaluate(
     }
     evaluate_record(sheet, bytes, meanings, readings)
 }
-
-// The same for C and Rust.
-#[unsafe(no_mangle)]
-pub extern "C" fn tihvomen_evaluate(
-    sheet: &[u32; SHEET_WORDS],
-    places: &[u8; STORE_BYTES],
-    place: u32,
-    meanings: &[u8],
-    readings: &[i32],
-) -> Evaluation
-    ensures { EvaluatesOn meanings.now readings.now sheet.now (records_in places.now) place result }
-{
-    evaluate(sheet, places, place, meanings, readings)
-}

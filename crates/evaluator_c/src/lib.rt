@@ -1,0 +1,22 @@
+// The evaluation for C and Rust. It takes numbers and addresses alone: a list is an address and a length.
+#![tactic(auto)]
+
+ghost use Rattle.places.specs.Store.{records_in};
+ghost use Rattle.evaluator.specs.Evaluation.{EvaluatesOn};
+
+use evaluator::Evaluation;
+use places::limits::STORE_BYTES;
+use sheet::layout::SHEET_WORDS;
+
+#[unsafe(no_mangle)]
+pub extern "C" fn tihvomen_evaluate(
+    sheet: &[u32; SHEET_WORDS],
+    places: &[u8; STORE_BYTES],
+    place: u32,
+    meanings: &[u8],
+    readings: &[i32],
+) -> Evaluation
+    ensures { EvaluatesOn meanings.now readings.now sheet.now (records_in places.now) place result }
+{
+    evaluator::evaluate(sheet, places, place, meanings, readings)
+}
