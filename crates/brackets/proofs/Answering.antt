@@ -62,7 +62,7 @@ module _ (sheet bytes out zeros : List ℕ) {whole : List ℕ} {y : Answer} (roo
 
     -- what is built of the record's row is a tree without a conflict
     made : (t : Tree) × BuiltTree (closes_in sheet) ops row t
-    made = built_tree (closes_in sheet) ops row known.is_row_lem
+    made = built_tree (closes_in sheet) ops row known.is_row
 
     abbrev tree : Tree
     tree = made.0

@@ -69,7 +69,7 @@ module _ (ops : Operators) (rules : List Rule) (one_tree_lem : (row : List ℕ) 
           tree = t;
           conflict_free = c;
           made = refl;
-          is_row_lem = (row_exactly_if_yielded ops (yield answer)).1 (answer, answer_free.over, refl);
+          is_row = (row_exactly_if_yielded ops (yield answer)).1 (answer, answer_free.over, refl);
           means_same = (t, answer, c, answer_free, sym (bare_enclosed (L rules) (R rules) t));
           none_spare = λ before inner after e _ m. omega (arith, fewest_of_row (before ++ inner ++ after) m, ap length e, dropped_length before inner after);
           fewest = fewest_of_row;

@@ -30,7 +30,7 @@ module _ (ops : Operators) (rules : List Rule) where
     pub tree : Tree
     pub conflict_free : ConflictFreeTree ops rules row tree
     pub made : answer ≡ yield (enclosed (L rules) (R rules) tree)
-    pub is_row_lem : Row ops answer
+    pub is_row : Row ops answer
     pub means_same : MeanTheSame row answer
     pub none_spare : (before inner after : List ℕ) → answer ≡ before ++ opening ∷ inner ++ closing ∷ after → Row ops inner → MeanTheSame row (before ++ inner ++ after) → ⊥
     pub fewest : (other : List ℕ) → MeanTheSame row other → length answer ≤ length other

@@ -128,7 +128,7 @@ pub ruleset turn_ways = (turned, filled_inside, part_within, rules)
 -- ---- run
 pub runs_none : (line out : List ℕ) → Runs line out 0 0 true
 unfolding after_reads GoOn
-runs_none line out = record { reads = []; keeps = refl; writes = refl; in_turn_lem = tt; goes = λ _. refl; short = omega arith }
+runs_none line out = record { reads = []; keeps = refl; writes = refl; in_turn = tt; goes = λ _. refl; short = omega arith }
 
 pub runs_more : {line out line' out' : List ℕ} {kept filled kept' filled' : ℕ} {go go' : Bool} → Runs line out kept filled go → Turns (take kept line) line' out' kept' filled' go' → go ≡ true
     → Runs line' out' kept' filled' go'
@@ -139,7 +139,7 @@ runs_more {line} {kept = kept} a t e =
       reads = (t.failed, t.bytes) ∷ a.reads;
       keeps = t.keeps ∙ ap (λ k. (after_read t.failed k t.bytes).made.kept) same;
       writes = t.writes ∙ ap (λ k. (after_read t.failed k t.bytes).made.written) same;
-      in_turn_lem = (a.goes e, a.in_turn_lem);
+      in_turn = (a.goes e, a.in_turn);
       goes = λ g. ap (λ k. (after_read t.failed k t.bytes).goes) (sym same) ∙ t.goes g;
       short = t.short;
     }

@@ -62,6 +62,6 @@ pub record Runs (line out : List ℕ) (kept filled : ℕ) (go : Bool) : Type 0 w
   pub reads : List Read
   pub keeps : take kept line ≡ (after_reads reads).made.kept
   pub writes : take filled out ≡ (after_reads reads).made.written
-  pub in_turn_lem : GoOn reads
+  pub in_turn : GoOn reads
   pub goes : go ≡ true → (after_reads reads).goes ≡ true
   pub short : kept ≤ most_kept

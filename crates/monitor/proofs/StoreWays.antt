@@ -40,7 +40,7 @@ rebuilt_fits sheet bytes e =
     let ops = operators_of sheet in
     let a = accepted_record ops bytes e in
     let (_, r) = (record_accepted ops bytes).0 e in
-    omega (arith, built_length (closes_in sheet) ops (row_of (tree_of (class ops) bytes)) a.is_row_lem, a.same_length, r.bytes_fit)
+    omega (arith, built_length (closes_in sheet) ops (row_of (tree_of (class ops) bytes)) a.is_row, a.same_length, r.bytes_fit)
 
 claim_fits : (sheet row bytes : List ℕ) → claim_number_in sheet row bytes ≡ 0 → length bytes ≤ most_record_bytes
 unfolding claim_number_in record_number

@@ -22,7 +22,7 @@ unfolding panel_after left_after laid_last goes_after InTurn
 runs_none buf out p = record {
   made = record {
     turns = [];
-    in_turn_lem = tt;
+    in_turn = tt;
     laid = refl;
     left = refl;
     stands = refl;
@@ -54,7 +54,7 @@ module _ {p : Panel} {buf out : List ℕ} {rest to filled : ℕ} {go : Bool} {la
       record {
         made = record {
           turns = record { event = s.event; laid = laid; left = left; after = later' } ∷ a.turns;
-          in_turn_lem = (a.goes e, s.kind ∙ ap is_full n, rw same at s.takes, a.in_turn_lem);
+          in_turn = (a.goes e, s.kind ∙ ap is_full n, rw same at s.takes, a.in_turn);
           laid = refl;
           left = refl;
           stands = refl;

@@ -106,7 +106,7 @@ all_laid (t ∷ turns) = all_laid turns ++ t.laid
 -- the input is the read call's.)
 pub record Made (p : Panel) (buf out : List ℕ) (rest to handed : ℕ) (go : Bool) (later : Panel) : Type 0 where
   pub turns : List Turn
-  pub in_turn_lem : InTurn p turns
+  pub in_turn : InTurn p turns
   pub laid : take handed out ≡ laid_last turns
   pub left : drop rest (take to buf) ≡ left_after turns
   pub stands : later ≡ panel_after p turns

@@ -33,7 +33,7 @@ module _ (ops : Operators) (bytes : List ℕ) where
 
   -- What is known of an accepted record.
   pub record Accepted : Type 0 where
-    pub is_row_lem : Row ops row_here
+    pub is_row : Row ops row_here
     pub fits : length row_here ≤ most_tokens
     pub tokens : row_tokens (tree_of (class ops) bytes) ≡ length row_here
     pub same_length : record_bytes row_here ≡ length bytes
@@ -43,7 +43,7 @@ module _ (ops : Operators) (bytes : List ℕ) where
       let (t, r) = (record_accepted ops bytes).0 e in
       let q = read_as ops bytes t r.over r.recorded in
       record {
-        is_row_lem = (row_exactly_if_yielded ops row_here).1 (t, r.over, sym (ap row_of q));
+        is_row = (row_exactly_if_yielded ops row_here).1 (t, r.over, sym (ap row_of q));
         fits = rw (ap row_of q) r.tokens_fit;
         tokens = ap row_tokens q ∙ ap length (sym (ap row_of q));
         same_length = ap record_bytes (ap row_of q) ∙ sym (record_length (class ops) (brackets ops) t r.over) ∙ ap length r.recorded;
@@ -101,7 +101,7 @@ module _ (sheet bytes out row : List ℕ) {row' : List ℕ} {y : Answer} (room :
     repair_room h = length-take-le (length bytes - 0) out (omega arith) ∙ omega (arith, ap record_bytes laid, known.same_length)
 
     pub repair_buildable : Buildable (operators_of sheet) (closes_in sheet) (take (y.length - 0) row')
-    repair_buildable = rw laid (row_buildable (closes_in sheet) (operators_of sheet) (row_here (operators_of sheet) bytes) known.is_row_lem)
+    repair_buildable = rw laid (row_buildable (closes_in sheet) (operators_of sheet) (row_here (operators_of sheet) bytes) known.is_row)
 
     pub repair_part : y.length ≤ length row'
     repair_part = omega (arith, tokens_are, known.fits, room, ap length filled, length-append (row_here (operators_of sheet) bytes) (drop (length (row_here (operators_of sheet) bytes)) row))
@@ -111,7 +111,7 @@ module _ (sheet bytes out row : List ℕ) {row' : List ℕ} {y : Answer} (room :
     unfolding record_number repair_number
     repair_done h same =
         let long : length (built (operators_of sheet) (closes_in sheet) (row_here (operators_of sheet) bytes)) ≡ length bytes =
-        built_length (closes_in sheet) (operators_of sheet) (row_here (operators_of sheet) bytes) known.is_row_lem ∙ known.same_length in
+        built_length (closes_in sheet) (operators_of sheet) (row_here (operators_of sheet) bytes) known.is_row ∙ known.same_length in
         let ends : length bytes - 0 ≡ length (built (operators_of sheet) (closes_in sheet) (row_here (operators_of sheet) bytes)) = omega (arith, long) in
         record {
           numbered = sym (first_roomy (record_checks (operators_of sheet) bytes) (length bytes) (length out) (sym number_is ∙ zero) (record_numbered (operators_of sheet) bytes) h);

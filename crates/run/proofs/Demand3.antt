@@ -172,7 +172,7 @@ pub demand_3 : (cs : List Call) → Demand3 cs
 demand_3 cs =
     record {
       sheet = sheet_in_force cs;
-      one_tree_lem = exactly_one cs;
+      one_tree = exactly_one cs;
       filled = filled_exactly_if_put cs;
       held_tree = holds_last_put cs;
       book_sheet = book_in_force cs;

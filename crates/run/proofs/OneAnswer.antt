@@ -55,8 +55,8 @@ one_lent number Is one before m n x y f g = go (ℕ_discrete number accepted)
     go (no z) = ((f.refused z).0 ∙ sym (g.refused z).0, (f.refused z).1 ∙ sym (g.refused z).1)
 
 module _ (b : Book) (one : EveryRowHasExactlyOne b.operators b.rules) where
-  one_tree_lem : (row : List ℕ) → OfOne (ConflictFreeTree b.operators b.rules row)
-  one_tree_lem row t u ht hu =
+  one_tree : (row : List ℕ) → OfOne (ConflictFreeTree b.operators b.rules row)
+  one_tree row t u ht hu =
       let (v, hv, only) = one row ((row_exactly_if_yielded b.operators row).1 (t, ht.over, ht.yields)) in
       only t ht ∙ sym (only u hu)
 
@@ -69,12 +69,12 @@ module _ (b : Book) (one : EveryRowHasExactlyOne b.operators b.rules) where
 
   -- and off the conflict-free tree of a row
   one_built : (row : List ℕ) (f : Tree → List ℕ) → OfOne (λ x. (t : Tree) × ConflictFreeTree b.operators b.rules row t × (x ≡ f t))
-  one_built row f x y (t, ht, e) (u, hu, d) = e ∙ ap f (one_tree_lem row t u ht hu) ∙ sym d
+  one_built row f x y (t, ht, e) (u, hu, d) = e ∙ ap f (one_tree row t u ht hu) ∙ sym d
 
   -- and the shortest row
   one_shortest : (row : List ℕ) → OfOne (ShortestRow b.operators b.rules row)
   one_shortest row x y hx hy =
-      hx.made ∙ ap (λ t. tree.yield (enclosed (L b.rules) (R b.rules) t)) (one_tree_lem row hx.tree hy.tree hx.conflict_free hy.conflict_free) ∙ sym hy.made
+      hx.made ∙ ap (λ t. tree.yield (enclosed (L b.rules) (R b.rules) t)) (one_tree row hx.tree hy.tree hx.conflict_free hy.conflict_free) ∙ sym hy.made
 
   one_image : (k : ℕ) (slot : Option (List ℕ)) → OfOne (Image b k slot)
   one_image k none x y e d = e ∙ sym d
@@ -87,7 +87,7 @@ module _ (b : Book) (one : EveryRowHasExactlyOne b.operators b.rules) where
   one_answer (build row out) x y e d = one_built row record_of x y e d
   one_answer (repair bytes out) x y (t, u, r, h, e) (t', u', r', h', d) =
       let same = ap tree.yield (one_recorded bytes t t' r r') in
-      e ∙ ap record_of (one_tree_lem (tree.yield t) u u' h (subst (λ row. ConflictFreeTree b.operators b.rules row u') (sym same) h')) ∙ sym d
+      e ∙ ap record_of (one_tree (tree.yield t) u u' h (subst (λ row. ConflictFreeTree b.operators b.rules row u') (sym same) h')) ∙ sym d
   one_answer (judge bytes) x y e d = e ∙ sym d
   one_answer (yield bytes out) x y e d = one_read bytes tree.yield x y e d
   one_answer (operand right bytes) x y e d = e ∙ sym d

@@ -52,8 +52,8 @@ module _ (cs : List Call) where
   loaded : (s : Sheet) → last_staged cs ≡ some s → InForce (panel_after cs).staged s.operators s.rules
   loaded s e = (rw (book_note cs ∙ e) at (stands cs).on_stage).1
 
-  one_tree_lem : (s : Sheet) → last_staged cs ≡ some s → EveryRowHasExactlyOne s.operators s.rules
-  one_tree_lem s e = every_row_has_one (panel_after cs).staged s.operators s.rules (loaded s e)
+  one_tree : (s : Sheet) → last_staged cs ≡ some s → EveryRowHasExactlyOne s.operators s.rules
+  one_tree s e = every_row_has_one (panel_after cs).staged s.operators s.rules (loaded s e)
 
   unseen : (c d : Call) → IsStaging c → (d ≡ switch → ⊥) → answer (c ∷ cs) d ≡ answer cs d
   unfolding panel_after
@@ -103,4 +103,4 @@ module _ (cs : List Call) where
       go s f = (s, f, rw (z, f) refl, rw z refl)
 
 pub stage_then_switch : (cs : List Call) → StageThenSwitch cs
-stage_then_switch cs = record { book_note = book_note cs; staged = loaded cs; one_tree_lem = one_tree_lem cs; unseen = unseen cs; never_in_use = never_in_use cs; nothing = nothing cs; switched = switched cs }
+stage_then_switch cs = record { book_note = book_note cs; staged = loaded cs; one_tree = one_tree cs; unseen = unseen cs; never_in_use = never_in_use cs; nothing = nothing cs; switched = switched cs }

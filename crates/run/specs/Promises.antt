@@ -71,7 +71,7 @@ module _ (cs : List Call) where
     -- relation is that of its rules.
     pub sheet : InForce (panel_after cs).sheet ops rules
     -- Every row of any length over the operators of the sheet in force has exactly one conflict-free tree.
-    pub one_tree_lem : EveryRowHasExactlyOne ops rules
+    pub one_tree : EveryRowHasExactlyOne ops rules
     -- A place is filled exactly when a put there was accepted and no drop there was accepted since,
     pub filled : (k : ℕ) → Filled cs k ↔ ((row : List ℕ) × (last_put k cs ≡ some row))
     -- and it then holds that tree, for the row, or the record's row, of the last accepted put there.

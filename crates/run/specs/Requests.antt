@@ -75,7 +75,7 @@ module _ (cs : List Call) where
     pub book_note : (book_after cs).note ≡ last_staged cs
     pub staged : (s : Sheet) → last_staged cs ≡ some s → InForce (panel_after cs).staged s.operators s.rules
     -- It is known to be good before it is switched in: every row of any length over its operators has exactly one conflict-free tree under it.
-    pub one_tree_lem : (s : Sheet) → last_staged cs ≡ some s → EveryRowHasExactlyOne s.operators s.rules
+    pub one_tree : (s : Sheet) → last_staged cs ≡ some s → EveryRowHasExactlyOne s.operators s.rules
     -- A staging, accepted or refused, changes no answer of any other call but a switch, and never gives 11.
     pub unseen : (c d : Call) → IsStaging c → (d ≡ switch → ⊥) → answer (c ∷ cs) d ≡ answer cs d
     pub never_in_use : (c : Call) → IsStaging c → (answer cs c).number ≡ in_use → ⊥
@@ -129,7 +129,7 @@ module _ (cs : List Call) where
     -- by a row over the operators that has no conflict-free tree; or that it is 5, by a row and the different records of its two conflict-free trees.
     pub explained : (m : ℕ) (bytes out later : List ℕ) (r : Answer) → Explains m bytes out later r → InOrder m bytes
         → length (answer_of (operators_in m bytes) (rules_in m bytes)) ≤ length out → ExplainedBy (operators_in m bytes) (rules_in m bytes) out later r
-    pub explained_list_lem : (m : ℕ) (kinds : List ℕ) (given : List Rule) (out later : List ℕ) (r : Answer) → ExplainsList m kinds given out later r
+    pub explained_list : (m : ℕ) (kinds : List ℕ) (given : List Rule) (out later : List ℕ) (r : Answer) → ExplainsList m kinds given out later r
         → ListInOrder m kinds given → length (answer_of (operators m kinds) given) ≤ length out → ExplainedBy (operators m kinds) given out later r
     -- 22 bytes have room for every answer. 10 is given exactly where a sheet is in order and the output is shorter than its answer.
     pub most_bytes : (o : Operators) (given : List Rule) → length (answer_of o given) ≤ most_explained
