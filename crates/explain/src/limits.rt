@@ -1,4 +1,4 @@
-// The lengths of the program's buffers, as in the specification's `Contracts`.
+// The lengths of the program's buffers, as in the specification's `CallContracts`.
 use frame::limits;
 use witness::limits::MOST_EXPLAINED;
 

@@ -1,4 +1,4 @@
-// The lengths of frames, answers and lines, as in the specification's `Lines` and `Contracts`.
+// The lengths of frames, answers and lines, as in the specification's `Lines` and `CallContracts`.
 use expression::limits::{MOST_OPERATORS, MOST_RULE_BYTES};
 use places::limits::IMAGE_BYTES;
 

@@ -1,4 +1,4 @@
-// The lengths of the program's buffers, as in the specification's `Contracts`.
+// The lengths of the program's buffers, as in the specification's `CallContracts`.
 use frame::limits;
 
 // The bytes of a read, and of the replies that are collected before they are written out.
