@@ -2,7 +2,7 @@
  * The condition panel for C99 and C++: an operator sheet, a stage for the next one, and sixteen places for a tree each.
  *
  * To link: `bin/library PREFIX` installs headers and archive, then `cc page.c $(pkg-config --cflags --libs tihvomen)`.
- * Without PREFIX it makes target/lib/libtihvomen.a alone. The archive is for x86-64 (SSE2 and nothing later), ELF and the
+ * Without PREFIX it makes target/lib/libtihvomen.a. The archive is for x86-64 (SSE2 and nothing later), ELF and the
  * System V calling convention. Its code is position independent. From outside it wants memcpy and memset, nothing else.
  * The headers are fit for freestanding programs. panel_stack.h has the stack that each call takes.
  *
