@@ -21,9 +21,8 @@ pub struct Rule {
 }
 
 // The sheet of n operators, the kinds and the list's rules is staged, as in the staging of their bytes. Too many records are refused before
-// any is read. Exported as it stands, for C and Rust.
-#[unsafe(no_mangle)]
-pub extern "C" fn tihvomen_stage_rules(
+// any is read. The crate `rule_list_c` exports it for C and Rust.
+pub fn tihvomen_stage_rules(
     staged: &mut [u32; SHEET_WORDS],
     n: u32,
     kinds: &[u8],

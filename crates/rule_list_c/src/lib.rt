@@ -1,0 +1,21 @@
+// The staging of two lists for C and Rust. It takes numbers and addresses alone: a list is an address and a length.
+#![tactic(auto)]
+
+ghost use Rattle.run.specs.Call.{stage_list};
+ghost use Rattle.monitor.specs.CallContracts.{Stages};
+ghost use Rattle.rule_list.specs.Records.{rules_in};
+
+use rule_list::Rule;
+use sheet::layout::SHEET_WORDS;
+
+#[unsafe(no_mangle)]
+pub extern "C" fn tihvomen_stage_rules(
+    staged: &mut [u32; SHEET_WORDS],
+    n: u32,
+    kinds: &[u8],
+    rules: &[Rule],
+) -> u8
+    ensures { Stages staged.old (stage_list n kinds.now (rules_in rules.now)) result staged.new }
+{
+    rule_list::tihvomen_stage_rules(staged, n, kinds, rules)
+}
