@@ -1,6 +1,7 @@
 pub mod Lists
 pub mod Limits
 pub mod Refusal
+pub mod Outcome
 pub mod Lent
 pub mod Token
 pub mod Tree

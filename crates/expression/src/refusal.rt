@@ -1,4 +1,7 @@
-// The numbers of turned-down calls, docs/REFERENCE.md, section 4, as in the specification's `Refusal`.
+// Why a call is turned down: the numbers of docs/REFERENCE.md, section 4, as in the specification's `Refusal`.
+ghost use Rattle.std.specs.Prelude.{◌≡◌};
+ghost use Rattle.expression.specs.Outcome.{number_of, number_in};
+
 pub const ACCEPTED: u8 = 0;
 
 pub const OVERSIZE: u8 = 1;
@@ -34,3 +37,34 @@ pub const NOTHING_STAGED: u8 = 15;
 pub const OTHER_ROW: u8 = 16;
 
 pub const CONFLICT: u8 = 17;
+
+#[derive(Clone, Copy, Debug, PartialEq, Eq)]
+pub enum Refusal {
+    Oversize = 1,
+    Torn,
+    Stranger,
+    Dead,
+    Double,
+    NoRow,
+    NoTree,
+    Place,
+    Empty,
+    Short,
+    InUse,
+    Frame,
+    NoMeaning,
+    NoReading,
+    NothingStaged,
+    OtherRow,
+    Conflict,
+}
+
+// The number of an outcome: 0, or the refusal's.
+pub fn number<T>(outcome: &Result<T, Refusal>) -> u8
+    ensures { result ≡ number_in outcome.now }
+{
+    match outcome {
+        Ok(_) => ACCEPTED,
+        Err(refusal) => *refusal as u8,
+    }
+}

@@ -9,6 +9,7 @@ ghost use Rattle.sheet.specs.Kinds.{prefix_word, kind_changes};
 
 use crate::layout::SHEET_WORDS;
 use crate::{is_prefix, operator_count};
+use expression::bytes;
 use expression::limits::MOST_OPERATORS;
 use relation::words;
 
@@ -26,13 +27,7 @@ fn is_strange(kind: u8) -> bool
 pub fn any_strange(kinds: &[u8]) -> bool
     ensures { result ≡ any_holds strange_kind kinds.now }
 {
-    let mut strange = false;
-    let mut at = 0;
-    while at < kinds.len() {
-        strange = strange | is_strange(kinds[at]);
-        at += 1;
-    }
-    strange
+    bytes::any(kinds, is_strange)
 }
 
 // The set of the prefix operators.
