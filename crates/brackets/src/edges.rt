@@ -10,43 +10,43 @@ use expression::limits::MOST_RECORD_BYTES;
 use expression::token;
 use record::walks::{BASE, NO_TREE};
 use record::{Node, conflicts};
-use sheet::layout::SHEET_WORDS;
+use sheet::Sheet;
 
 // Some byte is a prefix operator. The loop has no branch, so that bytes can be tested side by side.
-fn any_prefix(sheet: &[u32; SHEET_WORDS], bytes: &[u8]) -> bool
+fn any_prefix(sheet: &Sheet, bytes: &[u8]) -> bool
     ensures { result ≡ any_holds (prefix_in sheet.now) bytes.now }
 {
     let mut found = false;
     let mut at = 0;
     while at < bytes.len() {
-        found = found | sheet::is_prefix(sheet, bytes[at]);
+        found = found | sheet.is_prefix(bytes[at]);
         at += 1;
     }
     found
 }
 
 // The same, with no look at the bytes under a sheet that has no prefix operator.
-pub fn has_prefix(sheet: &[u32; SHEET_WORDS], bytes: &[u8]) -> bool
+pub fn has_prefix(sheet: &Sheet, bytes: &[u8]) -> bool
     ensures { result ≡ any_holds (prefix_in sheet.now) bytes.now }
 {
-    if !sheet::some_prefix(sheet) {
+    if !sheet.some_prefix() {
         return false;
     }
     any_prefix(sheet, bytes)
 }
 
 // The node at a place.
-pub fn top_at(sheet: &[u32; SHEET_WORDS], whole: &[u8; MOST_RECORD_BYTES], at: usize) -> Node
+pub fn top_at(sheet: &Sheet, whole: &[u8; MOST_RECORD_BYTES], at: usize) -> Node
     ensures { result ≡ node_at (operators_of sheet.now) whole.now at }
 {
     record::node_at(sheet, &whole[..], at)
 }
 
 // Who sees the right edge of operator o's tree, which stands under the operator above: none where it is bracketed there.
-fn seer_past(sheet: &[u32; SHEET_WORDS], above: u8, o: u8, seer: u8) -> u8
+fn seer_past(sheet: &Sheet, above: u8, o: u8, seer: u8) -> u8
     ensures { result ≡ seer_past sheet.now above o seer }
 {
-    if sheet::closes_before(sheet, above, o) {
+    if sheet.closes_before(above, o) {
         return token::OPENING;
     }
     seer
@@ -56,7 +56,7 @@ fn seer_past(sheet: &[u32; SHEET_WORDS], above: u8, o: u8, seer: u8) -> u8
 // The answer is the place after the tree times the base, and 1 where the tree, as the right or only operand of the operator above,
 // shows the seer such a conflict, else 0. A byte that is no operator is given where there is none above, or no seer.
 pub fn mark_edges(
-    sheet: &[u32; SHEET_WORDS],
+    sheet: &Sheet,
     whole: &[u8; MOST_RECORD_BYTES],
     at: usize,
     above: u8,
@@ -93,7 +93,7 @@ pub fn mark_edges(
 // The marks of a record, which is the first `size` bytes. They are all 0 at first, and stay so, without a walk, where the record
 // has no prefix operator.
 pub fn mark_record(
-    sheet: &[u32; SHEET_WORDS],
+    sheet: &Sheet,
     whole: &[u8; MOST_RECORD_BYTES],
     size: usize,
     marks: &mut [u8; MOST_RECORD_BYTES],

@@ -6,13 +6,13 @@ ghost use Rattle.brackets.specs.Shortest.{AnswersShortest};
 use expression::{bytes, limits, refusal, token};
 use record::Answer;
 use record::walks::BASE;
-use sheet::layout::SHEET_WORDS;
+use sheet::Sheet;
 
 mod edges;
 mod walk;
 
 // The shortest row that means the same as the record's, at the front of `out`. After a refusal `out` is as it was.
-pub fn shortest_row(sheet: &[u32; SHEET_WORDS], bytes: &[u8], out: &mut [u8]) -> Answer
+pub fn shortest_row(sheet: &Sheet, bytes: &[u8], out: &mut [u8]) -> Answer
     ensures { AnswersShortest sheet.now bytes.now out.old out.new result }
 {
     let mut whole = [0u8; limits::MOST_RECORD_BYTES];

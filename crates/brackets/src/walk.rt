@@ -9,7 +9,7 @@ use expression::limits::{MOST_RECORD_BYTES, MOST_TOKENS};
 use expression::token;
 use record::walks::{BASE, NO_TREE, set_two};
 use record::{Node, conflicts};
-use sheet::layout::SHEET_WORDS;
+use sheet::Sheet;
 
 // The side of a left operand is its mark: this one where its right edge shows a conflict with the operator above it, else 0.
 const SHOWN: u8 = 1;
@@ -18,7 +18,7 @@ const SHOWN: u8 = 1;
 pub const RIGHT: u8 = 2;
 
 // The byte at a place if it is a reading, else 0. It tells less than the node, and is compiled into the walk.
-fn leaf_at(sheet: &[u32; SHEET_WORDS], whole: &[u8; MOST_RECORD_BYTES], at: usize) -> u8
+fn leaf_at(sheet: &Sheet, whole: &[u8; MOST_RECORD_BYTES], at: usize) -> u8
     ensures { result ≡ leaf_byte (node_at (operators_of sheet.now) whole.now at) }
 {
     let all = &whole[..];
@@ -33,11 +33,11 @@ fn leaf_at(sheet: &[u32; SHEET_WORDS], whole: &[u8; MOST_RECORD_BYTES], at: usiz
 }
 
 // An operand with operator o on top shows a conflict with the operator above it, on that side. A byte that is no operator shows none.
-fn shows(sheet: &[u32; SHEET_WORDS], above: u8, right: bool, o: u8) -> bool
+fn shows(sheet: &Sheet, above: u8, right: bool, o: u8) -> bool
     ensures { result ≡ shows sheet.now above right o }
 {
     if right {
-        return sheet::closes_before(sheet, above, o);
+        return sheet.closes_before(above, o);
     }
     conflicts::sees_edge(sheet, above, o)
 }
@@ -46,7 +46,7 @@ fn shows(sheet: &[u32; SHEET_WORDS], above: u8, right: bool, o: u8) -> bool
 // brackets, and no other does. The marks are those that `edges` makes. The answer is the place after the tree in the record times
 // the base, and that after its row. A reading on the left, as in most trees, takes no call.
 pub fn write_operand(
-    sheet: &[u32; SHEET_WORDS],
+    sheet: &Sheet,
     whole: &[u8; MOST_RECORD_BYTES],
     marks: &[u8; MOST_RECORD_BYTES],
     at: usize,

@@ -12,25 +12,25 @@ ghost use Rattle.monitor.specs.CallContracts.{Changes, Stages, Puts, Drops, Answ
 ghost use Rattle.frame.specs.CallContracts.{Replies};
 
 use frame::limits::MOST_REPLY;
-use places::limits::STORE_BYTES;
+use places::Store;
 use record::operands::Part;
 use record::{Answer, Judgement};
-use sheet::layout::SHEET_WORDS;
+use sheet::Sheet;
 use sheet::powers;
 use sheet::powers::Powers;
 use witness::lists;
 
 // The count of operators of the sheet in force, n.
 #[unsafe(no_mangle)]
-pub extern "C" fn tihvomen_operators(sheet: &[u32; SHEET_WORDS]) -> u8
+pub extern "C" fn tihvomen_operators(sheet: &Sheet) -> u8
     ensures { result ≡ (operators_of sheet.now).count }
 {
-    sheet::operator_count(sheet)
+    sheet.operator_count()
 }
 
 // The bytes are those of a sheet frame after n: n kind bytes, then the rules.
 #[unsafe(no_mangle)]
-pub extern "C" fn tihvomen_stage(staged: &mut [u32; SHEET_WORDS], n: u32, bytes: &[u8]) -> u8
+pub extern "C" fn tihvomen_stage(staged: &mut Sheet, n: u32, bytes: &[u8]) -> u8
     ensures { Stages staged.old (stage n bytes.now) result staged.new }
 {
     monitor::stage(staged, n, bytes)
@@ -38,9 +38,9 @@ pub extern "C" fn tihvomen_stage(staged: &mut [u32; SHEET_WORDS], n: u32, bytes:
 
 #[unsafe(no_mangle)]
 pub extern "C" fn tihvomen_switch(
-    sheet: &mut [u32; SHEET_WORDS],
-    staged: &mut [u32; SHEET_WORDS],
-    places: &mut [u8; STORE_BYTES],
+    sheet: &mut Sheet,
+    staged: &mut Sheet,
+    places: &mut Store,
 ) -> u8
     ensures { Changes (memory sheet.old staged.old places.old) switch result (memory sheet.new staged.new places.new) }
 {
@@ -49,8 +49,8 @@ pub extern "C" fn tihvomen_switch(
 
 #[unsafe(no_mangle)]
 pub extern "C" fn tihvomen_put_row(
-    sheet: &[u32; SHEET_WORDS],
-    places: &mut [u8; STORE_BYTES],
+    sheet: &Sheet,
+    places: &mut Store,
     place: u32,
     row: &[u8],
 ) -> u8
@@ -61,8 +61,8 @@ pub extern "C" fn tihvomen_put_row(
 
 #[unsafe(no_mangle)]
 pub extern "C" fn tihvomen_put_record(
-    sheet: &[u32; SHEET_WORDS],
-    places: &mut [u8; STORE_BYTES],
+    sheet: &Sheet,
+    places: &mut Store,
     place: u32,
     bytes: &[u8],
 ) -> u8
@@ -73,8 +73,8 @@ pub extern "C" fn tihvomen_put_record(
 
 #[unsafe(no_mangle)]
 pub extern "C" fn tihvomen_put_claim(
-    sheet: &[u32; SHEET_WORDS],
-    places: &mut [u8; STORE_BYTES],
+    sheet: &Sheet,
+    places: &mut Store,
     place: u32,
     row: &[u8],
     bytes: &[u8],
@@ -85,7 +85,7 @@ pub extern "C" fn tihvomen_put_claim(
 }
 
 #[unsafe(no_mangle)]
-pub extern "C" fn tihvomen_drop(places: &mut [u8; STORE_BYTES], place: u32) -> u8
+pub extern "C" fn tihvomen_drop(places: &mut Store, place: u32) -> u8
     ensures { Drops places.old place result places.new }
 {
     monitor::drop_place(places, place)
@@ -93,7 +93,7 @@ pub extern "C" fn tihvomen_drop(places: &mut [u8; STORE_BYTES], place: u32) -> u
 
 #[unsafe(no_mangle)]
 pub extern "C" fn tihvomen_fetch_record(
-    places: &[u8; STORE_BYTES],
+    places: &Store,
     place: u32,
     out: &mut [u8],
 ) -> Answer
@@ -104,8 +104,8 @@ pub extern "C" fn tihvomen_fetch_record(
 
 #[unsafe(no_mangle)]
 pub extern "C" fn tihvomen_fetch_row(
-    sheet: &[u32; SHEET_WORDS],
-    places: &[u8; STORE_BYTES],
+    sheet: &Sheet,
+    places: &Store,
     place: u32,
     out: &mut [u8],
 ) -> Answer
@@ -115,14 +115,14 @@ pub extern "C" fn tihvomen_fetch_row(
 }
 
 #[unsafe(no_mangle)]
-pub extern "C" fn tihvomen_image(places: &[u8; STORE_BYTES], place: u32, out: &mut [u8]) -> Answer
+pub extern "C" fn tihvomen_image(places: &Store, place: u32, out: &mut [u8]) -> Answer
     ensures { AnswersFrom places.now (image place out.old) result out.new }
 {
     monitor::image(places, place, out)
 }
 
 #[unsafe(no_mangle)]
-pub extern "C" fn tihvomen_build(sheet: &[u32; SHEET_WORDS], row: &[u8], out: &mut [u8]) -> Answer
+pub extern "C" fn tihvomen_build(sheet: &Sheet, row: &[u8], out: &mut [u8]) -> Answer
     ensures { AnswersUnder sheet.now (build row.now out.old) result out.new }
 {
     monitor::build(sheet, row, out)
@@ -130,7 +130,7 @@ pub extern "C" fn tihvomen_build(sheet: &[u32; SHEET_WORDS], row: &[u8], out: &m
 
 #[unsafe(no_mangle)]
 pub extern "C" fn tihvomen_repair(
-    sheet: &[u32; SHEET_WORDS],
+    sheet: &Sheet,
     bytes: &[u8],
     out: &mut [u8],
 ) -> Answer
@@ -140,14 +140,14 @@ pub extern "C" fn tihvomen_repair(
 }
 
 #[unsafe(no_mangle)]
-pub extern "C" fn tihvomen_judge(sheet: &[u32; SHEET_WORDS], bytes: &[u8]) -> Judgement
+pub extern "C" fn tihvomen_judge(sheet: &Sheet, bytes: &[u8]) -> Judgement
     ensures { Judges sheet.now bytes.now result }
 {
     monitor::judge(sheet, bytes)
 }
 
 #[unsafe(no_mangle)]
-pub extern "C" fn tihvomen_yield(sheet: &[u32; SHEET_WORDS], bytes: &[u8], out: &mut [u8]) -> Answer
+pub extern "C" fn tihvomen_yield(sheet: &Sheet, bytes: &[u8], out: &mut [u8]) -> Answer
     ensures { AnswersUnder sheet.now (yield bytes.now out.old) result out.new }
 {
     monitor::yield_row(sheet, bytes, out)
@@ -155,7 +155,7 @@ pub extern "C" fn tihvomen_yield(sheet: &[u32; SHEET_WORDS], bytes: &[u8], out: 
 
 #[unsafe(no_mangle)]
 pub extern "C" fn tihvomen_shortest_row(
-    sheet: &[u32; SHEET_WORDS],
+    sheet: &Sheet,
     bytes: &[u8],
     out: &mut [u8],
 ) -> Answer
@@ -166,7 +166,7 @@ pub extern "C" fn tihvomen_shortest_row(
 
 // The number of an operand call, for either side.
 #[unsafe(no_mangle)]
-pub extern "C" fn tihvomen_operand_number(sheet: &[u32; SHEET_WORDS], bytes: &[u8]) -> u8
+pub extern "C" fn tihvomen_operand_number(sheet: &Sheet, bytes: &[u8]) -> u8
     ensures { NumbersOperand sheet.now bytes.now result }
 {
     monitor::operand_number(sheet, bytes)
@@ -174,7 +174,7 @@ pub extern "C" fn tihvomen_operand_number(sheet: &[u32; SHEET_WORDS], bytes: &[u
 
 // The place of an operand in the caller's record.
 #[unsafe(no_mangle)]
-pub extern "C" fn tihvomen_operand(sheet: &[u32; SHEET_WORDS], bytes: &[u8], right: bool) -> Part
+pub extern "C" fn tihvomen_operand(sheet: &Sheet, bytes: &[u8], right: bool) -> Part
     ensures { PlacesOperand sheet.now right bytes.now result }
 {
     monitor::operand_part(sheet, bytes, right)
@@ -203,7 +203,7 @@ pub extern "C" fn tihvomen_explain_rules(
 
 // The binding powers of an operator.
 #[unsafe(no_mangle)]
-pub extern "C" fn tihvomen_powers(sheet: &[u32; SHEET_WORDS], operator: u32) -> Powers
+pub extern "C" fn tihvomen_powers(sheet: &Sheet, operator: u32) -> Powers
     ensures { result ≡ powers_in sheet.now operator }
 {
     powers::powers_of(sheet, operator)
@@ -212,9 +212,9 @@ pub extern "C" fn tihvomen_powers(sheet: &[u32; SHEET_WORDS], operator: u32) -> 
 // The reply to a line: its length.
 #[unsafe(no_mangle)]
 pub extern "C" fn tihvomen_reply(
-    sheet: &mut [u32; SHEET_WORDS],
-    staged: &mut [u32; SHEET_WORDS],
-    places: &mut [u8; STORE_BYTES],
+    sheet: &mut Sheet,
+    staged: &mut Sheet,
+    places: &mut Store,
     line: &[u8],
     out: &mut [u8; MOST_REPLY],
 ) -> usize

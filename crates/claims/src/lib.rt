@@ -8,7 +8,7 @@ ghost use Rattle.claims.specs.Claims.{same_bytes, claim_checks, beside_number_in
 
 use expression::limits::MOST_TOKENS;
 use expression::refusal;
-use sheet::layout::SHEET_WORDS;
+use sheet::Sheet;
 
 // The lists have the same bytes. The loop has no branch, so that bytes can be compared side by side.
 fn same_bytes(a: &[u8], b: &[u8]) -> bool
@@ -40,7 +40,7 @@ fn number_of(same: bool, count: u8) -> u8
 }
 
 // The number of the record beside the row: its own, 16, 17 or 0.
-fn number_beside(sheet: &[u32; SHEET_WORDS], row: &[u8], bytes: &[u8]) -> u8
+fn number_beside(sheet: &Sheet, row: &[u8], bytes: &[u8]) -> u8
     ensures { result ≡ beside_number_in sheet.now row.now bytes.now }
 {
     let mut own = [0u8; MOST_TOKENS];
@@ -57,7 +57,7 @@ fn number_beside(sheet: &[u32; SHEET_WORDS], row: &[u8], bytes: &[u8]) -> u8
 
 // The number of the pair: the row's own, or that of the record beside it. A record that passes is of the row, which is then a row and
 // need not be looked at by itself.
-pub fn claim_number(sheet: &[u32; SHEET_WORDS], row: &[u8], bytes: &[u8]) -> u8
+pub fn claim_number(sheet: &Sheet, row: &[u8], bytes: &[u8]) -> u8
     ensures { result ≡ claim_number_in sheet.now row.now bytes.now }
 {
     let beside = number_beside(sheet, row, bytes);

@@ -7,7 +7,7 @@ ghost use Rattle.meanings.specs.Meanings.{meant, is_missing};
 ghost use Rattle.evaluator.specs.Bytes.{meaningless, any_meaningless, all_meant, any_beyond};
 
 use expression::token;
-use sheet::layout::SHEET_WORDS;
+use sheet::Sheet;
 
 // The readings there are, 80 to FF.
 const READINGS: usize = 0x100 - token::FIRST_READING as usize;
@@ -26,7 +26,7 @@ fn any_missing(numbers: &[u8]) -> bool
 }
 
 // The byte is an operator without a meaning of its kind.
-fn is_meaningless(sheet: &[u32; SHEET_WORDS], lent: &[u8], byte: u8) -> bool
+fn is_meaningless(sheet: &Sheet, lent: &[u8], byte: u8) -> bool
     ensures { result ≡ meaningless sheet.now lent.now byte }
 {
     if token::OPENING <= byte {
@@ -36,14 +36,14 @@ fn is_meaningless(sheet: &[u32; SHEET_WORDS], lent: &[u8], byte: u8) -> bool
     if lent.len() <= o {
         return true;
     }
-    if sheet::is_prefix(sheet, byte) {
+    if sheet.is_prefix(byte) {
         return meanings::is_prefix_missing(lent[o]);
     }
     meanings::is_missing(lent[o])
 }
 
 // Some byte is one.
-fn any_meaningless(sheet: &[u32; SHEET_WORDS], lent: &[u8], bytes: &[u8]) -> bool
+fn any_meaningless(sheet: &Sheet, lent: &[u8], bytes: &[u8]) -> bool
     ensures { result ≡ any_meaningless sheet.now lent.now bytes.now }
 {
     let mut lacks = false;
@@ -56,7 +56,7 @@ fn any_meaningless(sheet: &[u32; SHEET_WORDS], lent: &[u8], bytes: &[u8]) -> boo
 }
 
 // No operator below n is one.
-fn all_meant(sheet: &[u32; SHEET_WORDS], lent: &[u8], n: u8) -> bool
+fn all_meant(sheet: &Sheet, lent: &[u8], n: u8) -> bool
     ensures { result ≡ all_meant sheet.now lent.now n }
 {
     let mut meant = true;
@@ -70,13 +70,13 @@ fn all_meant(sheet: &[u32; SHEET_WORDS], lent: &[u8], n: u8) -> bool
 
 // Some byte of a record is one. Where all operators of the sheet have a meaning of their kind, the bytes need not be looked at. Without
 // prefix operators the numbers alone tell; with some it is quicker to look at bytes that are no more than the operators.
-pub fn lacks_meaning(sheet: &[u32; SHEET_WORDS], lent: &[u8], bytes: &[u8]) -> bool
+pub fn lacks_meaning(sheet: &Sheet, lent: &[u8], bytes: &[u8]) -> bool
     requires { stranger_in_record (operators_of sheet.now) bytes.now ≡ false }
     ensures { result ≡ any_meaningless sheet.now lent.now bytes.now }
 {
-    let n = sheet::operator_count(sheet);
+    let n = sheet.operator_count();
     let count = n as usize;
-    if sheet::some_prefix(sheet) {
+    if sheet.some_prefix() {
         if count < bytes.len() {
             if all_meant(sheet, lent, n) {
                 return false;

@@ -9,8 +9,8 @@ ghost use Rattle.evaluator.specs.Evaluation.{number_of, evaluation_of_record, Ev
 
 use expression::refusal;
 use places::limits;
-use places::limits::STORE_BYTES;
-use sheet::layout::SHEET_WORDS;
+use places::Store;
+use sheet::Sheet;
 
 mod checks;
 mod walk;
@@ -34,7 +34,7 @@ fn unevaluated(number: u8) -> Evaluation
 }
 
 // The number of a record's evaluation: the record's own, then 13 for its operators, 14 for its readings, or 0.
-fn number_of(sheet: &[u32; SHEET_WORDS], bytes: &[u8], meanings: &[u8], readings: &[i32]) -> u8
+fn number_of(sheet: &Sheet, bytes: &[u8], meanings: &[u8], readings: &[i32]) -> u8
     ensures { result ≡ number_of meanings.now readings.now (operators_of sheet.now) bytes.now }
 {
     let number = record::record_number(sheet, bytes);
@@ -52,7 +52,7 @@ fn number_of(sheet: &[u32; SHEET_WORDS], bytes: &[u8], meanings: &[u8], readings
 
 // The value of the tree that the record is of.
 fn evaluate_record(
-    sheet: &[u32; SHEET_WORDS],
+    sheet: &Sheet,
     bytes: &[u8],
     meanings: &[u8],
     readings: &[i32],
@@ -72,8 +72,8 @@ fn evaluate_record(
 
 // The value of the tree that the place holds. The meaning of operator o is byte o of `meanings`; reading 80 is the first of `readings`.
 pub fn evaluate(
-    sheet: &[u32; SHEET_WORDS],
-    places: &[u8; STORE_BYTES],
+    sheet: &Sheet,
+    places: &Store,
     place: u32,
     meanings: &[u8],
     readings: &[i32],
@@ -83,7 +83,7 @@ pub fn evaluate(
     if limits::PLACE_COUNT as u32 <= place {
         return unevaluated(refusal::PLACE);
     }
-    let bytes = places::held_record(places, place as u8);
+    let bytes = places.held_record(place as u8);
     if bytes.len() == 0 {
         return unevaluated(refusal::EMPTY);
     }

@@ -5,13 +5,13 @@ ghost use Rattle.places.specs.Store.{records_in};
 ghost use Rattle.evaluator.specs.Evaluation.{EvaluatesOn};
 
 use evaluator::Evaluation;
-use places::limits::STORE_BYTES;
-use sheet::layout::SHEET_WORDS;
+use places::Store;
+use sheet::Sheet;
 
 #[unsafe(no_mangle)]
 pub extern "C" fn tihvomen_evaluate(
-    sheet: &[u32; SHEET_WORDS],
-    places: &[u8; STORE_BYTES],
+    sheet: &Sheet,
+    places: &Store,
     place: u32,
     meanings: &[u8],
     readings: &[i32],

@@ -5,9 +5,9 @@ ghost use Rattle.frame.specs.Frames.{most_answer, call_of, frame_call};
 ghost use Rattle.frame.specs.CallContracts.{Tells, TellsCount};
 
 use expression::refusal;
-use places::limits::STORE_BYTES;
+use places::Store;
 use record::{Answer, Judgement};
-use sheet::layout::SHEET_WORDS;
+use sheet::Sheet;
 
 // The kinds of frames.
 const STAGE: u8 = 1;
@@ -65,9 +65,9 @@ fn wide(byte: u8) -> u32
 
 // The call of a kind and of the bytes after it.
 fn run_kind(
-    sheet: &mut [u32; SHEET_WORDS],
-    staged: &mut [u32; SHEET_WORDS],
-    places: &mut [u8; STORE_BYTES],
+    sheet: &mut Sheet,
+    staged: &mut Sheet,
+    places: &mut Store,
     kind: u8,
     rest: &[u8],
     answer: &mut [u8],
@@ -124,9 +124,9 @@ fn run_kind(
 
 // The call of a frame: its first byte is the kind.
 pub fn run_frame(
-    sheet: &mut [u32; SHEET_WORDS],
-    staged: &mut [u32; SHEET_WORDS],
-    places: &mut [u8; STORE_BYTES],
+    sheet: &mut Sheet,
+    staged: &mut Sheet,
+    places: &mut Store,
     frame: &[u8],
     answer: &mut [u8],
 ) -> Answer

@@ -9,8 +9,8 @@ ghost use Rattle.frame.specs.CallContracts.{most_reply, short_line, Writes, Repl
 
 use expression::refusal;
 use limits::MOST_REPLY;
-use places::limits::STORE_BYTES;
-use sheet::layout::SHEET_WORDS;
+use places::Store;
+use sheet::Sheet;
 
 mod kinds;
 pub mod limits;
@@ -39,9 +39,9 @@ pub fn write_number(number: u8, out: &mut [u8]) -> usize
 
 // The reply to a line whose bytes the lent buffer has room for.
 fn reply_by(
-    sheet: &mut [u32; SHEET_WORDS],
-    staged: &mut [u32; SHEET_WORDS],
-    places: &mut [u8; STORE_BYTES],
+    sheet: &mut Sheet,
+    staged: &mut Sheet,
+    places: &mut Store,
     line: &[u8],
     frame: &mut [u8],
     answer: &mut [u8],
@@ -62,9 +62,9 @@ fn reply_by(
 
 // A line of at most SHORT_LINE characters.
 fn reply_short(
-    sheet: &mut [u32; SHEET_WORDS],
-    staged: &mut [u32; SHEET_WORDS],
-    places: &mut [u8; STORE_BYTES],
+    sheet: &mut Sheet,
+    staged: &mut Sheet,
+    places: &mut Store,
     line: &[u8],
     out: &mut [u8],
 ) -> usize
@@ -78,9 +78,9 @@ fn reply_short(
 
 // A longer line, within the limit.
 fn reply_long(
-    sheet: &mut [u32; SHEET_WORDS],
-    staged: &mut [u32; SHEET_WORDS],
-    places: &mut [u8; STORE_BYTES],
+    sheet: &mut Sheet,
+    staged: &mut Sheet,
+    places: &mut Store,
     line: &[u8],
     out: &mut [u8],
 ) -> usize
@@ -94,9 +94,9 @@ fn reply_long(
 
 // The reply to a line, without line end, at the front of `out`, which has room for the longest; how many characters it has.
 pub fn reply(
-    sheet: &mut [u32; SHEET_WORDS],
-    staged: &mut [u32; SHEET_WORDS],
-    places: &mut [u8; STORE_BYTES],
+    sheet: &mut Sheet,
+    staged: &mut Sheet,
+    places: &mut Store,
     line: &[u8],
     out: &mut [u8; MOST_REPLY],
 ) -> usize

@@ -12,8 +12,8 @@ ghost use Rattle.monitor.specs.CallContracts.{uses_by, some_use};
 
 use expression::limits::MOST_OPERATORS;
 use places::limits;
-use places::limits::STORE_BYTES;
-use sheet::layout::SHEET_WORDS;
+use places::Store;
+use sheet::Sheet;
 
 // The byte is an operator not below n.
 fn is_beyond(n: u8, byte: u8) -> bool
@@ -49,10 +49,10 @@ fn uses_set(set: u32, bytes: &[u8]) -> bool
 }
 
 // The place holds one or the other. Most sheets change no kind.
-fn place_uses(n: u8, set: u32, places: &[u8; STORE_BYTES], place: u8) -> bool
+fn place_uses(n: u8, set: u32, places: &Store, place: u8) -> bool
     ensures { result ≡ uses_by n set (held (records_in places.now) place) }
 {
-    let bytes = places::held_record(places, place);
+    let bytes = places.held_record(place);
     if uses_beyond(n, bytes) {
         return true;
     }
@@ -63,7 +63,7 @@ fn place_uses(n: u8, set: u32, places: &[u8; STORE_BYTES], place: u8) -> bool
 }
 
 // Some place does.
-fn any_uses(n: u8, set: u32, places: &[u8; STORE_BYTES]) -> bool
+fn any_uses(n: u8, set: u32, places: &Store) -> bool
     ensures { result ≡ some_use n set (records_in places.now) }
 {
     let mut place: u8 = 0;
@@ -78,15 +78,15 @@ fn any_uses(n: u8, set: u32, places: &[u8; STORE_BYTES]) -> bool
 
 // The same of the operators that the new sheet has not, and of those whose kind it changes.
 pub fn in_use(
-    old: &[u32; SHEET_WORDS],
-    new: &[u32; SHEET_WORDS],
-    places: &[u8; STORE_BYTES],
+    old: &Sheet,
+    new: &Sheet,
+    places: &Store,
 ) -> bool
     ensures { result ≡ (in_use_check (operators_of old.now) (operators_of new.now) (held (records_in places.now))).0 }
 {
     any_uses(
-        sheet::operator_count(new),
-        sheet::kind_changes(old, new),
+        new.operator_count(),
+        old.kind_changes(new),
         places,
     )
 }

@@ -8,10 +8,10 @@ ghost use Rattle.monitor.specs.CallContracts.{Changes, Stages, Puts, Drops, Answ
 use expression::limits::MOST_RECORD_BYTES;
 use expression::{bytes, refusal};
 use places::limits;
-use places::limits::STORE_BYTES;
+use places::Store;
 use record::operands::Part;
 use record::{Answer, Judgement};
-use sheet::layout::SHEET_WORDS;
+use sheet::Sheet;
 
 mod in_use;
 mod storing;
@@ -20,21 +20,21 @@ mod storing;
 const PLACE_COUNT: u32 = limits::PLACE_COUNT as u32;
 
 // The sheet of n operators, their kinds and the rules is judged, and staged in place of an earlier one.
-pub fn stage(staged: &mut [u32; SHEET_WORDS], n: u32, bytes: &[u8]) -> u8
+pub fn stage(staged: &mut Sheet, n: u32, bytes: &[u8]) -> u8
     ensures { Stages staged.old (stage n bytes.now) result staged.new }
 {
-    sheet::load(staged, n, bytes)
+    staged.load(n, bytes)
 }
 
 // The staged sheet is in force, nothing is staged, and every held tree is the conflict-free tree of its row.
 pub fn switch(
-    sheet: &mut [u32; SHEET_WORDS],
-    staged: &mut [u32; SHEET_WORDS],
-    places: &mut [u8; STORE_BYTES],
+    sheet: &mut Sheet,
+    staged: &mut Sheet,
+    places: &mut Store,
 ) -> u8
     ensures { Changes (memory sheet.old staged.old places.old) switch result (memory sheet.new staged.new places.new) }
 {
-    if !sheet::is_loaded(staged) {
+    if !staged.is_loaded() {
         return refusal::NOTHING_STAGED;
     }
     if in_use::in_use(sheet, staged, places) {
@@ -44,14 +44,14 @@ pub fn switch(
     let new = *staged;
     storing::rebuild_all(&new, places);
     *sheet = new;
-    *staged = [0u32; SHEET_WORDS];
+    *staged = Sheet::fresh();
     refusal::ACCEPTED
 }
 
 // The place holds the record of the row's tree.
 pub fn put_row(
-    sheet: &[u32; SHEET_WORDS],
-    places: &mut [u8; STORE_BYTES],
+    sheet: &Sheet,
+    places: &mut Store,
     place: u32,
     row: &[u8],
 ) -> u8
@@ -66,8 +66,8 @@ pub fn put_row(
 
 // The place holds the record of the conflict-free tree of the record's row.
 pub fn put_record(
-    sheet: &[u32; SHEET_WORDS],
-    places: &mut [u8; STORE_BYTES],
+    sheet: &Sheet,
+    places: &mut Store,
     place: u32,
     bytes: &[u8],
 ) -> u8
@@ -82,8 +82,8 @@ pub fn put_record(
 
 // The place holds the record as it was sent, where that is the record of the row's conflict-free tree.
 pub fn put_claim(
-    sheet: &[u32; SHEET_WORDS],
-    places: &mut [u8; STORE_BYTES],
+    sheet: &Sheet,
+    places: &mut Store,
     place: u32,
     row: &[u8],
     bytes: &[u8],
@@ -97,22 +97,22 @@ pub fn put_claim(
 }
 
 // The place is empty.
-pub fn drop_place(places: &mut [u8; STORE_BYTES], place: u32) -> u8
+pub fn drop_place(places: &mut Store, place: u32) -> u8
     ensures { Drops places.old place result places.new }
 {
     if PLACE_COUNT <= place {
         return refusal::PLACE;
     }
-    let held = places::held_record(places, place as u8);
+    let held = places.held_record(place as u8);
     if held.len() == 0 {
         return refusal::EMPTY;
     }
-    places::clear(places, place as u8);
+    places.clear(place as u8);
     refusal::ACCEPTED
 }
 
 // The record that the place holds, at the front of `out`.
-pub fn fetch_record(places: &[u8; STORE_BYTES], place: u32, out: &mut [u8]) -> Answer
+pub fn fetch_record(places: &Store, place: u32, out: &mut [u8]) -> Answer
     ensures { AnswersFrom places.now (fetch_record place out.old) result out.new }
 {
     if PLACE_COUNT <= place {
@@ -121,7 +121,7 @@ pub fn fetch_record(places: &[u8; STORE_BYTES], place: u32, out: &mut [u8]) -> A
             length: 0,
         };
     }
-    let bytes = places::held_record(places, place as u8);
+    let bytes = places.held_record(place as u8);
     let length = bytes.len();
     if length == 0 {
         return Answer {
@@ -144,8 +144,8 @@ pub fn fetch_record(places: &[u8; STORE_BYTES], place: u32, out: &mut [u8]) -> A
 
 // The row of the tree that the place holds, at the front of `out`.
 pub fn fetch_row(
-    sheet: &[u32; SHEET_WORDS],
-    places: &[u8; STORE_BYTES],
+    sheet: &Sheet,
+    places: &Store,
     place: u32,
     out: &mut [u8],
 ) -> Answer
@@ -157,7 +157,7 @@ pub fn fetch_row(
             length: 0,
         };
     }
-    let bytes = places::held_record(places, place as u8);
+    let bytes = places.held_record(place as u8);
     if bytes.len() == 0 {
         return Answer {
             number: refusal::EMPTY,
@@ -168,7 +168,7 @@ pub fn fetch_row(
 }
 
 // The image of the place, at the front of `out`.
-pub fn image(places: &[u8; STORE_BYTES], place: u32, out: &mut [u8]) -> Answer
+pub fn image(places: &Store, place: u32, out: &mut [u8]) -> Answer
     ensures { AnswersFrom places.now (image place out.old) result out.new }
 {
     if PLACE_COUNT <= place {
@@ -183,7 +183,7 @@ pub fn image(places: &[u8; STORE_BYTES], place: u32, out: &mut [u8]) -> Answer
             length: 0,
         };
     }
-    places::draw(places, place as u8, out);
+    places.draw(place as u8, out);
     Answer {
         number: refusal::ACCEPTED,
         length: limits::IMAGE_BYTES,
@@ -191,56 +191,56 @@ pub fn image(places: &[u8; STORE_BYTES], place: u32, out: &mut [u8]) -> Answer
 }
 
 // The record of the row's tree, at the front of `out`.
-pub fn build(sheet: &[u32; SHEET_WORDS], row: &[u8], out: &mut [u8]) -> Answer
+pub fn build(sheet: &Sheet, row: &[u8], out: &mut [u8]) -> Answer
     ensures { AnswersUnder sheet.now (build row.now out.old) result out.new }
 {
     parser::build_row(sheet, row, out)
 }
 
 // The record of the conflict-free tree of the record's row, at the front of `out`.
-pub fn repair(sheet: &[u32; SHEET_WORDS], bytes: &[u8], out: &mut [u8]) -> Answer
+pub fn repair(sheet: &Sheet, bytes: &[u8], out: &mut [u8]) -> Answer
     ensures { AnswersUnder sheet.now (repair bytes.now out.old) result out.new }
 {
     parser::repair_record(sheet, bytes, out)
 }
 
 // The number of the record, and its conflict count.
-pub fn judge(sheet: &[u32; SHEET_WORDS], bytes: &[u8]) -> Judgement
+pub fn judge(sheet: &Sheet, bytes: &[u8]) -> Judgement
     ensures { Judges sheet.now bytes.now result }
 {
     record::judge(sheet, bytes)
 }
 
 // The row of the record's tree, at the front of `out`.
-pub fn yield_row(sheet: &[u32; SHEET_WORDS], bytes: &[u8], out: &mut [u8]) -> Answer
+pub fn yield_row(sheet: &Sheet, bytes: &[u8], out: &mut [u8]) -> Answer
     ensures { AnswersUnder sheet.now (yield bytes.now out.old) result out.new }
 {
     record::yield_row(sheet, bytes, out)
 }
 
 // The shortest row that means the same as the record's row, at the front of `out`.
-pub fn shortest_row(sheet: &[u32; SHEET_WORDS], bytes: &[u8], out: &mut [u8]) -> Answer
+pub fn shortest_row(sheet: &Sheet, bytes: &[u8], out: &mut [u8]) -> Answer
     ensures { AnswersUnder sheet.now (shortest_row bytes.now out.old) result out.new }
 {
     brackets::shortest_row(sheet, bytes, out)
 }
 
 // The number of an operand call.
-pub fn operand_number(sheet: &[u32; SHEET_WORDS], bytes: &[u8]) -> u8
+pub fn operand_number(sheet: &Sheet, bytes: &[u8]) -> u8
     ensures { NumbersOperand sheet.now bytes.now result }
 {
     record::record_number(sheet, bytes)
 }
 
 // The record of the left or of the right operand of the top node: that part of `bytes`.
-pub fn operand<'a, 'b>(sheet: &'a [u32; SHEET_WORDS], bytes: &'b [u8], right: bool) -> &'b [u8]
+pub fn operand<'a, 'b>(sheet: &'a Sheet, bytes: &'b [u8], right: bool) -> &'b [u8]
     ensures { FindsOperand sheet.now right bytes.now result.now }
 {
     record::operand(sheet, bytes, right)
 }
 
 // Where that operand stands in the record, for callers that are handed no part of it.
-pub fn operand_part(sheet: &[u32; SHEET_WORDS], bytes: &[u8], right: bool) -> Part
+pub fn operand_part(sheet: &Sheet, bytes: &[u8], right: bool) -> Part
     ensures { PlacesOperand sheet.now right bytes.now result }
 {
     record::operands::operand_part(sheet, bytes, right)

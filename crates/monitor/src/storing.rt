@@ -9,13 +9,13 @@ ghost use Rattle.monitor.specs.CallContracts.{StoresRow, StoresRecord, StoresCla
 use expression::limits::MOST_RECORD_BYTES;
 use expression::refusal;
 use places::limits;
-use places::limits::STORE_BYTES;
-use sheet::layout::SHEET_WORDS;
+use places::Store;
+use sheet::Sheet;
 
 // The record that is built of the row, through the lent buffer.
 pub fn store_row(
-    sheet: &[u32; SHEET_WORDS],
-    places: &mut [u8; STORE_BYTES],
+    sheet: &Sheet,
+    places: &mut Store,
     place: u8,
     row: &[u8],
     buffer: &mut [u8],
@@ -29,14 +29,14 @@ pub fn store_row(
         return number;
     }
     let length = built.length;
-    places::put(places, place, &buffer[0..length]);
+    places.put(place, &buffer[0..length]);
     refusal::ACCEPTED
 }
 
 // The record that is built of the record's row, through the lent buffer.
 pub fn store_record(
-    sheet: &[u32; SHEET_WORDS],
-    places: &mut [u8; STORE_BYTES],
+    sheet: &Sheet,
+    places: &mut Store,
     place: u8,
     bytes: &[u8],
     buffer: &mut [u8],
@@ -50,14 +50,14 @@ pub fn store_record(
         return number;
     }
     let length = repaired.length;
-    places::put(places, place, &buffer[0..length]);
+    places.put(place, &buffer[0..length]);
     refusal::ACCEPTED
 }
 
 // The record as it was sent, where its number beside the row is 0.
 pub fn store_claim(
-    sheet: &[u32; SHEET_WORDS],
-    places: &mut [u8; STORE_BYTES],
+    sheet: &Sheet,
+    places: &mut Store,
     place: u8,
     row: &[u8],
     bytes: &[u8],
@@ -68,32 +68,32 @@ pub fn store_claim(
     if number != refusal::ACCEPTED {
         return number;
     }
-    places::put(places, place, bytes);
+    places.put(place, bytes);
     refusal::ACCEPTED
 }
 
 // The record that is built of the row of what the place holds.
 fn rebuild_by(
-    sheet: &[u32; SHEET_WORDS],
-    places: &mut [u8; STORE_BYTES],
+    sheet: &Sheet,
+    places: &mut Store,
     place: u8,
     buffer: &mut [u8],
 )
     requires { most_record_bytes ≤ length buffer.old }
     ensures { records_in places.new ≡ rebuilt_at sheet.now (records_in places.old) place }
 {
-    let bytes = places::held_record(places, place);
+    let bytes = places.held_record(place);
     let repaired = parser::repair_record(sheet, bytes, buffer);
     let number = repaired.number;
     if number != refusal::ACCEPTED {
         return;
     }
     let length = repaired.length;
-    places::put(places, place, &buffer[0..length]);
+    places.put(place, &buffer[0..length]);
 }
 
 // A place's tree becomes the conflict-free tree of its row.
-fn rebuild_place(sheet: &[u32; SHEET_WORDS], places: &mut [u8; STORE_BYTES], place: u8)
+fn rebuild_place(sheet: &Sheet, places: &mut Store, place: u8)
     ensures { records_in places.new ≡ rebuilt_at sheet.now (records_in places.old) place }
 {
     let mut buffer = [0u8; MOST_RECORD_BYTES];
@@ -101,7 +101,7 @@ fn rebuild_place(sheet: &[u32; SHEET_WORDS], places: &mut [u8; STORE_BYTES], pla
 }
 
 // Every place's does, in order.
-pub fn rebuild_all(sheet: &[u32; SHEET_WORDS], places: &mut [u8; STORE_BYTES])
+pub fn rebuild_all(sheet: &Sheet, places: &mut Store)
     ensures { records_in places.new ≡ rebuilt_to sheet.now place_count (records_in places.old) }
 {
     let mut place: u8 = 0;

@@ -7,8 +7,8 @@ use crate::limits::MOST_FILLED;
 use expression::bytes;
 use frame::limits::MOST_REPLY;
 use line_io::LINE_FEED;
-use places::limits::STORE_BYTES;
-use sheet::layout::SHEET_WORDS;
+use places::Store;
+use sheet::Sheet;
 
 // Lines answered: where the next line begins, and how much of the output is filled.
 #[derive(Drop)]
@@ -19,9 +19,9 @@ pub struct Lines {
 
 // Puts the reply to a line and a line end into the output, through the lent array; how much of the output is then filled.
 pub fn answer(
-    sheet: &mut [u32; SHEET_WORDS],
-    staged: &mut [u32; SHEET_WORDS],
-    places: &mut [u8; STORE_BYTES],
+    sheet: &mut Sheet,
+    staged: &mut Sheet,
+    places: &mut Store,
     line: &[u8],
     reply: &mut [u8; MOST_REPLY],
     out: &mut [u8],
@@ -41,9 +41,9 @@ pub fn answer(
 
 // Answers the complete lines of a buffer from a place on, as many as the output has room for: none only where there are none.
 pub fn answer_lines(
-    sheet: &mut [u32; SHEET_WORDS],
-    staged: &mut [u32; SHEET_WORDS],
-    places: &mut [u8; STORE_BYTES],
+    sheet: &mut Sheet,
+    staged: &mut Sheet,
+    places: &mut Store,
     buf: &[u8],
     from: usize,
     out: &mut [u8],

@@ -9,8 +9,8 @@ ghost use Rattle.panel.specs.Runs.{is_full, Steps, Turns, Runs};
 use frame::limits::MOST_REPLY;
 use input::Fetched;
 use limits::{BLOCK, BUFFER_BYTES, MOST_FILLED};
-use places::limits::STORE_BYTES;
-use sheet::layout::SHEET_WORDS;
+use places::Store;
+use sheet::Sheet;
 use std::io::{Print, Stdin, Stdout};
 
 mod input;
@@ -36,9 +36,9 @@ struct Written {
 
 // At the end of the input, the reply to a last line without line end; how much of the output it fills.
 fn finish(
-    sheet: &mut [u32; SHEET_WORDS],
-    staged: &mut [u32; SHEET_WORDS],
-    places: &mut [u8; STORE_BYTES],
+    sheet: &mut Sheet,
+    staged: &mut Sheet,
+    places: &mut Store,
     line: &[u8],
     out: &mut [u8],
 ) -> usize
@@ -58,9 +58,9 @@ fn finish(
 // What a read gave is answered. Where it failed, the unfinished line is not complete and is not run; at the end of the input it
 // is the last line; else the lines that are complete now are answered, as many as the output has room for.
 fn answer_read(
-    sheet: &mut [u32; SHEET_WORDS],
-    staged: &mut [u32; SHEET_WORDS],
-    places: &mut [u8; STORE_BYTES],
+    sheet: &mut Sheet,
+    staged: &mut Sheet,
+    places: &mut Store,
     buf: &[u8],
     out: &mut [u8],
     kept: usize,
@@ -102,9 +102,9 @@ fn answer_read(
 // One read behind what is kept of the bytes that are not answered, and the replies to the lines that it completes.
 fn take_read(
     stdin: Stdin,
-    sheet: &mut [u32; SHEET_WORDS],
-    staged: &mut [u32; SHEET_WORDS],
-    places: &mut [u8; STORE_BYTES],
+    sheet: &mut Sheet,
+    staged: &mut Sheet,
+    places: &mut Store,
     buf: &mut [u8],
     out: &mut [u8],
     rest: usize,
@@ -125,9 +125,9 @@ fn take_read(
 // The replies that are to be written next: where the output was full, to lines that are left in the buffer; else a read is made.
 fn step(
     stdin: Stdin,
-    sheet: &mut [u32; SHEET_WORDS],
-    staged: &mut [u32; SHEET_WORDS],
-    places: &mut [u8; STORE_BYTES],
+    sheet: &mut Sheet,
+    staged: &mut Sheet,
+    places: &mut Store,
     buf: &mut [u8],
     out: &mut [u8],
     s: State,
@@ -170,9 +170,9 @@ fn write_out(stdout: Stdout, bytes: &[u8]) -> Written
 fn turn(
     stdin: Stdin,
     stdout: Stdout,
-    sheet: &mut [u32; SHEET_WORDS],
-    staged: &mut [u32; SHEET_WORDS],
-    places: &mut [u8; STORE_BYTES],
+    sheet: &mut Sheet,
+    staged: &mut Sheet,
+    places: &mut Store,
     buf: &mut [u8],
     out: &mut [u8],
     s: State,
@@ -201,9 +201,9 @@ fn turn(
 fn run(
     stdin: Stdin,
     stdout: Stdout,
-    sheet: &mut [u32; SHEET_WORDS],
-    staged: &mut [u32; SHEET_WORDS],
-    places: &mut [u8; STORE_BYTES],
+    sheet: &mut Sheet,
+    staged: &mut Sheet,
+    places: &mut Store,
     buf: &mut [u8],
     out: &mut [u8],
 ) -> State
@@ -228,9 +228,9 @@ fn run(
 }
 
 fn main(rt: HostRuntime) {
-    let mut sheet = [0u32; SHEET_WORDS];
-    let mut staged = [0u32; SHEET_WORDS];
-    let mut places = [0u8; STORE_BYTES];
+    let mut sheet = Sheet::fresh();
+    let mut staged = Sheet::fresh();
+    let mut places = Store::fresh();
     let mut buf = [0u8; BUFFER_BYTES];
     let mut out = [0u8; BLOCK];
     run(

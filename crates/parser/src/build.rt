@@ -13,7 +13,7 @@ ghost use Rattle.parser.specs.Reading.{infix_in, ends, SomeWait, Closes, Takeabl
 use crate::notes;
 use expression::limits::MOST_TOKENS;
 use expression::{limits, token};
-use sheet::layout::SHEET_WORDS;
+use sheet::Sheet;
 
 // How many tokens are noted, and which is the first of the operand that was read last. Right before that one stands what waits nearest.
 #[derive(Drop)]
@@ -23,7 +23,7 @@ pub struct Front {
 }
 
 // Where c comes, the byte a of something that waits closes.
-fn closes_at(sheet: &[u32; SHEET_WORDS], c: u8, a: u8) -> bool
+fn closes_at(sheet: &Sheet, c: u8, a: u8) -> bool
     ensures { result ≡ ends (closes_in sheet.now) c a }
 {
     if limits::MOST_OPERATORS <= a {
@@ -32,11 +32,11 @@ fn closes_at(sheet: &[u32; SHEET_WORDS], c: u8, a: u8) -> bool
     if c == token::CLOSING {
         return true;
     }
-    sheet::closes_before(sheet, a, c)
+    sheet.closes_before(a, c)
 }
 
 // What closes where c comes joins the operand: the place where that then begins.
-fn close_waiting(sheet: &[u32; SHEET_WORDS], c: u8, words: &[u32], from: usize) -> usize
+fn close_waiting(sheet: &Sheet, c: u8, words: &[u32], from: usize) -> usize
     requires { SomeWait (operators_of sheet.now) words.now from }
     ensures { Closes (operators_of sheet.now) (closes_in sheet.now) c words.now from result }
 {
@@ -82,7 +82,7 @@ fn free_place(c: u8, words: &mut [u32], count: usize, first: usize)
 }
 
 // An infix operator comes: what closes before it is its left operand. It waits.
-fn take_operator(sheet: &[u32; SHEET_WORDS], c: u8, words: &mut [u32], from: Front) -> Front
+fn take_operator(sheet: &Sheet, c: u8, words: &mut [u32], from: Front) -> Front
     requires { (from.first ≤ from.count) × (from.count < length words.old) × (c < most_operators) × (prefix_in sheet.now c ≡ false) × Takeable (operators_of sheet.now) (closes_in sheet.now) c words.old from }
     ensures { Takes (operators_of sheet.now) (closes_in sheet.now) c words.old from words.new result }
 {
@@ -96,7 +96,7 @@ fn take_operator(sheet: &[u32; SHEET_WORDS], c: u8, words: &mut [u32], from: Fro
 }
 
 // A closing bracket comes: all that waits back to its opening one closes, and the operand begins there.
-fn take_closing(sheet: &[u32; SHEET_WORDS], words: &[u32], from: Front) -> Front
+fn take_closing(sheet: &Sheet, words: &[u32], from: Front) -> Front
     requires { (from.first ≤ from.count) × Takeable (operators_of sheet.now) (closes_in sheet.now) closing words.now from }
     ensures { Takes (operators_of sheet.now) (closes_in sheet.now) closing words.now from words.now result }
 {
@@ -109,17 +109,17 @@ fn take_closing(sheet: &[u32; SHEET_WORDS], words: &[u32], from: Front) -> Front
 }
 
 // Operator c is infix, if it is one at all.
-fn is_infix(sheet: &[u32; SHEET_WORDS], c: u8) -> bool
+fn is_infix(sheet: &Sheet, c: u8) -> bool
     ensures { result ≡ infix_in sheet.now c }
 {
     if limits::MOST_OPERATORS <= c {
         return false;
     }
-    !sheet::is_prefix(sheet, c)
+    !sheet.is_prefix(c)
 }
 
 // The next token from the left is taken.
-fn take_token(sheet: &[u32; SHEET_WORDS], c: u8, words: &mut [u32], from: Front) -> Front
+fn take_token(sheet: &Sheet, c: u8, words: &mut [u32], from: Front) -> Front
     requires { (from.first ≤ from.count) × (from.count < length words.old) × Takeable (operators_of sheet.now) (closes_in sheet.now) c words.old from }
     ensures { Takes (operators_of sheet.now) (closes_in sheet.now) c words.old from words.new result }
 {
@@ -133,7 +133,7 @@ fn take_token(sheet: &[u32; SHEET_WORDS], c: u8, words: &mut [u32], from: Front)
 }
 
 // The tokens of a row, or of a beginning of one, are taken from the left. What waits at the end of a row closes there, which changes no note.
-fn read_row(sheet: &[u32; SHEET_WORDS], row: &[u8], words: &mut [u32]) -> Front
+fn read_row(sheet: &Sheet, row: &[u8], words: &mut [u32]) -> Front
     requires { (length words.old ≤ most_tokens) × (length row.now ≤ length words.old) × Beginning (operators_of sheet.now) (closes_in sheet.now) row.now }
     ensures { Reads (operators_of sheet.now) (closes_in sheet.now) row.now words.new result }
 {
@@ -162,7 +162,7 @@ fn lay_out(words: &[u32], out: &mut [u8])
 }
 
 // The record of the tree that is made of the row fills the output.
-pub fn build_into(sheet: &[u32; SHEET_WORDS], row: &[u8], out: &mut [u8])
+pub fn build_into(sheet: &Sheet, row: &[u8], out: &mut [u8])
     requires { (length row.now ≤ most_tokens) × (length out.old ≡ record_bytes row.now) × Buildable (operators_of sheet.now) (closes_in sheet.now) row.now }
     ensures { out.new ≡ built (operators_of sheet.now) (closes_in sheet.now) row.now }
 {

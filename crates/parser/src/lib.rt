@@ -10,7 +10,7 @@ ghost use Rattle.parser.specs.Answers.{AnswersBuild, AnswersRepair};
 use expression::limits::MOST_TOKENS;
 use expression::refusal;
 use record::Answer;
-use sheet::layout::SHEET_WORDS;
+use sheet::Sheet;
 
 mod build;
 mod notes;
@@ -18,14 +18,14 @@ mod row;
 mod strangers;
 
 // The number of a row under the sheet's operators: 1, 3, 6 or 0.
-pub fn row_number(sheet: &[u32; SHEET_WORDS], tokens: &[u8]) -> u8
+pub fn row_number(sheet: &Sheet, tokens: &[u8]) -> u8
     ensures { result ≡ row_number (operators_of sheet.now) tokens.now }
 {
     row::number(sheet, tokens)
 }
 
 // The record of the row's tree, at the front of `out`. After a refusal `out` is as it was.
-pub fn build_row(sheet: &[u32; SHEET_WORDS], tokens: &[u8], out: &mut [u8]) -> Answer
+pub fn build_row(sheet: &Sheet, tokens: &[u8], out: &mut [u8]) -> Answer
     ensures { AnswersBuild sheet.now tokens.now out.old out.new result }
 {
     let number = row::number(sheet, tokens);
@@ -50,7 +50,7 @@ pub fn build_row(sheet: &[u32; SHEET_WORDS], tokens: &[u8], out: &mut [u8]) -> A
 }
 
 // The same for a record: its row is laid into the lent buffer, and built.
-fn repair_by(sheet: &[u32; SHEET_WORDS], bytes: &[u8], row: &mut [u8], out: &mut [u8]) -> Answer
+fn repair_by(sheet: &Sheet, bytes: &[u8], row: &mut [u8], out: &mut [u8]) -> Answer
     requires { most_tokens ≤ length row.old }
     ensures { AnswersRepair sheet.now bytes.now out.old out.new result }
 {
@@ -78,7 +78,7 @@ fn repair_by(sheet: &[u32; SHEET_WORDS], bytes: &[u8], row: &mut [u8], out: &mut
 }
 
 // The record of the conflict-free tree of the record's row, at the front of `out`. After a refusal `out` is as it was.
-pub fn repair_record(sheet: &[u32; SHEET_WORDS], bytes: &[u8], out: &mut [u8]) -> Answer
+pub fn repair_record(sheet: &Sheet, bytes: &[u8], out: &mut [u8]) -> Answer
     ensures { AnswersRepair sheet.now bytes.now out.old out.new result }
 {
     let mut row = [0u8; MOST_TOKENS];

@@ -9,7 +9,7 @@ ghost use Rattle.parser.specs.Rows.{token_of, token_at, is_operator, is_prefix, 
 
 use crate::strangers;
 use expression::{limits, refusal, token};
-use sheet::layout::SHEET_WORDS;
+use sheet::Sheet;
 
 // What a token is under a sheet's operators; an Operator is infix.
 #[derive(Drop)]
@@ -24,7 +24,7 @@ pub enum Token {
 }
 
 // The token that a byte is. In a row without strangers an operator is below n.
-fn token_of(sheet: &[u32; SHEET_WORDS], c: u8) -> Token
+fn token_of(sheet: &Sheet, c: u8) -> Token
     requires { strange_in_row (class (operators_of sheet.now) c) ≡ false }
     ensures { result ≡ token_of (class (operators_of sheet.now) c) }
 {
@@ -32,7 +32,7 @@ fn token_of(sheet: &[u32; SHEET_WORDS], c: u8) -> Token
         return Token::Reading;
     }
     if c < limits::MOST_OPERATORS {
-        if sheet::is_prefix(sheet, c) {
+        if sheet.is_prefix(c) {
             return Token::Prefix;
         }
         return Token::Operator;
@@ -47,7 +47,7 @@ fn token_of(sheet: &[u32; SHEET_WORDS], c: u8) -> Token
 }
 
 // The token at a place; End past the row's end.
-fn token_at(sheet: &[u32; SHEET_WORDS], row: &[u8], at: usize) -> Token
+fn token_at(sheet: &Sheet, row: &[u8], at: usize) -> Token
     requires { stranger_in_row (operators_of sheet.now) row.now ≡ false }
     ensures { result ≡ token_at (operators_of sheet.now) row.now at }
 {
@@ -58,7 +58,7 @@ fn token_at(sheet: &[u32; SHEET_WORDS], row: &[u8], at: usize) -> Token
 }
 
 // An infix operator stands at a place.
-fn operator_at(sheet: &[u32; SHEET_WORDS], row: &[u8], at: usize) -> bool
+fn operator_at(sheet: &Sheet, row: &[u8], at: usize) -> bool
     requires { stranger_in_row (operators_of sheet.now) row.now ≡ false }
     ensures { result ≡ is_operator (token_at (operators_of sheet.now) row.now at) }
 {
@@ -75,7 +75,7 @@ fn operator_at(sheet: &[u32; SHEET_WORDS], row: &[u8], at: usize) -> bool
 }
 
 // A prefix operator stands at a place.
-fn prefix_at(sheet: &[u32; SHEET_WORDS], row: &[u8], at: usize) -> bool
+fn prefix_at(sheet: &Sheet, row: &[u8], at: usize) -> bool
     requires { stranger_in_row (operators_of sheet.now) row.now ≡ false }
     ensures { result ≡ is_prefix (token_at (operators_of sheet.now) row.now at) }
 {
@@ -92,7 +92,7 @@ fn prefix_at(sheet: &[u32; SHEET_WORDS], row: &[u8], at: usize) -> bool
 }
 
 // A closing bracket stands at a place.
-fn closing_at(sheet: &[u32; SHEET_WORDS], row: &[u8], at: usize) -> bool
+fn closing_at(sheet: &Sheet, row: &[u8], at: usize) -> bool
     requires { stranger_in_row (operators_of sheet.now) row.now ≡ false }
     ensures { result ≡ is_closing (token_at (operators_of sheet.now) row.now at) }
 {
@@ -112,7 +112,7 @@ fn closing_at(sheet: &[u32; SHEET_WORDS], row: &[u8], at: usize) -> bool
 const NOWHERE: usize = 0;
 
 // The place after the readings from `at` on that an infix operator follows, each with its operator. Most of a row is passed so.
-fn pairs_end(sheet: &[u32; SHEET_WORDS], row: &[u8], at: usize) -> usize
+fn pairs_end(sheet: &Sheet, row: &[u8], at: usize) -> usize
     requires row_len_bound { length row.now ≤ most_tokens }
     requires at_in_bounds { at ≤ length row.now }
     requires row_value { stranger_in_row (operators_of sheet.now) row.now ≡ false }
@@ -134,7 +134,7 @@ fn pairs_end(sheet: &[u32; SHEET_WORDS], row: &[u8], at: usize) -> usize
 // The place after the expression that starts at `at`: an operand, then any number of operator and operand. What follows a prefix
 // operator is an expression too. The row goes on by its one reference, so that the call for what follows an operator is a jump.
 #[cycle(expression_end_operand_end)]
-fn expression_end<'a, 'b, 'c>(sheet: &'a [u32; SHEET_WORDS], row: &'b &'c [u8], at: usize) -> usize
+fn expression_end<'a, 'b, 'c>(sheet: &'a Sheet, row: &'b &'c [u8], at: usize) -> usize
     requires row_len_bound { length row.now.now ≤ most_tokens }
     requires at_in_bounds { at ≤ length row.now.now }
     requires row_value { stranger_in_row (operators_of sheet.now) row.now.now ≡ false }
@@ -156,7 +156,7 @@ fn expression_end<'a, 'b, 'c>(sheet: &'a [u32; SHEET_WORDS], row: &'b &'c [u8], 
 
 // The place after the operand that starts at `at`, but for a prefix operator: a reading, or an expression in brackets.
 #[cycle(expression_end_operand_end)]
-fn operand_end<'a, 'b, 'c>(sheet: &'a [u32; SHEET_WORDS], row: &'b &'c [u8], at: usize) -> usize
+fn operand_end<'a, 'b, 'c>(sheet: &'a Sheet, row: &'b &'c [u8], at: usize) -> usize
     requires row_len_bound { length row.now.now ≤ most_tokens }
     requires row_value { stranger_in_row (operators_of sheet.now) row.now.now ≡ false }
     ensures { ReadsOperand (operators_of sheet.now) row.now.now at result }
@@ -183,7 +183,7 @@ fn operand_end<'a, 'b, 'c>(sheet: &'a [u32; SHEET_WORDS], row: &'b &'c [u8], at:
 }
 
 // The number of a row: 1, 3, 6 or 0.
-pub fn number(sheet: &[u32; SHEET_WORDS], row: &[u8]) -> u8
+pub fn number(sheet: &Sheet, row: &[u8]) -> u8
     ensures { result ≡ row_number (operators_of sheet.now) row.now }
 {
     if limits::MOST_TOKENS < row.len() {

@@ -6,7 +6,7 @@ ghost use Rattle.sheet.specs.Layout.{operators_of};
 ghost use Rattle.parser.specs.Rows.{stranger_in_row};
 
 use expression::{limits, token};
-use sheet::layout::SHEET_WORDS;
+use sheet::Sheet;
 
 // A byte without meaning, or an operator not below n; no branch tells.
 fn is_strange(n: u8, c: u8) -> bool
@@ -31,8 +31,8 @@ fn any_strange(n: u8, row: &[u8]) -> bool
 }
 
 // The same under a sheet's operators: their count tells.
-pub fn has_stranger(sheet: &[u32; SHEET_WORDS], row: &[u8]) -> bool
+pub fn has_stranger(sheet: &Sheet, row: &[u8]) -> bool
     ensures { result ≡ stranger_in_row (operators_of sheet.now) row.now }
 {
-    any_strange(sheet::operator_count(sheet), row)
+    any_strange(sheet.operator_count(), row)
 }

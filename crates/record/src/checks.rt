@@ -8,7 +8,7 @@ ghost use Rattle.sheet.specs.Layout.{operators_of};
 ghost use Rattle.record.specs.Checks.{stranger_in_record, row_length};
 
 use expression::token;
-use sheet::layout::SHEET_WORDS;
+use sheet::Sheet;
 
 // The byte stands in no record: it has no meaning under n operators, or closes a bracket.
 fn is_strange(n: u8, byte: u8) -> bool
@@ -37,10 +37,10 @@ fn any_strange(n: u8, bytes: &[u8]) -> bool
 }
 
 // The same under a sheet's operators: their count tells.
-pub fn has_stranger(sheet: &[u32; SHEET_WORDS], bytes: &[u8]) -> bool
+pub fn has_stranger(sheet: &Sheet, bytes: &[u8]) -> bool
     ensures { result ≡ stranger_in_record (operators_of sheet.now) bytes.now }
 {
-    any_strange(sheet::operator_count(sheet), bytes)
+    any_strange(sheet.operator_count(), bytes)
 }
 
 // 1 where the byte opens a bracket, else 0.

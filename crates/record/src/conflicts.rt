@@ -9,23 +9,23 @@ use crate::Node;
 use crate::walks::{BASE, NO_TREE, node_in};
 use expression::limits::{MOST_OPERATORS, MOST_RECORD_BYTES};
 use expression::token;
-use sheet::layout::SHEET_WORDS;
+use sheet::Sheet;
 
 // What is given where there is no operator around a tree: a byte that is none.
 const NONE: u8 = token::OPENING;
 
 // The operator that sees the edge excludes operator p there. A byte that is no operator sees none.
-pub fn sees_edge(sheet: &[u32; SHEET_WORDS], seer: u8, p: u8) -> bool
+pub fn sees_edge(sheet: &Sheet, seer: u8, p: u8) -> bool
     ensures { result ≡ sees_edge sheet.now seer p }
 {
     if MOST_OPERATORS <= seer {
         return false;
     }
-    !sheet::closes_before(sheet, p, seer)
+    !sheet.closes_before(p, seer)
 }
 
 // 1 where it does; else 0.
-fn on_edge(sheet: &[u32; SHEET_WORDS], seer: u8, p: u8) -> usize
+fn on_edge(sheet: &Sheet, seer: u8, p: u8) -> usize
     ensures value { result ≡ one_if (sees_edge sheet.now seer p) }
     ensures upper_bound { result ≤ 1 }
 {
@@ -37,12 +37,12 @@ fn on_edge(sheet: &[u32; SHEET_WORDS], seer: u8, p: u8) -> usize
 
 // 1 where infix operator o, on top of an operand, shows a conflict with the operator above, whose right or only operand that is; where
 // there is none, with the seer, whose left operand it is. Else 0.
-fn on_top(sheet: &[u32; SHEET_WORDS], above: u8, seer: u8, o: u8) -> usize
+fn on_top(sheet: &Sheet, above: u8, seer: u8, o: u8) -> usize
     ensures value { result ≡ one_if (shows_top sheet.now above seer o) }
     ensures upper_bound { result ≤ 1 }
 {
     if above < MOST_OPERATORS {
-        if sheet::closes_before(sheet, above, o) {
+        if sheet.closes_before(above, o) {
             return 1;
         }
         return 0;
@@ -55,7 +55,7 @@ fn on_top(sheet: &[u32; SHEET_WORDS], above: u8, seer: u8, o: u8) -> usize
 // of it whose left operand it ends, so that it sees its right edge. A byte that is no operator is given where there is none.
 // A reading on the left, as in most trees, takes no call. A left operand leaves a byte for the right one.
 pub fn count_at(
-    sheet: &[u32; SHEET_WORDS],
+    sheet: &Sheet,
     whole: &[u8; MOST_RECORD_BYTES],
     size: usize,
     at: usize,

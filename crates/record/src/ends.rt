@@ -8,12 +8,12 @@ ghost use Rattle.record.specs.Reach.{Reaches};
 use crate::Node;
 use crate::walks::{BASE, NO_TREE, node_in};
 use expression::limits::MOST_RECORD_BYTES;
-use sheet::layout::SHEET_WORDS;
+use sheet::Sheet;
 
 // The place after the tree times the base. A reading on the left, as in most trees, takes no call. A left operand leaves a byte
 // for the right one: so the walk goes no deeper into any bytes than into a tree of their length.
 pub fn end_at(
-    sheet: &[u32; SHEET_WORDS],
+    sheet: &Sheet,
     whole: &[u8; MOST_RECORD_BYTES],
     size: usize,
     at: usize,

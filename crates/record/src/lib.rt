@@ -9,7 +9,7 @@ ghost use Rattle.record.specs.Node.{node_at};
 ghost use Rattle.record.specs.Answers.{Yields, judgement};
 
 use expression::{bytes, limits, refusal, token};
-use sheet::layout::SHEET_WORDS;
+use sheet::Sheet;
 
 mod checks;
 pub mod conflicts;
@@ -30,7 +30,7 @@ pub enum Node {
 }
 
 // The node at a place, under the sheet's operators.
-pub fn node_at(sheet: &[u32; SHEET_WORDS], bytes: &[u8], at: usize) -> Node
+pub fn node_at(sheet: &Sheet, bytes: &[u8], at: usize) -> Node
     ensures { result ≡ node_at (operators_of sheet.now) bytes.now at }
 {
     if bytes.len() <= at {
@@ -38,10 +38,10 @@ pub fn node_at(sheet: &[u32; SHEET_WORDS], bytes: &[u8], at: usize) -> Node
     }
     let byte = bytes[at];
     if byte < token::OPENING {
-        if sheet::operator_count(sheet) <= byte {
+        if sheet.operator_count() <= byte {
             return Node::Other;
         }
-        if sheet::is_prefix(sheet, byte) {
+        if sheet.is_prefix(byte) {
             return Node::Prefix(byte);
         }
         return Node::Operator(byte);
@@ -56,7 +56,7 @@ pub fn node_at(sheet: &[u32; SHEET_WORDS], bytes: &[u8], at: usize) -> Node
 }
 
 // The number of a record under the sheet's operators: 1 for its bytes, 3, 7, 1 for its row, or 0.
-pub fn record_number(sheet: &[u32; SHEET_WORDS], bytes: &[u8]) -> u8
+pub fn record_number(sheet: &Sheet, bytes: &[u8]) -> u8
     ensures { result ≡ record_number (operators_of sheet.now) bytes.now }
 {
     if limits::MOST_RECORD_BYTES < bytes.len() {
@@ -93,7 +93,7 @@ fn unanswered(number: u8) -> Answer
 }
 
 // The row of the record's tree, written at the front of `out`. After a refusal `out` is as it was.
-pub fn yield_row(sheet: &[u32; SHEET_WORDS], bytes: &[u8], out: &mut [u8]) -> Answer
+pub fn yield_row(sheet: &Sheet, bytes: &[u8], out: &mut [u8]) -> Answer
     ensures { Yields (operators_of sheet.now) bytes.now out.old out.new result }
 {
     if limits::MOST_RECORD_BYTES < bytes.len() {
@@ -146,7 +146,7 @@ fn unjudged(number: u8) -> Judgement
 }
 
 // The record judged under a sheet.
-pub fn judge(sheet: &[u32; SHEET_WORDS], bytes: &[u8]) -> Judgement
+pub fn judge(sheet: &Sheet, bytes: &[u8]) -> Judgement
     ensures { result ≡ judgement sheet.now bytes.now }
 {
     if limits::MOST_RECORD_BYTES < bytes.len() {
@@ -183,7 +183,7 @@ pub fn judge(sheet: &[u32; SHEET_WORDS], bytes: &[u8]) -> Judgement
 }
 
 // The record of the left or of the right operand of the top node: that part of `bytes`. Its number is `record_number`.
-pub fn operand<'a, 'b>(sheet: &'a [u32; SHEET_WORDS], bytes: &'b [u8], right: bool) -> &'b [u8]
+pub fn operand<'a, 'b>(sheet: &'a Sheet, bytes: &'b [u8], right: bool) -> &'b [u8]
     ensures { result.now ≡ operand_part (operators_of sheet.now) right bytes.now }
 {
     let part = operands::operand_part(sheet, bytes, right);

@@ -6,13 +6,13 @@ ghost use Rattle.sheet.specs.Layout.{operators_of};
 ghost use Rattle.record.specs.Listing.{with_byte, listed_in};
 
 use expression::token;
-use sheet::layout::SHEET_WORDS;
+use sheet::Sheet;
 
 // What bytes with exactly one tree give.
 pub const ONE_TREE: usize = 2;
 
 // One more than the count of trees, with one byte more before them; 0 where the bytes list no trees.
-fn with_byte(sheet: &[u32; SHEET_WORDS], listed: usize, byte: u8) -> usize
+fn with_byte(sheet: &Sheet, listed: usize, byte: u8) -> usize
     requires { listed ≤ most_record_bytes }
     ensures { result ≡ with_byte (class (operators_of sheet.now) byte) listed }
 {
@@ -23,10 +23,10 @@ fn with_byte(sheet: &[u32; SHEET_WORDS], listed: usize, byte: u8) -> usize
         return listed + 1;
     }
     if byte < token::OPENING {
-        if sheet::operator_count(sheet) <= byte {
+        if sheet.operator_count() <= byte {
             return 0;
         }
-        if sheet::is_prefix(sheet, byte) {
+        if sheet.is_prefix(byte) {
             if listed < 2 {
                 return 0;
             }
@@ -47,7 +47,7 @@ fn with_byte(sheet: &[u32; SHEET_WORDS], listed: usize, byte: u8) -> usize
 }
 
 // One more than the count of trees that the bytes list under the sheet's operators; 0 where they list none.
-pub fn trees_listed(sheet: &[u32; SHEET_WORDS], bytes: &[u8]) -> usize
+pub fn trees_listed(sheet: &Sheet, bytes: &[u8]) -> usize
     requires { length bytes.now ≤ most_record_bytes }
     ensures { result ≡ listed_in (operators_of sheet.now) bytes.now }
 {

@@ -6,7 +6,7 @@ ghost use Rattle.record.specs.Operands.{OperandAt};
 use crate::walks::{BASE, NO_TREE, node_in};
 use crate::{Node, checks, ends};
 use expression::{bytes, limits};
-use sheet::layout::SHEET_WORDS;
+use sheet::Sheet;
 
 // A part of a record, from a place up to another.
 #[repr(C)]
@@ -25,7 +25,7 @@ fn nowhere() -> Part
 
 // The place of the left or of the right operand. A node's only tree counts as its left; nowhere where there is none, and where
 // the record is refused: each operand is walked to its end once, and a stranger is no tree.
-pub fn operand_part(sheet: &[u32; SHEET_WORDS], bytes: &[u8], right: bool) -> Part
+pub fn operand_part(sheet: &Sheet, bytes: &[u8], right: bool) -> Part
     ensures { OperandAt (operators_of sheet.now) right bytes.now result }
 {
     if limits::MOST_RECORD_BYTES < bytes.len() {

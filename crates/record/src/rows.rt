@@ -9,12 +9,12 @@ use crate::Node;
 use crate::walks::{BASE, NO_TREE, node_in, set_two};
 use expression::limits::{MOST_RECORD_BYTES, MOST_TOKENS};
 use expression::token;
-use sheet::layout::SHEET_WORDS;
+use sheet::Sheet;
 
 // The row goes to `out` from the place `to` on. The answer is the place after the tree in the record times the base, and that
 // after its row in `out`. A reading on the left, as in most trees, takes no call. A left operand leaves a byte for the right one.
 pub fn write_row(
-    sheet: &[u32; SHEET_WORDS],
+    sheet: &Sheet,
     whole: &[u8; MOST_RECORD_BYTES],
     size: usize,
     at: usize,

@@ -8,7 +8,7 @@ ghost use Rattle.record.specs.Node.{node_at};
 
 use crate::{Node, node_at};
 use expression::limits;
-use sheet::layout::SHEET_WORDS;
+use sheet::Sheet;
 
 // A walk answers one word: two places, or a place and a count, the first times this base.
 pub const BASE: usize = 1 + limits::MOST_TOKENS;
@@ -18,7 +18,7 @@ pub const NO_TREE: usize = expression::refusal::NO_TREE as usize;
 
 // The node at a place of the record, which is the first `size` bytes.
 pub fn node_in(
-    sheet: &[u32; SHEET_WORDS],
+    sheet: &Sheet,
     whole: &[u8; limits::MOST_RECORD_BYTES],
     size: usize,
     at: usize,

@@ -6,7 +6,7 @@ ghost use Rattle.monitor.specs.CallContracts.{Stages};
 ghost use Rattle.rule_list.specs.Records.{rules_in};
 
 use expression::{limits, refusal};
-use sheet::layout::SHEET_WORDS;
+use sheet::Sheet;
 use sheet::lists::BUFFER_BYTES;
 
 mod written;
@@ -23,7 +23,7 @@ pub struct Rule {
 // The sheet of n operators, the kinds and the list's rules is staged, as in the staging of their bytes. Too many records are refused before
 // any is read. The crate `rule_list_c` exports it for C and Rust.
 pub fn tihvomen_stage_rules(
-    staged: &mut [u32; SHEET_WORDS],
+    staged: &mut Sheet,
     n: u32,
     kinds: &[u8],
     rules: &[Rule],

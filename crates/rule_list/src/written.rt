@@ -5,7 +5,7 @@ ghost use Rattle.rule_list.specs.Records.{put_at, StagesList};
 
 use crate::Rule;
 use expression::{limits, refusal};
-use sheet::layout::SHEET_WORDS;
+use sheet::Sheet;
 use sheet::lists;
 use sheet::lists::{BUFFER_BYTES, KIND_BYTES};
 
@@ -22,7 +22,7 @@ pub fn put_rule(bytes: &mut [u8; BUFFER_BYTES], i: usize, rule: Rule)
 
 // Stages the kinds, and the first `count` rules whose bytes are in the buffer.
 pub fn stage_written(
-    staged: &mut [u32; SHEET_WORDS],
+    staged: &mut Sheet,
     n: u32,
     kinds: &[u8],
     bytes: &mut [u8; BUFFER_BYTES],

@@ -6,11 +6,11 @@ ghost use Rattle.monitor.specs.CallContracts.{Stages};
 ghost use Rattle.rule_list.specs.Records.{rules_in};
 
 use rule_list::Rule;
-use sheet::layout::SHEET_WORDS;
+use sheet::Sheet;
 
 #[unsafe(no_mangle)]
 pub extern "C" fn tihvomen_stage_rules(
-    staged: &mut [u32; SHEET_WORDS],
+    staged: &mut Sheet,
     n: u32,
     kinds: &[u8],
     rules: &[Rule],

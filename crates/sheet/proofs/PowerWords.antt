@@ -79,26 +79,27 @@ infix_told sheet c h = go (dec_lt c (operators_of sheet).count)
 
     go : Dec (c < (operators_of sheet).count) → (ltb c (operators_of sheet).count && not (bit_of (get_or sheet prefix_word_at 0) c)) ≡ is_infix (class (operators_of sheet) c)
     go (yes l) =
-        ap (λ b. b && not (bit_of (get_or sheet prefix_word_at 0) c)) (lt-ltb c (operators_of sheet).count l) ∙ ap not (prefix_bit sheet c h refl) ∙ of_kind (prefix_in sheet c)
+        ap (λ b. b && not (bit_of (get_or sheet prefix_word_at 0) c)) (lt-ltb c (operators_of sheet).count l) ∙ ap not (prefix_bit sheet c refl h refl) ∙ of_kind (prefix_in sheet c)
         ∙ ap is_infix (sym (class_in sheet c h l))
     go (no l) =
         ap (λ b. b && not (bit_of (get_or sheet prefix_word_at 0) c)) (le-ltb c (operators_of sheet).count (omega (arith, l)))
         ∙ sym (none_beyond (operators_of sheet) c (λ p. l p.1))
 
-pub infix_set : (sheet : List ℕ) {m x : ℕ} → m ≡ capped (operators_of sheet).count → SetOf (outside_of m (get_or sheet prefix_word_at 0)) x
+pub infix_set : {words : List ℕ} (sheet : List ℕ) {m x : ℕ} → words ≡ sheet → m ≡ capped (operators_of sheet).count → SetOf (outside_of m (get_or words prefix_word_at 0)) x
     → SetOf (infix_in sheet) x
 unfolding infix_in outside_of
-infix_set sheet e s =
+infix_set sheet {m} v e s =
     record {
       bit = λ c h.
-          s.bit c h ∙ ap (λ b. b && not (bit_of (get_or sheet prefix_word_at 0) c)) (ap (ltb c) e ∙ capped_below (operators_of sheet).count c h) ∙ infix_told sheet c h;
+          s.bit c h ∙ ap (λ (w : List ℕ). ltb c m && not (bit_of (get_or w prefix_word_at 0) c)) v ∙ ap (λ b. b && not (bit_of (get_or sheet prefix_word_at 0) c)) (ap (ltb c) e ∙ capped_below (operators_of sheet).count c h) ∙ infix_told sheet c h;
     }
 
 -- ---- the set of those that an operator lies above
-pub below_set : (sheet : List ℕ) (a : ℕ) {x y z : ℕ} → a < most_operators → Fits w32 y → SetOf (infix_in sheet) x → y ≡ closers_of sheet a
-    → z ≡ without (get_or sheet a 0) y → SetOf (below (operators_of sheet) (closes_in sheet) a) (bit_and x z)
+pub below_set : {words : List ℕ} (sheet : List ℕ) (a : ℕ) {x y z : ℕ} → words ≡ sheet → a < most_operators → Fits w32 y → SetOf (infix_in sheet) x → y ≡ closers_of sheet a
+    → z ≡ without (get_or words a 0) y → SetOf (below (operators_of sheet) (closes_in sheet) a) (bit_and x z)
 unfolding below infix_in
-below_set sheet a {x} {y} {z} ha small among e f =
+below_set sheet a {x} {y} {z} v ha small among e f' =
+    let f : z ≡ without (get_or sheet a 0) y = f' ∙ ap (λ (w : List ℕ). without (get_or w a 0) y) v in
     record {
       bit = λ c h.
           bit_and_lem x z c

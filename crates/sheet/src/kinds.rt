@@ -7,8 +7,7 @@ ghost use Rattle.expression.specs.Token.{prefix_kind, kind_of};
 ghost use Rattle.sheet.specs.Layout.{operators_of};
 ghost use Rattle.sheet.specs.Kinds.{prefix_word, kind_changes};
 
-use crate::layout::SHEET_WORDS;
-use crate::{is_prefix, operator_count};
+use crate::Sheet;
 use expression::bytes;
 use expression::limits::MOST_OPERATORS;
 use relation::words;
@@ -45,18 +44,18 @@ pub fn prefixes(kinds: &[u8]) -> u32
 }
 
 // The kind of operator c is that of prefix operators; an operator that the sheet has not is none.
-fn has_prefix_kind(sheet: &[u32; SHEET_WORDS], c: u8) -> bool
+fn has_prefix_kind(sheet: &Sheet, c: u8) -> bool
     requires { c < most_operators }
     ensures { result ≡ eqb (kind_of (operators_of sheet.now) c) prefix_kind }
 {
-    if operator_count(sheet) <= c {
+    if sheet.operator_count() <= c {
         return false;
     }
-    is_prefix(sheet, c)
+    sheet.is_prefix(c)
 }
 
 // Operator c has another kind under the one sheet than under the other.
-fn differs(old: &[u32; SHEET_WORDS], new: &[u32; SHEET_WORDS], c: u8) -> bool
+fn differs(old: &Sheet, new: &Sheet, c: u8) -> bool
     requires { c < most_operators }
     ensures { result ≡ not (eqb (kind_of (operators_of old.now) c) (kind_of (operators_of new.now) c)) }
 {
@@ -67,7 +66,7 @@ fn differs(old: &[u32; SHEET_WORDS], new: &[u32; SHEET_WORDS], c: u8) -> bool
 }
 
 // The set of the operators that do.
-pub fn changes(old: &[u32; SHEET_WORDS], new: &[u32; SHEET_WORDS]) -> u32
+pub fn changes(old: &Sheet, new: &Sheet) -> u32
     ensures { result ≡ kind_changes (operators_of old.now) (operators_of new.now) }
 {
     let mut set = 0;

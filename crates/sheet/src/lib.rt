@@ -1,8 +1,7 @@
-// Operator sheets: kinds and rules in bytes, the relation that they give, and the numbers 1 to 5 (docs/REFERENCE.md, section 4). A sheet is a lent list of words:
-// those of the relation, and others whose layout is known here alone; all zero is the fresh one.
+// Operator sheets: kinds and rules in bytes, the relation that they give, and the numbers 1 to 5 (docs/REFERENCE.md, section 4).
 #![tactic(auto)]
 
-ghost use Rattle.std.specs.Prelude.{◌≡◌, ◌&&◌, ltb};
+ghost use Rattle.std.specs.Prelude.{◌≡◌, ◌&&◌, ltb, ℕ, List};
 ghost use Rattle.expression.specs.Limits.{most_operators};
 ghost use Rattle.sheet.specs.Layout.{operators_of, prefix_in, some_prefix, is_loaded, fresh};
 ghost use Rattle.relation.specs.Relation.{bit_of, closes_in};
@@ -12,47 +11,117 @@ ghost use Rattle.sheet.specs.Loading.{Loads, ReadsSheet, size_number};
 use expression::{limits, refusal};
 use layout::SHEET_WORDS;
 use relation::{verdict, words};
+use std::marker::Model;
 
 mod kinds;
 pub mod layout;
 pub mod lists;
 pub mod powers;
 
-// The count of the sheet's operators, n.
-pub fn operator_count(sheet: &[u32; SHEET_WORDS]) -> u8
-    ensures { result ≡ (operators_of sheet.now).count }
-{
-    (sheet[layout::COUNT_WORD] % 256) as u8
+// A lent sheet: the words of the relation, and others whose layout is known here alone; all zero is the fresh one.
+#[repr(C)]
+#[derive(Clone, Copy)]
+pub struct Sheet {
+    pub(crate) words: [u32; SHEET_WORDS],
 }
 
-// Operator a closes before b; false where either is no operator.
-pub fn closes_before(sheet: &[u32; SHEET_WORDS], a: u8, b: u8) -> bool
-    ensures { result ≡ closes_in sheet.now a b }
-{
-    if limits::MOST_OPERATORS <= a {
-        return false;
-    }
-    if limits::MOST_OPERATORS <= b {
-        return false;
-    }
-    words::has(sheet[a as usize], b as usize)
+impl Model for Sheet {
+    ghost Value = { List ℕ };
+
+    ghost view = { λ sheet. sheet.words };
+
+    ghost inverse = { λ words. record { words = words } };
 }
 
-// Operator c is a prefix operator; false where it is none of 32.
-pub fn is_prefix(sheet: &[u32; SHEET_WORDS], c: u8) -> bool
-    ensures { result ≡ prefix_in sheet.now c }
-{
-    if limits::MOST_OPERATORS <= c {
-        return false;
+impl Sheet {
+    // No sheet was loaded into it.
+    pub fn fresh() -> Self
+        ensures { result ≡ fresh }
+    {
+        Sheet {
+            words: [0; SHEET_WORDS],
+        }
     }
-    words::has(sheet[layout::PREFIX_WORD], c as usize)
-}
 
-// The operators whose kinds the two sheets do not agree on, as a set.
-pub fn kind_changes(old: &[u32; SHEET_WORDS], new: &[u32; SHEET_WORDS]) -> u32
-    ensures { result ≡ kind_changes (operators_of old.now) (operators_of new.now) }
-{
-    kinds::changes(old, new)
+    // The count of the sheet's operators, n.
+    #[tactic(auto, using(crate::proofs::LayoutWays::operator_count_ways))]
+    pub fn operator_count(&self) -> u8
+        ensures { result ≡ (operators_of self.now).count }
+    {
+        (self.words[layout::COUNT_WORD] % 256) as u8
+    }
+
+    // Operator a closes before b; false where either is no operator.
+    #[tactic(auto, using(crate::proofs::LayoutWays::closes_before_ways))]
+    pub fn closes_before(&self, a: u8, b: u8) -> bool
+        ensures { result ≡ closes_in self.now a b }
+    {
+        if limits::MOST_OPERATORS <= a {
+            return false;
+        }
+        if limits::MOST_OPERATORS <= b {
+            return false;
+        }
+        words::has(self.words[a as usize], b as usize)
+    }
+
+    // Operator c is a prefix operator; false where it is none of 32.
+    #[tactic(auto, using(crate::proofs::LayoutWays::is_prefix_ways))]
+    pub fn is_prefix(&self, c: u8) -> bool
+        ensures { result ≡ prefix_in self.now c }
+    {
+        if limits::MOST_OPERATORS <= c {
+            return false;
+        }
+        words::has(self.words[layout::PREFIX_WORD], c as usize)
+    }
+
+    // Some operator may be a prefix operator: where this is false, none is.
+    #[tactic(auto, using(crate::proofs::LayoutWays::some_prefix_ways))]
+    pub fn some_prefix(&self) -> bool
+        ensures { result ≡ some_prefix self.now }
+    {
+        self.words[layout::PREFIX_WORD] != 0
+    }
+
+    // A sheet was loaded into the words, be it one of no operators and no rules.
+    #[tactic(auto, using(crate::proofs::LayoutWays::is_loaded_ways))]
+    pub fn is_loaded(&self) -> bool
+        ensures { result ≡ is_loaded self.now }
+    {
+        self.words[layout::LOADED_WORD] != 0
+    }
+
+    // The operators whose kinds the two sheets do not agree on, as a set.
+    pub fn kind_changes(&self, new: &Sheet) -> u32
+        ensures { result ≡ kind_changes (operators_of self.now) (operators_of new.now) }
+    {
+        kinds::changes(self, new)
+    }
+
+    // The sheet of n operators with their kinds and the rules: its number. The lent sheet is written only where it is accepted.
+    #[tactic(auto, using(crate::proofs::Loading::load_ways))]
+    pub fn load(&mut self, n: u32, bytes: &[u8]) -> u8
+        ensures { Loads self.old n bytes.now result self.new }
+    {
+        let mut made = [0u32; SHEET_WORDS];
+        let mut yields = [0u32; SHEET_WORDS];
+        let found = read(n, bytes, &mut made, &mut yields);
+        let order = found.number;
+        if order != refusal::ACCEPTED {
+            return order;
+        }
+        let prefixes = found.prefixes;
+        let number = verdict::rules_number(n as usize, prefixes, &made, &yields);
+        if number != refusal::ACCEPTED {
+            return number;
+        }
+        made[layout::COUNT_WORD] = n;
+        made[layout::PREFIX_WORD] = prefixes;
+        made[layout::LOADED_WORD] = 1;
+        self.words = made;
+        refusal::ACCEPTED
+    }
 }
 
 // Operator c is in the set; false where it is none of 32.
@@ -63,20 +132,6 @@ pub fn is_in(set: u32, c: u8) -> bool
         return false;
     }
     words::has(set, c as usize)
-}
-
-// Some operator may be a prefix operator: where this is false, none is.
-pub fn some_prefix(sheet: &[u32; SHEET_WORDS]) -> bool
-    ensures { result ≡ some_prefix sheet.now }
-{
-    sheet[layout::PREFIX_WORD] != 0
-}
-
-// A sheet was loaded into the words, be it one of no operators and no rules.
-pub fn is_loaded(sheet: &[u32; SHEET_WORDS]) -> bool
-    ensures { result ≡ is_loaded sheet.now }
-{
-    sheet[layout::LOADED_WORD] != 0
 }
 
 // Numbers 1 and 2, or 0: the checks that need no look at the bytes. The kinds come first, a byte for each operator.
@@ -142,27 +197,4 @@ pub fn read(
         number: refusal::ACCEPTED,
         prefixes: prefixes,
     }
-}
-
-// The sheet of n operators with their kinds and the rules: its number. The lent sheet is written only where it is accepted.
-pub fn load(sheet: &mut [u32; SHEET_WORDS], n: u32, bytes: &[u8]) -> u8
-    ensures { Loads sheet.old n bytes.now result sheet.new }
-{
-    let mut made = [0u32; SHEET_WORDS];
-    let mut yields = [0u32; SHEET_WORDS];
-    let found = read(n, bytes, &mut made, &mut yields);
-    let order = found.number;
-    if order != refusal::ACCEPTED {
-        return order;
-    }
-    let prefixes = found.prefixes;
-    let number = verdict::rules_number(n as usize, prefixes, &made, &yields);
-    if number != refusal::ACCEPTED {
-        return number;
-    }
-    made[layout::COUNT_WORD] = n;
-    made[layout::PREFIX_WORD] = prefixes;
-    made[layout::LOADED_WORD] = 1;
-    *sheet = made;
-    refusal::ACCEPTED
 }

@@ -7,8 +7,8 @@ ghost use Rattle.relation.specs.Relation.{closes_in};
 ghost use Rattle.relation.specs.Words.{SetOf};
 ghost use Rattle.sheet.specs.BindingPowers.{infix_in, capped, closers_of, left_by, given_by, given_in, not_infix, powers_in};
 
-use crate::layout::{PREFIX_WORD, SHEET_WORDS};
-use crate::{closes_before, operator_count};
+use crate::Sheet;
+use crate::layout::PREFIX_WORD;
 use expression::limits::MOST_OPERATORS;
 use expression::refusal;
 use relation::words;
@@ -23,10 +23,10 @@ pub struct Powers {
 }
 
 // The count of operators, capped at 32.
-fn capped_count(sheet: &[u32; SHEET_WORDS]) -> u8
+fn capped_count(sheet: &Sheet) -> u8
     ensures { result ≡ capped (operators_of sheet.now).count }
 {
-    let n = operator_count(sheet);
+    let n = sheet.operator_count();
     if MOST_OPERATORS < n {
         return MOST_OPERATORS;
     }
@@ -34,31 +34,33 @@ fn capped_count(sheet: &[u32; SHEET_WORDS]) -> u8
 }
 
 // The set of the infix operators.
-fn infixes(sheet: &[u32; SHEET_WORDS]) -> u32
+#[tactic(auto, using(crate::proofs::PowerWays::infixes_ways))]
+fn infixes(sheet: &Sheet) -> u32
     ensures { SetOf (infix_in sheet.now) result }
 {
-    words::outside(capped_count(sheet) as usize, sheet[PREFIX_WORD])
+    words::outside(capped_count(sheet) as usize, sheet.words[PREFIX_WORD])
 }
 
 // The set of the operators that close before a.
-fn closers(sheet: &[u32; SHEET_WORDS], a: u8) -> u32
+fn closers(sheet: &Sheet, a: u8) -> u32
     ensures { result ≡ closers_of sheet.now a }
 {
     let mut set = 0;
     let mut c: u8 = 0;
     while c < MOST_OPERATORS {
-        set = words::with(set, c as usize, closes_before(sheet, c, a));
+        set = words::with(set, c as usize, sheet.closes_before(c, a));
         c += 1;
     }
     set
 }
 
 // The set of the infix operators that a lies above: it closes before them, and they do not close before it.
-fn set_below(sheet: &[u32; SHEET_WORDS], a: u8) -> u32
+#[tactic(auto, using(crate::proofs::PowerWays::below_ways))]
+fn set_below(sheet: &Sheet, a: u8) -> u32
     requires { a < most_operators }
     ensures { SetOf (below (operators_of sheet.now) (closes_in sheet.now) a) result }
 {
-    infixes(sheet) & words::without(sheet[a as usize], closers(sheet, a))
+    infixes(sheet) & words::without(sheet.words[a as usize], closers(sheet, a))
 }
 
 // The left power of an operator that lies above the set.
@@ -99,15 +101,15 @@ fn not_infix() -> Powers
 }
 
 // The powers of an infix operator.
-fn powers_of_infix(sheet: &[u32; SHEET_WORDS], a: u8) -> Powers
+fn powers_of_infix(sheet: &Sheet, a: u8) -> Powers
     requires { a < most_operators }
     ensures { result ≡ given_in sheet.now a }
 {
-    given(left_power(set_below(sheet, a)), closes_before(sheet, a, a))
+    given(left_power(set_below(sheet, a)), sheet.closes_before(a, a))
 }
 
 // The powers of an operator.
-pub fn powers_of(sheet: &[u32; SHEET_WORDS], operator: u32) -> Powers
+pub fn powers_of(sheet: &Sheet, operator: u32) -> Powers
     ensures { result ≡ powers_in sheet.now operator }
 {
     if MOST_OPERATORS as u32 <= operator {
