@@ -44,14 +44,14 @@ fn number_beside(sheet: &Sheet, row: &[u8], bytes: &[u8]) -> u8
     ensures { result ≡ beside_number_in sheet.now row.now bytes.now }
 {
     let mut own = [0u8; MOST_TOKENS];
-    let yielded = record::yield_row(sheet, bytes, &mut own);
+    let yielded = record::yield_row_numbered(sheet, bytes, &mut own);
     let number = yielded.number;
     if number != refusal::ACCEPTED {
         return number;
     }
     let length = yielded.length;
     let same = same_bytes(&own[0..length], row);
-    let judged = record::judge(sheet, bytes);
+    let judged = record::judge_numbered(sheet, bytes);
     number_of(same, judged.count)
 }
 

@@ -164,7 +164,7 @@ pub fn fetch_row(
             length: 0,
         };
     }
-    record::yield_row(sheet, bytes, out)
+    record::yield_row_numbered(sheet, bytes, out)
 }
 
 // The image of the place, at the front of `out`.
@@ -208,14 +208,14 @@ pub fn repair(sheet: &Sheet, bytes: &[u8], out: &mut [u8]) -> Answer
 pub fn judge(sheet: &Sheet, bytes: &[u8]) -> Judgement
     ensures { Judges sheet.now bytes.now result }
 {
-    record::judge(sheet, bytes)
+    record::judge_numbered(sheet, bytes)
 }
 
 // The row of the record's tree, at the front of `out`.
 pub fn yield_row(sheet: &Sheet, bytes: &[u8], out: &mut [u8]) -> Answer
     ensures { AnswersUnder sheet.now (yield bytes.now out.old) result out.new }
 {
-    record::yield_row(sheet, bytes, out)
+    record::yield_row_numbered(sheet, bytes, out)
 }
 
 // The shortest row that means the same as the record's row, at the front of `out`.

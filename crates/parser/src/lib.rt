@@ -54,7 +54,7 @@ fn repair_by(sheet: &Sheet, bytes: &[u8], row: &mut [u8], out: &mut [u8]) -> Ans
     requires { most_tokens ≤ length row.old }
     ensures { AnswersRepair sheet.now bytes.now out.old out.new result }
 {
-    let yielded = record::yield_row(sheet, bytes, row);
+    let yielded = record::yield_row_numbered(sheet, bytes, row);
     let number = yielded.number;
     if number != refusal::ACCEPTED {
         return Answer {

@@ -21,6 +21,7 @@ use Rattle.expression.proofs.Lengths.{row_length_of_record}
 use Rattle.expression.proofs.Numbers.{first_append, first_refused}
 use Rattle.record.specs.Front.{front}
 use Rattle.record.specs.Checks.{stranger_in_record, row_length}
+use Rattle.record.specs.Listing.{one_tree, listed_in}
 use Rattle.record.specs.Rows.{written_end, Writes}
 use Rattle.record.specs.Answers.{Yields}
 use Rattle.record.specs.declared.Answer.{Answer}
@@ -49,15 +50,17 @@ module _ (ops : Operators) (bytes before : List ℕ) where
   pub too_long : {r : Answer} → most_record_bytes < length bytes → r ≡ record { number = oversize; length = 0 } → Yields ops bytes before before r
   too_long h e = refused oversize (numbering.too_long ops bytes h) (λ z. omega arith) e
 
-  -- a row that is too long: the record's own number is 7 or 1
-  pub row_too_long : {r : Answer} {number tokens : ℕ} → number ≡ record_number ops bytes → tokens ≡ row_length bytes → most_tokens < tokens
-      → r ≡ record { number = number; length = 0 } → Yields ops bytes before before r
-  row_too_long {r} {number} known v l e =
-      refused number known (λ z. let (t, a) = accepted_tree ops bytes (sym known ∙ z) in omega (arith, a.row_fits, a.row_is)) e
-
   module _ {s : Bool} (fits : length bytes ≤ most_record_bytes) (tested : s ≡ stranger_in_record ops bytes) where
     pub strange : {r : Answer} → s ≡ true → r ≡ record { number = stranger; length = 0 } → Yields ops bytes before before r
     strange q e = refused stranger (numbering.strange ops bytes fits tested q) (λ z. omega arith) e
+
+    -- a row that is too long: no tree, or a tree of such a row
+    module _ {c : ℕ} (q : s ≡ false) (counted : c ≡ listed_in ops bytes) where
+      pub long_not_one : {r : Answer} → (c ≡ one_tree → ⊥) → r ≡ record { number = no_tree; length = 0 } → Yields ops bytes before before r
+      long_not_one h e = refused no_tree (numbering.not_one ops bytes fits tested q counted h) (λ z. omega arith) e
+
+      pub row_too_long : {r : Answer} {tokens : ℕ} → tokens ≡ row_length bytes → most_tokens < tokens → c ≡ one_tree → r ≡ record { number = oversize; length = 0 } → Yields ops bytes before before r
+      row_too_long v l is e = refused oversize (numbering.row_too_long ops bytes fits tested q counted is v l) (λ z. omega arith) e
 
     module _ {tokens : ℕ} (q : s ≡ false) (v : tokens ≡ row_length bytes) (low : tokens ≤ most_tokens) (copy rest zeros row : List ℕ) (w : ℕ)
         (copied : copy ≡ bytes ++ rest) (h : Writes ops (front (length bytes) copy) 0 zeros 0 row w) where
@@ -124,4 +127,4 @@ module _ (ops : Operators) (bytes before : List ℕ) where
                   (output ∙ ap (λ d. d ++ drop (length d) before) (written t a most));
             }
 
-pub ruleset yield_row_ways = (too_long, strange, row_too_long, walk_refused, ends_early, too_short, row_holds, yielded, rules)
+pub ruleset yield_row_ways = (too_long, strange, long_not_one, row_too_long, walk_refused, ends_early, too_short, row_holds, yielded, rules)

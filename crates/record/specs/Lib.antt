@@ -6,5 +6,6 @@ pub mod Checks
 pub mod Listing
 pub mod Rows
 pub mod Counts
+pub mod Outcome
 pub mod Answers
 pub mod Operands

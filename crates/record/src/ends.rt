@@ -12,12 +12,7 @@ use sheet::Sheet;
 
 // The place after the tree times the base. A reading on the left, as in most trees, takes no call. A left operand leaves a byte
 // for the right one: so the walk goes no deeper into any bytes than into a tree of their length.
-pub fn end_at(
-    sheet: &Sheet,
-    whole: &[u8; MOST_RECORD_BYTES],
-    size: usize,
-    at: usize,
-) -> usize
+pub fn end_at(sheet: &Sheet, whole: &[u8; MOST_RECORD_BYTES], size: usize, at: usize) -> usize
     requires { size ≤ most_record_bytes }
     ensures { Reaches (operators_of sheet.now) (front size whole.now) at result }
 {

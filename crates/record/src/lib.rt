@@ -7,8 +7,11 @@ ghost use Rattle.expression.specs.Operand.{operand_part};
 ghost use Rattle.sheet.specs.Layout.{operators_of};
 ghost use Rattle.record.specs.Node.{node_at};
 ghost use Rattle.record.specs.Answers.{Yields, judgement};
+ghost use Rattle.record.specs.Outcome.{answer_of, judgement_of};
+ghost use Rattle.expression.specs.Outcome.{number_in};
 
-use expression::{bytes, limits, refusal, token};
+use expression::refusal::{self, Refusal};
+use expression::{bytes, limits, token};
 use sheet::Sheet;
 
 mod checks;
@@ -55,23 +58,31 @@ pub fn node_at(sheet: &Sheet, bytes: &[u8], at: usize) -> Node
     Node::Reading(byte)
 }
 
-// The number of a record under the sheet's operators: 1 for its bytes, 3, 7, 1 for its row, or 0.
+// A record under the sheet's operators: 1 for its bytes, 3, 7, 1 for its row.
+#[tactic(auto, using(crate::proofs::Numbering::record_number_ways))]
+pub fn check_record(sheet: &Sheet, bytes: &[u8]) -> Result<(), Refusal>
+    ensures { number_in result ≡ record_number (operators_of sheet.now) bytes.now }
+{
+    if limits::MOST_RECORD_BYTES < bytes.len() {
+        return Err(Refusal::Oversize);
+    }
+    if checks::has_stranger(sheet, bytes) {
+        return Err(Refusal::Stranger);
+    }
+    if listing::trees_listed(sheet, bytes) != listing::ONE_TREE {
+        return Err(Refusal::NoTree);
+    }
+    if limits::MOST_TOKENS < checks::row_length(bytes) {
+        return Err(Refusal::Oversize);
+    }
+    Ok(())
+}
+
+// Its number; for the time of the move.
 pub fn record_number(sheet: &Sheet, bytes: &[u8]) -> u8
     ensures { result ≡ record_number (operators_of sheet.now) bytes.now }
 {
-    if limits::MOST_RECORD_BYTES < bytes.len() {
-        return refusal::OVERSIZE;
-    }
-    if checks::has_stranger(sheet, bytes) {
-        return refusal::STRANGER;
-    }
-    if listing::trees_listed(sheet, bytes) != listing::ONE_TREE {
-        return refusal::NO_TREE;
-    }
-    if limits::MOST_TOKENS < checks::row_length(bytes) {
-        return refusal::OVERSIZE;
-    }
-    refusal::ACCEPTED
+    refusal::number(&check_record(sheet, bytes))
 }
 
 // The number of a call that writes an answer, and the answer's length; 0 after a refusal.
@@ -82,49 +93,59 @@ pub struct Answer {
     pub length: usize,
 }
 
-// The answer of a refusal.
-fn unanswered(number: u8) -> Answer
-    ensures { result ≡ record { number = number; length = 0 } }
-{
-    Answer {
-        number: number,
-        length: 0,
+impl From<Result<usize, Refusal>> for Answer {
+    ghost from_gives = { λ outcome answer. answer ≡ answer_of outcome };
+
+    fn from(outcome: Result<usize, Refusal>) -> Answer {
+        let number = refusal::number(&outcome);
+        Answer {
+            number: number,
+            length: outcome.unwrap_or(0),
+        }
     }
 }
 
-// The row of the record's tree, written at the front of `out`. After a refusal `out` is as it was.
-pub fn yield_row(sheet: &Sheet, bytes: &[u8], out: &mut [u8]) -> Answer
-    ensures { Yields (operators_of sheet.now) bytes.now out.old out.new result }
+// The row of the record's tree, written at the front of `out`, and its length. After a refusal `out` is as it was.
+#[tactic(auto, using(crate::proofs::Yielding::yield_row_ways))]
+pub fn yield_row(sheet: &Sheet, bytes: &[u8], out: &mut [u8]) -> Result<usize, Refusal>
+    ensures { Yields (operators_of sheet.now) bytes.now out.old out.new (answer_of result) }
 {
     if limits::MOST_RECORD_BYTES < bytes.len() {
-        return unanswered(refusal::OVERSIZE);
+        return Err(Refusal::Oversize);
     }
     if checks::has_stranger(sheet, bytes) {
-        return unanswered(refusal::STRANGER);
+        return Err(Refusal::Stranger);
     }
-    // With more tokens than a row has, 7 or 1: the record's own number.
+    // With more tokens than a row has, 7 or 1.
     let tokens = checks::row_length(bytes);
     if limits::MOST_TOKENS < tokens {
-        return unanswered(record_number(sheet, bytes));
+        if listing::trees_listed(sheet, bytes) != listing::ONE_TREE {
+            return Err(Refusal::NoTree);
+        }
+        return Err(Refusal::Oversize);
     }
     let mut whole = [0u8; limits::MOST_RECORD_BYTES];
     bytes::copy(bytes, &mut whole);
     let mut row = [0u8; limits::MOST_TOKENS];
     let written = rows::write_row(sheet, &whole, bytes.len(), 0, &mut row, 0);
     if written == walks::NO_TREE {
-        return unanswered(refusal::NO_TREE);
+        return Err(Refusal::NoTree);
     }
     if written / walks::BASE != bytes.len() {
-        return unanswered(refusal::NO_TREE);
+        return Err(Refusal::NoTree);
     }
     if out.len() < tokens {
-        return unanswered(refusal::SHORT);
+        return Err(Refusal::Short);
     }
     bytes::copy(&row[0..tokens], out);
-    Answer {
-        number: refusal::ACCEPTED,
-        length: tokens,
-    }
+    Ok(tokens)
+}
+
+// The same for callers that take the number; for the time of the move.
+pub fn yield_row_numbered(sheet: &Sheet, bytes: &[u8], out: &mut [u8]) -> Answer
+    ensures { Yields (operators_of sheet.now) bytes.now out.old out.new result }
+{
+    yield_row(sheet, bytes, out).into()
 }
 
 // The number of a record, and the conflict count of its tree; 0 after a refusal.
@@ -135,25 +156,28 @@ pub struct Judgement {
     pub count: u8,
 }
 
-// The judgement of a refusal.
-fn unjudged(number: u8) -> Judgement
-    ensures { result ≡ record { number = number; count = 0 } }
-{
-    Judgement {
-        number: number,
-        count: 0,
+impl From<Result<u8, Refusal>> for Judgement {
+    ghost from_gives = { λ outcome judgement. judgement ≡ judgement_of outcome };
+
+    fn from(outcome: Result<u8, Refusal>) -> Judgement {
+        let number = refusal::number(&outcome);
+        Judgement {
+            number: number,
+            count: outcome.unwrap_or(0),
+        }
     }
 }
 
-// The record judged under a sheet.
-pub fn judge(sheet: &Sheet, bytes: &[u8]) -> Judgement
-    ensures { result ≡ judgement sheet.now bytes.now }
+// The record judged under a sheet: the conflict count of its tree.
+#[tactic(auto, using(crate::proofs::Judging::judge_ways))]
+pub fn judge(sheet: &Sheet, bytes: &[u8]) -> Result<u8, Refusal>
+    ensures { judgement_of result ≡ judgement sheet.now bytes.now }
 {
     if limits::MOST_RECORD_BYTES < bytes.len() {
-        return unjudged(refusal::OVERSIZE);
+        return Err(Refusal::Oversize);
     }
     if checks::has_stranger(sheet, bytes) {
-        return unjudged(refusal::STRANGER);
+        return Err(Refusal::Stranger);
     }
     let mut whole = [0u8; limits::MOST_RECORD_BYTES];
     bytes::copy(bytes, &mut whole);
@@ -167,19 +191,23 @@ pub fn judge(sheet: &Sheet, bytes: &[u8]) -> Judgement
         0,
     );
     if tally == walks::NO_TREE {
-        return unjudged(refusal::NO_TREE);
+        return Err(Refusal::NoTree);
     }
     if tally / walks::BASE != bytes.len() {
-        return unjudged(refusal::NO_TREE);
+        return Err(Refusal::NoTree);
     }
     let tokens = checks::row_length(bytes);
     if limits::MOST_TOKENS < tokens {
-        return unjudged(refusal::OVERSIZE);
+        return Err(Refusal::Oversize);
     }
-    Judgement {
-        number: refusal::ACCEPTED,
-        count: (tally % walks::BASE) as u8,
-    }
+    Ok((tally % walks::BASE) as u8)
+}
+
+// The same for callers that take the number; for the time of the move.
+pub fn judge_numbered(sheet: &Sheet, bytes: &[u8]) -> Judgement
+    ensures { result ≡ judgement sheet.now bytes.now }
+{
+    judge(sheet, bytes).into()
 }
 
 // The record of the left or of the right operand of the top node: that part of `bytes`. Its number is `record_number`.
