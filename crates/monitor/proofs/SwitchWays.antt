@@ -1,5 +1,5 @@
 -- What each way through a staging and a switch gives, from what is known on it. Assumes nothing.
-use mathlib.Core.Path.{◌≡◌, refl, sym, ap, ◌∙◌}
+use mathlib.Core.Path.{◌≡◌, subst, refl, sym, ap, ◌∙◌}
 use mathlib.Core.Bool.{Bool, true, false, not, cond}
 use mathlib.Core.List.{List}
 use Prim.Native.Nat.{ℕ, ◌+◌, ◌<◌, ◌≤◌}
@@ -82,11 +82,12 @@ module _ (sheet staged store : List ℕ) where
       pub switch_in_use : used ≡ true → Changes before switch 11 before
       switch_in_use e = unchanged 11 (sym (by_tests true true (sym is ∙ not-false there loaded) (sym u ∙ e))) (λ z. omega arith)
 
-      pub switch_done : {later : List ℕ} → used ≡ false → records_in later ≡ rebuilt_to staged place_count (records_in store)
-          → Changes before switch 0 (memory staged none_staged later)
+      pub switch_done : {cleared later : List ℕ} → used ≡ false → cleared ≡ none_staged → records_in later ≡ rebuilt_to staged place_count (records_in store)
+          → Changes before switch 0 (memory staged cleared later)
       unfolding after_switch
-      switch_done e f =
+      switch_done {cleared} {later} e q f =
           let z = by_tests true false (sym is ∙ not-false there loaded) (sym u ∙ e) in
-          record { numbered = sym z; stands = rw z (ap (panel staged none_staged) f); kept = λ h. absurd (h refl) }
+          subst (λ (w : List ℕ). Changes before switch 0 (memory staged w later)) (sym q)
+          (record { numbered = sym z; stands = rw z (ap (panel staged none_staged) f); kept = λ h. absurd (h refl) })
 
 pub ruleset switch_ways = (switch_nothing, switch_in_use, switch_done, rules)

@@ -1,5 +1,5 @@
 -- What each way through the public functions gives, from what is known on it. Assumes nothing.
-use mathlib.Core.Path.{◌≡◌, sym, ap, ◌∙◌}
+use mathlib.Core.Path.{◌≡◌, refl, sym, ap, ◌∙◌}
 use mathlib.Core.List.{List, [], ◌++◌}
 use Prim.Native.Nat.{ℕ, ◌+◌, ◌-◌, ◌<◌, ◌≤◌}
 use native.Mathlib.Nat.{add-zero, zero-add}
@@ -12,32 +12,41 @@ use Rattle.expression.specs.Limits.{most_record_bytes}
 use Rattle.run.specs.Image.{image_of}
 use Rattle.run.specs.Places.{place_count, held}
 use Rattle.run.proofs.Images.{length_image, image_empty}
-use Rattle.places.specs.Store.{slot_bytes, store_bytes, slot_at, record_in, records_in, written, Enters, drawn}
+use Rattle.places.specs.Store.{slot_bytes, store_bytes, slot_at, record_in, records_in, written, Enters, drawn, fresh}
 use Rattle.places.proofs.Slots.{record_in_slot, at_slot, written_in_slot}
 use Rattle.places.proofs.Laws.{held_at, held_over, held_length, written_over, written_long, stored_over, records_written}
+
+-- ---- fresh
+pub zeros_fresh : replicate store_bytes 0 ≡ fresh
+unfolding fresh
+zeros_fresh = refl
+
+pub ruleset fresh_ways = (zeros_fresh, rules)
 
 -- ---- held_record
 module _ (store : List ℕ) (place : ℕ) where
   pub nothing_held : place_count ≤ place → [] ≡ held (records_in store) place
   nothing_held h = sym (held_over store place h)
 
-  pub part_held : {at n : ℕ} → place < place_count → at ≡ slot_at place → n ≡ get_or store at 0 → n < slot_bytes
-      → take (at + 1 + n - (at + 1)) (drop (at + 1) store) ≡ held (records_in store) place
-  part_held {at} {n} h e f few =
+  pub part_held : {bytes : List ℕ} {at n : ℕ} → bytes ≡ store → place < place_count → at ≡ slot_at place → n ≡ get_or bytes at 0 → n < slot_bytes
+      → take (at + 1 + n - (at + 1)) (drop (at + 1) bytes) ≡ held (records_in store) place
+  part_held {bytes} {at} {n} v h e f' few =
+      let f : n ≡ get_or store at 0 = f' ∙ ap (λ (b : List ℕ). get_or b at 0) v in
+      ap (λ (b : List ℕ). take (at + 1 + n - (at + 1)) (drop (at + 1) b)) v ∙ (
       let first : get_or (drop at store) 0 0 ≡ n = get_or-drop at store 0 0 ∙ ap (λ (k : ℕ). get_or store k 0) (add-zero at) ∙ sym f in
       let size : at + 1 + n - (at + 1) ≡ n = omega arith in
       ap (λ (k : ℕ). take k (drop (at + 1) store)) (size ∙ sym first)
       ∙ ap (take (get_or (drop at store) 0 0)) (sym (drop-drop 1 at store))
       ∙ sym (record_in_slot (drop at store) (omega arith))
       ∙ ap (λ (k : ℕ). record_in (take slot_bytes (drop k store))) e
-      ∙ sym (held_at store place ∙ at_slot store place h)
+      ∙ sym (held_at store place ∙ at_slot store place h))
 
 pub ruleset held_ways = (nothing_held, part_held, rules)
 
 -- ---- put and clear
 module _ (store : List ℕ) (place : ℕ) where
-  pub slot_inside : {at : ℕ} → place < place_count → at ≡ slot_at place → length store ≡ store_bytes → at + slot_bytes ≤ length store
-  slot_inside h e size = omega arith
+  pub slot_inside : {at : ℕ} (bytes : List ℕ) → place < place_count → at ≡ slot_at place → length bytes ≡ store_bytes → at + slot_bytes ≤ length bytes
+  slot_inside bytes h e size = omega arith
 
   pub put_over : (bytes : List ℕ) → place_count ≤ place → Enters store place bytes store
   put_over bytes h = record { bytewise = sym (written_over store place bytes h); holds = λ k. sym (stored_over store place bytes h) }
@@ -45,14 +54,17 @@ module _ (store : List ℕ) (place : ℕ) where
   pub put_long : (bytes : List ℕ) → most_record_bytes < length bytes → Enters store place bytes store
   put_long bytes h = record { bytewise = sym (written_long store place bytes h); holds = λ k. absurd (omega arith) }
 
-  pub put_done : {at : ℕ} {to : List ℕ} (bytes : List ℕ) → place < place_count → length bytes ≤ most_record_bytes → at ≡ slot_at place → length store ≡ store_bytes
-      → to ≡ sets store at (image_of bytes) → Enters store place bytes to
-  put_done {at} {to} bytes h k e size w =
+  pub put_done : {at : ℕ} {to whole : List ℕ} (bytes : List ℕ) → whole ≡ store → place < place_count → length bytes ≤ most_record_bytes → at ≡ slot_at place
+      → length whole ≡ store_bytes → to ≡ sets whole at (image_of bytes) → Enters store place bytes to
+  put_done {at} {to} {whole} bytes v h k e size' w' =
+      let size : length store ≡ store_bytes = ap length (sym v) ∙ size' in
+      let w : to ≡ sets store at (image_of bytes) = w' ∙ ap (λ (b : List ℕ). sets b at (image_of bytes)) v in
       let is : to ≡ written store place bytes = w ∙ ap (λ (i : ℕ). sets store i (image_of bytes)) e ∙ sym (written_in_slot store place bytes h k) in
       record { bytewise = is; holds = λ _. ap records_in is ∙ records_written store place bytes h k size }
 
-  pub clear_done : {at : ℕ} {to : List ℕ} → place < place_count → at ≡ slot_at place → length store ≡ store_bytes → to ≡ sets store at (replicate slot_bytes 0) → Enters store place [] to
-  clear_done {at} h e size w = put_done [] h (omega arith) e size (w ∙ ap (sets store at) (sym image_empty))
+  pub clear_done : {at : ℕ} {to whole : List ℕ} → whole ≡ store → place < place_count → at ≡ slot_at place → length whole ≡ store_bytes
+      → to ≡ sets whole at (replicate slot_bytes 0) → Enters store place [] to
+  clear_done {at} {to} {whole} v h e size w = put_done [] v h (omega arith) e size (w ∙ ap (sets whole at) (sym image_empty))
 
 pub ruleset put_ways = (slot_inside, put_over, put_long, put_done, rules)
 

@@ -1,10 +1,10 @@
 // Sixteen places in one lent store, each empty or holding one record. The layout of the store is known here alone; callers see the list of its records.
 #![tactic(auto)]
 
-ghost use Rattle.std.specs.Prelude.{◌≡◌, []};
+ghost use Rattle.std.specs.Prelude.{◌≡◌, ℕ, List, []};
 ghost use Rattle.run.specs.Image.{image_of};
 ghost use Rattle.run.specs.Places.{held};
-ghost use Rattle.places.specs.Store.{records_in, Enters, drawn};
+ghost use Rattle.places.specs.Store.{records_in, Enters, drawn, fresh};
 
 use expression::limits::MOST_RECORD_BYTES;
 use limits::STORE_BYTES;
@@ -30,8 +30,9 @@ impl Model for Store {
 
 impl Store {
     // Every place is empty.
+    #[tactic(auto, using(crate::proofs::Ways::fresh_ways))]
     pub fn fresh() -> Self
-        ensures { result ≡ replicate store_bytes 0 }
+        ensures { result ≡ fresh }
     {
         Store {
             bytes: [0; STORE_BYTES],
@@ -39,6 +40,7 @@ impl Store {
     }
 
     // The record at a place, as that part of the store; empty where the place is empty or over 15.
+    #[tactic(auto, using(crate::proofs::Ways::held_ways))]
     pub fn held_record(&self, place: u8) -> &[u8]
         ensures { result.now ≡ held (records_in self.now) place }
     {
@@ -76,6 +78,7 @@ impl Store {
     }
 
     // The image of a place goes to the front of the output, where there is room for it.
+    #[tactic(auto, using(crate::proofs::Ways::draw_ways))]
     pub fn draw(&self, place: u8, out: &mut [u8])
         ensures { out.new ≡ drawn (image_of (held (records_in self.now) place)) out.old }
     {
