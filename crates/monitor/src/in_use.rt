@@ -10,45 +10,35 @@ ghost use Rattle.places.specs.Store.{records_in};
 ghost use Rattle.run.specs.Panel.{beyond, in_use_check};
 ghost use Rattle.monitor.specs.CallContracts.{uses_by, some_use};
 
+use expression::bytes;
 use expression::limits::MOST_OPERATORS;
-use places::limits;
-use places::Store;
+use places::{Store, limits};
 use sheet::Sheet;
 
 // The byte is an operator not below n.
+#[tactic(auto, using(crate::proofs::UseWays::is_beyond_ways))]
 fn is_beyond(n: u8, byte: u8) -> bool
     ensures { result ≡ (ltb byte most_operators && not (ltb byte n)) }
 {
     (n <= byte) & (byte < MOST_OPERATORS)
 }
 
-// Some byte is. The loop has no branch, so that bytes are tested side by side.
+// Some byte is.
 fn uses_beyond(n: u8, bytes: &[u8]) -> bool
     ensures { result ≡ any_holds (beyond (operators n [])) bytes.now }
 {
-    let mut found = false;
-    let mut i: usize = 0;
-    while i < bytes.len() {
-        found = found | is_beyond(n, bytes[i]);
-        i += 1;
-    }
-    found
+    bytes::any(bytes, |c| is_beyond(n, c))
 }
 
 // Some byte is an operator of the set.
 fn uses_set(set: u32, bytes: &[u8]) -> bool
     ensures { result ≡ any_holds (λ c. ltb c most_operators && bit_of set c) bytes.now }
 {
-    let mut found = false;
-    let mut i: usize = 0;
-    while i < bytes.len() {
-        found = found | sheet::is_in(set, bytes[i]);
-        i += 1;
-    }
-    found
+    bytes::any(bytes, |c| sheet::is_in(set, c))
 }
 
 // The place holds one or the other. Most sheets change no kind.
+#[tactic(auto, using(crate::proofs::UseWays::place_uses_ways))]
 fn place_uses(n: u8, set: u32, places: &Store, place: u8) -> bool
     ensures { result ≡ uses_by n set (held (records_in places.now) place) }
 {
@@ -63,30 +53,22 @@ fn place_uses(n: u8, set: u32, places: &Store, place: u8) -> bool
 }
 
 // Some place does.
+#[tactic(auto, using(crate::proofs::UseWays::any_uses_ways))]
 fn any_uses(n: u8, set: u32, places: &Store) -> bool
     ensures { result ≡ some_use n set (records_in places.now) }
 {
-    let mut place: u8 = 0;
-    while place < limits::PLACE_COUNT {
+    for place in 0..limits::PLACE_COUNT {
         if place_uses(n, set, places, place) {
             return true;
         }
-        place += 1;
     }
     false
 }
 
 // The same of the operators that the new sheet has not, and of those whose kind it changes.
-pub fn in_use(
-    old: &Sheet,
-    new: &Sheet,
-    places: &Store,
-) -> bool
+#[tactic(auto, using(crate::proofs::UseWays::in_use_ways))]
+pub fn in_use(old: &Sheet, new: &Sheet, places: &Store) -> bool
     ensures { result ≡ (in_use_check (operators_of old.now) (operators_of new.now) (held (records_in places.now))).0 }
 {
-    any_uses(
-        new.operator_count(),
-        old.kind_changes(new),
-        places,
-    )
+    any_uses(new.operator_count(), old.kind_changes(new), places)
 }

@@ -7,8 +7,7 @@ ghost use Rattle.monitor.specs.CallContracts.{Changes, Stages, Puts, Drops, Answ
 
 use expression::limits::MOST_RECORD_BYTES;
 use expression::{bytes, refusal};
-use places::limits;
-use places::Store;
+use places::{Store, limits};
 use record::operands::Part;
 use record::{Answer, Judgement};
 use sheet::Sheet;
@@ -27,11 +26,7 @@ pub fn stage(staged: &mut Sheet, n: u32, bytes: &[u8]) -> u8
 }
 
 // The staged sheet is in force, nothing is staged, and every held tree is the conflict-free tree of its row.
-pub fn switch(
-    sheet: &mut Sheet,
-    staged: &mut Sheet,
-    places: &mut Store,
-) -> u8
+pub fn switch(sheet: &mut Sheet, staged: &mut Sheet, places: &mut Store) -> u8
     ensures { Changes (memory sheet.old staged.old places.old) switch result (memory sheet.new staged.new places.new) }
 {
     if !staged.is_loaded() {
@@ -49,12 +44,7 @@ pub fn switch(
 }
 
 // The place holds the record of the row's tree.
-pub fn put_row(
-    sheet: &Sheet,
-    places: &mut Store,
-    place: u32,
-    row: &[u8],
-) -> u8
+pub fn put_row(sheet: &Sheet, places: &mut Store, place: u32, row: &[u8]) -> u8
     ensures { Puts sheet.now places.old (put_row place row.now) result places.new }
 {
     if PLACE_COUNT <= place {
@@ -65,12 +55,7 @@ pub fn put_row(
 }
 
 // The place holds the record of the conflict-free tree of the record's row.
-pub fn put_record(
-    sheet: &Sheet,
-    places: &mut Store,
-    place: u32,
-    bytes: &[u8],
-) -> u8
+pub fn put_record(sheet: &Sheet, places: &mut Store, place: u32, bytes: &[u8]) -> u8
     ensures { Puts sheet.now places.old (put_record place bytes.now) result places.new }
 {
     if PLACE_COUNT <= place {
@@ -81,13 +66,7 @@ pub fn put_record(
 }
 
 // The place holds the record as it was sent, where that is the record of the row's conflict-free tree.
-pub fn put_claim(
-    sheet: &Sheet,
-    places: &mut Store,
-    place: u32,
-    row: &[u8],
-    bytes: &[u8],
-) -> u8
+pub fn put_claim(sheet: &Sheet, places: &mut Store, place: u32, row: &[u8], bytes: &[u8]) -> u8
     ensures { Puts sheet.now places.old (put_claim place row.now bytes.now) result places.new }
 {
     if PLACE_COUNT <= place {
@@ -143,12 +122,7 @@ pub fn fetch_record(places: &Store, place: u32, out: &mut [u8]) -> Answer
 }
 
 // The row of the tree that the place holds, at the front of `out`.
-pub fn fetch_row(
-    sheet: &Sheet,
-    places: &Store,
-    place: u32,
-    out: &mut [u8],
-) -> Answer
+pub fn fetch_row(sheet: &Sheet, places: &Store, place: u32, out: &mut [u8]) -> Answer
     ensures { AnswersOn sheet.now places.now (fetch_row place out.old) result out.new }
 {
     if PLACE_COUNT <= place {

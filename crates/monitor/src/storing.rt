@@ -8,18 +8,11 @@ ghost use Rattle.monitor.specs.CallContracts.{StoresRow, StoresRecord, StoresCla
 
 use expression::limits::MOST_RECORD_BYTES;
 use expression::refusal;
-use places::limits;
-use places::Store;
+use places::{Store, limits};
 use sheet::Sheet;
 
 // The record that is built of the row, through the lent buffer.
-pub fn store_row(
-    sheet: &Sheet,
-    places: &mut Store,
-    place: u8,
-    row: &[u8],
-    buffer: &mut [u8],
-) -> u8
+pub fn store_row(sheet: &Sheet, places: &mut Store, place: u8, row: &[u8], buffer: &mut [u8]) -> u8
     requires { most_record_bytes ≤ length buffer.old }
     ensures { StoresRow sheet.now places.old place row.now result places.new }
 {
@@ -55,13 +48,7 @@ pub fn store_record(
 }
 
 // The record as it was sent, where its number beside the row is 0.
-pub fn store_claim(
-    sheet: &Sheet,
-    places: &mut Store,
-    place: u8,
-    row: &[u8],
-    bytes: &[u8],
-) -> u8
+pub fn store_claim(sheet: &Sheet, places: &mut Store, place: u8, row: &[u8], bytes: &[u8]) -> u8
     ensures { StoresClaim sheet.now places.old place row.now bytes.now result places.new }
 {
     let number = claims::claim_number(sheet, row, bytes);
@@ -73,12 +60,7 @@ pub fn store_claim(
 }
 
 // The record that is built of the row of what the place holds.
-fn rebuild_by(
-    sheet: &Sheet,
-    places: &mut Store,
-    place: u8,
-    buffer: &mut [u8],
-)
+fn rebuild_by(sheet: &Sheet, places: &mut Store, place: u8, buffer: &mut [u8])
     requires { most_record_bytes ≤ length buffer.old }
     ensures { records_in places.new ≡ rebuilt_at sheet.now (records_in places.old) place }
 {
