@@ -1,6 +1,6 @@
 -- What each way through the reply to a line gives, from what is known on it. Assumes nothing.
 use mathlib.Core.Path.{◌≡◌, refl, sym, ap, ap₂, subst, ◌∙◌}
-use mathlib.Core.Bool.{Bool, true, false, not, cond}
+use mathlib.Core.Bool.{Bool, true, false, cond}
 use mathlib.Core.List.{List, [], ◌∷◌}
 use Prim.Native.Nat.{ℕ, ◌-◌, ◌<◌, ◌≤◌}
 use native.Mathlib.Omega.{arith}
@@ -15,7 +15,8 @@ use Rattle.expression.proofs.Cond.{by_cond}
 use Rattle.disambiguation.specs.SheetChecks.{order_checks}
 use Rattle.record.specs.declared.Answer.{Answer}
 use Rattle.hexadecimal.specs.Text.{bytes_of, text_of, with_front, Decodes}
-use Rattle.hexadecimal.specs.declared.Decoded.{Decoded}
+use Rattle.std.specs.Prelude.{Result, Ok, Err}
+use Rattle.hexadecimal.specs.declared.DecodeError.{DecodeError}
 use Rattle.hexadecimal.proofs.TextWays.{length_text_of}
 use Rattle.frame.specs.Lines.{most_frame, most_characters}
 use Rattle.frame.specs.CallContracts.{Writes}
@@ -96,15 +97,15 @@ module _ (bytes : List ℕ) {out after : List ℕ} {r : ℕ} where
 pub ruleset frame_ways = (frame_short, frame_other, frame_sheet, rules)
 
 -- ---- reply_within
-module _ {line room room' : List ℕ} {d : Decoded} (reads : Decodes line room room' d) (l : length line ≤ most_characters) (h : length room ≡ most_frame) where
+module _ {line room room' : List ℕ} {d : Result ℕ DecodeError} (reads : Decodes line room room' d) (l : length line ≤ most_characters) (h : length room ≡ most_frame) where
   within : line_bytes line ≡ text_bytes (bytes_of line)
   unfolding line_bytes
   within = rw (le-ltb most_characters (length line) l)
 
-  pub line_refused : {out after : List ℕ} {r : ℕ} → Writes 12 [] out after r → not d.ok ≡ true → Says (line_bytes line) out after r
+  pub line_refused : {out after : List ℕ} {r : ℕ} {e : DecodeError} → Writes 12 [] out after r → d ≡ Err e → Says (line_bytes line) out after r
   line_refused w e = says w (line_bytes line) (within ∙ ap text_bytes (unread line room reads (omega arith) e)) (omega arith)
 
-  pub line_read : {out after : List ℕ} {r : ℕ} → Says (frame_bytes (take (d.length - 0) room')) out after r → not d.ok ≡ false → Says (line_bytes line) out after r
+  pub line_read : {out after : List ℕ} {r n : ℕ} → Says (frame_bytes (take (n - 0) room')) out after r → d ≡ Ok n → Says (line_bytes line) out after r
   line_read s e = same_bytes (within ∙ ap text_bytes (read line room reads (omega arith) e)) s
 
 pub ruleset within_ways = (line_refused, line_read, rules)

@@ -28,14 +28,10 @@ fn reply_to_frame(bytes: &[u8], out: &mut [u8]) -> usize
     requires { most_reply ≤ length out.old }
     ensures { Says (frame_bytes bytes.now) out.old out.new result }
 {
-    let length = bytes.len();
-    if length < 2 {
-        return frame::write_number(refusal::FRAME, out);
+    match bytes {
+        [kind, n, rest @ ..] if *kind == SHEET => reply_to_sheet(*n, rest, out),
+        _ => frame::write_number(refusal::FRAME, out),
     }
-    if bytes[0] != SHEET {
-        return frame::write_number(refusal::FRAME, out);
-    }
-    reply_to_sheet(bytes[1], &bytes[2..length], out)
 }
 
 // A line within the limit.
@@ -44,12 +40,10 @@ fn reply_within(line: &[u8], out: &mut [u8]) -> usize
     ensures { Says (line_bytes line.now) out.old out.new result }
 {
     let mut bytes = [0u8; limits::MOST_FRAME];
-    let decoded = hexadecimal::decode(line, &mut bytes);
-    let to = decoded.length;
-    if !decoded.ok {
+    let Ok(length) = hexadecimal::decode(line, &mut bytes) else {
         return frame::write_number(refusal::FRAME, out);
-    }
-    reply_to_frame(&bytes[0..to], out)
+    };
+    reply_to_frame(&bytes[0..length], out)
 }
 
 // The reply to a line, without line end, at the front of the output; how many characters it has.

@@ -1,6 +1,6 @@
 -- What each way through the functions that answer a line gives, from what is known on it. Assumes nothing.
 use mathlib.Core.Path.{◌≡◌, refl, sym, ap, ap₂, ◌∙◌}
-use mathlib.Core.Bool.{Bool, true, false, not, cond, true≢false}
+use mathlib.Core.Bool.{Bool, true, false, cond}
 use mathlib.Core.List.{List, [], ◌∷◌, ◌++◌, append-nil, append_assoc}
 use mathlib.Core.Option.{Option, none, some}
 use Prim.Native.Nat.{ℕ, ◌+◌, ◌*◌, ◌-◌, ◌<◌, ◌≤◌}
@@ -16,10 +16,11 @@ use Rattle.run.specs.Call.{Call}
 use Rattle.run.specs.Panel.{if_accepted}
 use Rattle.places.specs.Memory.{Memory, panel_in}
 use Rattle.hexadecimal.specs.Text.{is_text, bytes_of, text_of, with_front, bytes_within, answer_of, output_of, text_within, Decodes, Encodes}
-use Rattle.hexadecimal.specs.declared.Decoded.{Decoded}
-use Rattle.hexadecimal.specs.declared.Encoded.{Encoded}
 use Rattle.hexadecimal.proofs.TextWays.{length_text_of}
-use Rattle.hexadecimal.proofs.Laws.{bytes_within_room, text_within_room}
+use Rattle.hexadecimal.proofs.Laws.{bytes_within_room, text_within_room, encodes_room}
+use Rattle.std.specs.Prelude as code
+use Rattle.std.specs.Prelude.{Result, Ok, Err, Some, IsSome}
+use Rattle.hexadecimal.specs.declared.DecodeError.{DecodeError}
 use Rattle.frame.specs.Frames.{most_answer, frame_call, frame_reply, frame_number, frame_answer, frame_after}
 use Rattle.frame.specs.Lines.{most_characters, text_call, line_call, line_bytes, line_reply, line_after}
 use Rattle.frame.specs.CallContracts.{most_reply, Tells, Writes, Replies}
@@ -48,31 +49,52 @@ with_part from mid part = take from mid ++ (part ++ drop (length mid - from) (dr
 abbrev part_of : ℕ → List ℕ → List ℕ
 part_of from mid = take (length mid - from) (drop from mid)
 
-module _ (number : ℕ) (answer out : List ℕ) {mid part : List ℕ} {head tail : Encoded} where
-  pub written : Encodes (number ∷ []) out mid head → Encodes answer (take (length mid - head.length) (drop head.length mid)) part tail → most_reply ≤ length out → length answer ≤ most_answer
-      → Writes number answer out (take head.length mid ++ (part ++ drop (length mid - head.length) (drop head.length mid))) (head.length + tail.length)
-  unfolding text_of
-  written e f h l =
-      let from = head.length in
-      let first = text_of (number ∷ []) in
-      let one : text_within (length out) (number ∷ []) ≡ first = text_within_room (length out) (number ∷ []) (omega arith) in
-      let two : from ≡ 2 = e.answer ∙ ap length one in
-      let start : mid ≡ with_front first out = e.output ∙ ap (λ t. with_front t out) one in
-      let long : length mid ≡ 2 + length (drop 2 out) = ap length start ∙ length-append first (drop 2 out) in
-      let gone : length (drop 2 out) ≡ length out - 2 = length-drop 2 out in
-      let left : length (part_of from mid) ≡ length mid - from = ap length (take_all (length mid - from) (drop from mid) (omega (arith, length-drop from mid))) ∙ length-drop from mid in
-      let other : text_within (length (part_of from mid)) answer ≡ text_of answer = text_within_room (length (part_of from mid)) answer (omega arith) in
-      let size : length (text_of answer) ≡ length answer * 2 = length_text_of answer in
-      let more_is : tail.length ≡ length (text_of answer) = f.answer ∙ ap length other in
-      record {
-        measured = omega arith;
-        output =
-            ap (with_part from mid) (f.output ∙ ap (λ t. with_front t (part_of from mid)) other)
-            ∙ ap₂ (λ n m. with_part n m (with_front (text_of answer) (part_of n m))) two start ∙ both first (text_of answer) out (omega arith);
-        inside = omega arith;
-      }
+module _ (number : ℕ) (out : List ℕ) {mid : List ℕ} {head : code.Option ℕ} (e : Encodes (number ∷ []) out mid head) (f : most_reply ≤ length out) where
+  head_is : head ≡ Some 2
+  head_is = encodes_room e (omega arith)
 
-pub ruleset write_ways = (written, rules)
+  pub head_fits : IsSome head
+  head_fits = rw head_is
+
+  -- the number's text at the front, and the room behind it
+  module _ {from : ℕ} (h : head ≡ Some from) where
+    two : from ≡ 2
+    two = let s = head_is in cc
+
+    start : mid ≡ with_front (text_of (number ∷ [])) out
+    start = e.output ∙ ap (λ t. with_front t out) (text_within_room (length out) (number ∷ []) (omega arith))
+
+    long : length mid ≡ length out
+    unfolding text_of
+    long = let n = ap length start ∙ length-append (text_of (number ∷ [])) (drop 2 out) in omega (arith, length-drop 2 out)
+
+    left : length (part_of from mid) ≡ length out - 2
+    left = let t = two in let l = long in ap length (take_all (length mid - from) (drop from mid) (omega (arith, length-drop from mid))) ∙ length-drop from mid ∙ omega arith
+
+    module _ (answer : List ℕ) {part : List ℕ} {tail : code.Option ℕ} (g : Encodes answer (part_of from mid) part tail) (l : length answer ≤ most_answer) where
+      tail_is : tail ≡ Some (length answer * 2)
+      tail_is = let n = left in encodes_room g (omega arith)
+
+      pub tail_fits : IsSome tail
+      tail_fits = rw tail_is
+
+      pub written : {more : ℕ} → tail ≡ Some more → Writes number answer out (with_part from mid part) (from + more)
+      unfolding text_of
+      written {more} k =
+          let first = text_of (number ∷ []) in
+          let t : tail ≡ Some (length answer * 2) = tail_is in
+          let more_is : more ≡ length answer * 2 = cc in
+          let room = left in
+          let two_is = two in
+          let other : text_within (length (part_of from mid)) answer ≡ text_of answer = text_within_room (length (part_of from mid)) answer (omega arith) in
+          let size : length (text_of answer) ≡ length answer * 2 = length_text_of answer in
+          record {
+            measured = omega arith;
+            output =
+                ap (with_part from mid) (g.output ∙ ap (λ t. with_front t (part_of from mid)) other)
+                ∙ ap₂ (λ n m. with_part n m (with_front (text_of answer) (part_of n m))) two start ∙ both first (text_of answer) out (omega arith);
+            inside = omega arith;
+          }
 
 -- ---- reply_by
 -- a line's bytes written: what is replied, and the panel after it
@@ -99,28 +121,28 @@ module _ (m : Memory) (line out : List ℕ) {after : List ℕ} {later : Memory} 
       replied number answer (rw (fits, e) f) w (rw (fits, e) q) k
 
 -- a line that was read into a buffer with room for its bytes, or not
-module _ (line room : List ℕ) {after : List ℕ} {d : Decoded} (reads : Decodes line room after d) (h : length line ≤ length room * 2) where
+module _ (line room : List ℕ) {after : List ℕ} {d : Result ℕ DecodeError} (reads : Decodes line room after d) (h : length line ≤ length room * 2) where
   within : bytes_within (length room) line ≡ bytes_of line
   within = bytes_within_room (length room) line (omega arith)
 
   answered : d ≡ answer_of (is_text line) (bytes_of line)
   answered = reads.answer ∙ ap (answer_of (is_text line)) within
 
-  pub unread : not d.ok ≡ true → bytes_of line ≡ none
-  unread n = go (bytes_of line) answered
+  pub unread : {e : DecodeError} → d ≡ Err e → bytes_of line ≡ none
+  unread q = go (bytes_of line) answered
     where
       go : (o : Option (List ℕ)) → d ≡ answer_of (is_text line) o → o ≡ none
       go none e = refl
-      go (some bytes) e = absurd (true≢false (sym n ∙ ap (λ (x : Decoded). not x.ok) e))
+      go (some bytes) e = cc
 
-  pub read : not d.ok ≡ false → bytes_of line ≡ some (take (d.length - 0) after)
-  read n = go (bytes_of line) answered (reads.output ∙ ap (λ o. output_of o room) within)
+  pub read : {n : ℕ} → d ≡ Ok n → bytes_of line ≡ some (take (n - 0) after)
+  read {n} q = go (bytes_of line) answered (reads.output ∙ ap (λ o. output_of o room) within)
     where
-      go : (o : Option (List ℕ)) → d ≡ answer_of (is_text line) o → after ≡ output_of o room → o ≡ some (take (d.length - 0) after)
-      go none e f = absurd (true≢false (ap (λ (x : Decoded). not x.ok) (sym e) ∙ n))
+      go : (o : Option (List ℕ)) → d ≡ answer_of (is_text line) o → after ≡ output_of o room → o ≡ some (take (n - 0) after)
+      go none e f = cc
       go (some bytes) e f =
-          let size : d.length ≡ length bytes = ap (λ (x : Decoded). x.length) e in
-          let all : d.length - 0 ≡ length bytes = omega arith in
+          let size : n ≡ length bytes = cc in
+          let all : n - 0 ≡ length bytes = omega arith in
           ap some (sym (ap₂ take all f ∙ take-append_seam bytes (drop (length bytes) room)))
 
 -- what a call wrote of its answer
@@ -142,15 +164,15 @@ module _ {m : Memory} {call : Option Call} {before after : List ℕ} {later : Me
   pub answer_fits : length before ≡ most_answer → length after ≡ length before → length (take (t.length - 0) after) ≤ most_answer
   answer_fits l e = let h = answer_inside in omega (arith, length-take-le (t.length - 0) after (omega arith))
 
-module _ (m : Memory) (line room out : List ℕ) {room' : List ℕ} {d : Decoded}
+module _ (m : Memory) (line room out : List ℕ) {room' : List ℕ} {d : Result ℕ DecodeError}
     (reads : Decodes line room room' d) (l : length line ≤ most_characters) (h : length line ≤ length room * 2) {written : List ℕ} {n : ℕ} where
-  pub line_refused : Writes 12 [] out written n → not d.ok ≡ true → Replies m line out written m n
+  pub line_refused : {e : DecodeError} → Writes 12 [] out written n → d ≡ Err e → Replies m line out written m n
   line_refused w e = by_frame m line out 12 [] none l (ap text_call (unread line room reads h e)) refl w refl (λ _. refl)
 
-  pub line_run : {before after : List ℕ} {later : Memory} {t : Answer} → Tells m (frame_call (take (d.length - 0) room')) before after later t
-      → Writes t.number (take (t.length - 0) after) out written n → not d.ok ≡ false → Replies m line out written later n
-  line_run {after = after} {t = t} tells w e =
-      by_frame m line out t.number (take (t.length - 0) after) (frame_call (take (d.length - 0) room')) l (ap text_call (read line room reads h e))
+  pub line_run : {to : ℕ} {before after : List ℕ} {later : Memory} {t : Answer} → Tells m (frame_call (take (to - 0) room')) before after later t
+      → Writes t.number (take (t.length - 0) after) out written n → d ≡ Ok to → Replies m line out written later n
+  line_run {to} {after = after} {t = t} tells w e =
+      by_frame m line out t.number (take (t.length - 0) after) (frame_call (take (to - 0) room')) l (ap text_call (read line room reads h e))
       (ap₂ ◌∷◌ (sym tells.numbered) (sym (answer_front tells)))
       w
       tells.stands

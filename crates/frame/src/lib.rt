@@ -20,12 +20,9 @@ pub fn write_reply(number: u8, answer: &[u8], out: &mut [u8]) -> usize
     requires { (most_reply ≤ length out.old) × (length answer.now ≤ most_answer) }
     ensures { Writes number answer.now out.old out.new result }
 {
-    let first = [number];
-    let head = hexadecimal::encode(&first, out);
-    let from = head.length;
+    let from = hexadecimal::encode(&[number], out).unwrap();
     let to = out.len();
-    let tail = hexadecimal::encode(answer, &mut out[from..to]);
-    from + tail.length
+    from + hexadecimal::encode(answer, &mut out[from..to]).unwrap()
 }
 
 // A number alone.
@@ -50,11 +47,9 @@ fn reply_by(
     requires { (length line.now ≤ most_characters) × (length line.now ≤ length frame.old * 2) × (length answer.old ≡ most_answer) × (most_reply ≤ length out.old) }
     ensures { Replies (memory sheet.old staged.old places.old) line.now out.old out.new (memory sheet.new staged.new places.new) result }
 {
-    let decoded = hexadecimal::decode(line, frame);
-    let to = decoded.length;
-    if !decoded.ok {
+    let Ok(to) = hexadecimal::decode(line, frame) else {
         return write_number(refusal::FRAME, out);
-    }
+    };
     let told = kinds::run_frame(sheet, staged, places, &frame[0..to], answer);
     let until = told.length;
     write_reply(told.number, &answer[0..until], out)

@@ -8,13 +8,6 @@ use borrow.Author.Rules.{rules}
 use lib.Dec.{leb}
 use Rattle.hexadecimal.specs.Digits.{between, digit_of, is_digit, Valued, byte_of, character_of}
 
--- ---- is_digit
-pub digit_test : (c : ℕ) → (leb 48 c && leb c 57 || leb 65 c && leb c 70 || leb 97 c && leb c 102) ≡ is_digit c
-unfolding is_digit
-digit_test c = refl
-
-pub ruleset digit_ways = (digit_test, rules)
-
 -- ---- value
 pub both_true : (a b : Bool) → (a && b) ≡ true → (a ≡ true) × (b ≡ true)
 both_true true b e = (refl, e)

@@ -1,5 +1,5 @@
 -- Laws of the text form for callers: letter case, lines that are read, and outputs with room. Assumes nothing.
-use mathlib.Core.Path.{◌≡◌, refl, ap}
+use mathlib.Core.Path.{◌≡◌, refl, ap, ◌∙◌}
 use mathlib.Core.Bool.{Bool, true, false, ◌&&◌, cond}
 use mathlib.Core.List.{List, []}
 use mathlib.Core.Option.{none, some}
@@ -9,7 +9,9 @@ use borrow.Author.Tests.{le-leb, lt-leb, eqb-true}
 use lib.Dec.{eqb}
 use lib.ListN.{length}
 use Rattle.hexadecimal.specs.Digits.{digit_of, is_digit, all_digits}
-use Rattle.hexadecimal.specs.Text.{pair_bytes, bytes_of, text_of, bytes_within, text_within}
+use Rattle.std.specs.Prelude as code
+use Rattle.std.specs.Prelude.{Some}
+use Rattle.hexadecimal.specs.Text.{pair_bytes, bytes_of, text_of, bytes_within, text_within, Encodes}
 use Rattle.hexadecimal.proofs.TextWays.{length_pair_bytes, length_text_of}
 
 -- ---- digits
@@ -68,3 +70,7 @@ bytes_within_room room line h = rw (le-leb (length line / 2) room h)
 pub text_within_room : (room : ℕ) (bytes : List ℕ) → length bytes * 2 ≤ room → text_within room bytes ≡ text_of bytes
 unfolding text_within
 text_within_room room bytes h = let n = length_text_of bytes in rw (le-leb (length (text_of bytes)) room (omega arith))
+
+-- Bytes whose text has room are written.
+pub encodes_room : {bytes before after : List ℕ} {r : code.Option ℕ} → Encodes bytes before after r → length bytes * 2 ≤ length before → r ≡ Some (length bytes * 2)
+encodes_room {bytes} {before} e h = let n = length_text_of bytes in let l = le-leb (length (text_of bytes)) (length before) (omega arith) in e.answer ∙ rw (l, n)

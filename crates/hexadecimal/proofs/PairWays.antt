@@ -1,56 +1,37 @@
 -- What each way through the loops over pairs of digits gives, from what is known on it. Assumes nothing.
 use mathlib.Core.Path.{◌≡◌, refl, sym, ap, ◌∙◌}
-use mathlib.Core.Bool.{Bool, true, ◌&&◌, and_assoc, and-true}
-use mathlib.Core.List.{List, [], ◌∷◌}
+use mathlib.Core.Bool.{true, ◌&&◌, and_assoc, and-true}
+use mathlib.Core.List.{List, [], ◌∷◌, ◌++◌}
 use Prim.Native.Nat.{ℕ, zero, suc, ◌+◌, ◌*◌, ◌/◌, ◌%◌, ◌<◌, ◌≤◌}
 use native.Mathlib.Numerals.{add-one}
 use native.Mathlib.Omega.{arith}
 use mir.Syntax.{w8}
 use mir.Val.{Fits}
 use borrow.Author.Rules.{rules}
-use lib.ListN.{length, get_or, drop, set, length-drop, length-set, drop_of_length-le}
-use lib.Seq.{sets, drop-cons}
+use lib.ListN.{length, get_or, take, drop, set, length-drop, length-set, drop_of_length-le}
+use lib.Seq.{sets, drop-cons, drop-drop}
+use Rattle.std.specs.Char.{is_ascii_hexdigit}
+use Rattle.std.specs.Simd.{first_chunks}
 use Rattle.hexadecimal.specs.Digits.{is_digit, all_digits, byte_of, character_of}
 use Rattle.hexadecimal.specs.Text.{pair_bytes, text_of}
 use Rattle.hexadecimal.proofs.DigitWays.{both_true}
 
 -- ---- all_digits
--- The characters before i are tested.
-pub record Testing (line : List ℕ) (ok : Bool) (i : ℕ) : Type 0 where
-  pub rest : all_digits line ≡ (ok && all_digits (drop i line))
-  pub inside : i ≤ length line
-
-digits_more : (line : List ℕ) (i : ℕ) → i < length line → all_digits (drop i line) ≡ (is_digit (get_or line i 0) && all_digits (drop (i + 1) line))
-unfolding all_digits
-digits_more line i h = rw (add-one, drop-cons line i 0 h)
-
-pub testing_starts : (line : List ℕ) → Testing line true 0
-testing_starts line = record { rest = refl; inside = omega arith }
-
-module _ {line : List ℕ} {ok : Bool} {i : ℕ} (t : Testing line ok i) where
-  pub testing_more : {next : Bool} → i < length line → next ≡ is_digit (get_or line i 0) → Testing line (ok && next) (i + 1)
-  testing_more h e = record {
-    rest =
-        t.rest ∙ ap (λ b. ok && b) (digits_more line i h) ∙ sym (and_assoc ok (is_digit (get_or line i 0)) (all_digits (drop (i + 1) line)))
-        ∙ ap (λ b. ok && b && all_digits (drop (i + 1) line)) (sym e);
-    inside = omega arith;
-  }
-
-  pub testing_done : length line ≤ i → ok ≡ all_digits line
-  unfolding all_digits
-  testing_done h = sym (t.rest ∙ ap (λ s. ok && all_digits s) (drop_of_length-le line h) ∙ and-true ok)
-
-pub ruleset test_ways = (testing_starts, testing_more, testing_done, rules)
+-- One character more is tested.
+pub digits_more : (line : List ℕ) (c : ℕ) → all_digits (line ++ (c ∷ [])) ≡ (all_digits line && is_ascii_hexdigit c)
+unfolding all_digits is_digit
+digits_more [] c = and-true (is_ascii_hexdigit c)
+digits_more (d ∷ s) c = ap (λ b. is_digit d && b) (digits_more s c) ∙ sym (and_assoc (is_digit d) (all_digits s) (is_ascii_hexdigit c))
 
 -- ---- write_bytes
--- The bytes of the first i of n pairs are written.
-pub record Reading (line before : List ℕ) (n : ℕ) (out : List ℕ) (i : ℕ) : Type 0 where
+-- The bytes of the first i pairs are written.
+pub record Reading (line before : List ℕ) (pairs : List (List ℕ)) (out : List ℕ) (i : ℕ) : Type 0 where
   pub written : sets before 0 (pair_bytes line) ≡ sets out i (pair_bytes (drop (i * 2) line))
   pub same_length : length out ≡ length before
   pub digits : all_digits line ≡ true
   pub room : length line ≤ length before * 2
-  pub pairs : (n * 2 ≤ length line) × (length line < n * 2 + 2)
-  pub inside : i ≤ n
+  pub split : pairs ≡ first_chunks 2 (length line / 2) line
+  pub inside : i ≤ length line / 2
 
 -- a character of a line of digits
 digit_at : (line : List ℕ) (i : ℕ) → all_digits line ≡ true → i < length line → is_digit (get_or line i 0) ≡ true
@@ -58,6 +39,14 @@ unfolding all_digits
 digit_at [] i e h = absurd (omega arith)
 digit_at (c ∷ s) zero e h = (both_true (is_digit c) (all_digits s) e).0
 digit_at (c ∷ s) (suc i) e h = digit_at s i (both_true (is_digit c) (all_digits s) e).1 (omega arith)
+
+-- a pair of a line
+pair_at : (line : List ℕ) (n i : ℕ) → i < n → get_or (first_chunks 2 n line) i [] ≡ take 2 (drop (i * 2) line)
+pair_at line zero i h = absurd (omega arith)
+pair_at line (suc n) zero h = refl
+pair_at line (suc n) (suc i) h =
+    let two : suc i * 2 ≡ 2 + i * 2 = omega arith in
+    pair_at (drop 2 line) n i (omega arith) ∙ ap (take 2) (drop-drop (i * 2) 2 line) ∙ rw two
 
 bytes_more : (line : List ℕ) (i : ℕ) → i * 2 + 1 < length line
     → pair_bytes (drop (i * 2) line) ≡ byte_of (get_or line (i * 2) 0) (get_or line (i * 2 + 1) 0) ∷ pair_bytes (drop ((i + 1) * 2) line)
@@ -76,27 +65,36 @@ bytes_none line i h = short (drop (i * 2) line) (rw length-drop (omega arith))
     short (c ∷ []) l = refl
     short (c ∷ d ∷ s) l = absurd (omega arith)
 
-pub reading_starts : (line out : List ℕ) → all_digits line ≡ true → length line ≤ length out * 2 → Reading line out (length line / 2) out 0
-reading_starts line out d r = record { written = refl; same_length = refl; digits = d; room = r; pairs = (omega arith, omega arith); inside = omega arith }
+pub reading_starts : (line out : List ℕ) (pairs : List (List ℕ)) → all_digits line ≡ true → length line ≤ length out * 2
+    → pairs ≡ first_chunks 2 (length line / 2) line → Reading line out pairs out 0
+reading_starts line out pairs d r e = record { written = refl; same_length = refl; digits = d; room = r; split = e; inside = omega arith }
 
-module _ {line before : List ℕ} {n : ℕ} {out : List ℕ} {i : ℕ} (t : Reading line before n out i) where
-  pub high_digit : i < n → is_digit (get_or line (i * 2) 0) ≡ true
-  high_digit h = digit_at line (i * 2) t.digits (omega arith)
+module _ {line before : List ℕ} {pairs : List (List ℕ)} {out : List ℕ} {i : ℕ} (t : Reading line before pairs out i) where
+  -- the characters of a pair
+  pair_is : i < length line / 2 → get_or pairs i [] ≡ get_or line (i * 2) 0 ∷ get_or line (i * 2 + 1) 0 ∷ []
+  pair_is h =
+      ap (λ p. get_or p i []) t.split ∙ pair_at line (length line / 2) i h
+      ∙ ap (take 2) (drop-cons line (i * 2) 0 (omega arith) ∙ ap (λ s. get_or line (i * 2) 0 ∷ s) (drop-cons line (suc (i * 2)) 0 (omega arith))) ∙ rw add-one
 
-  pub low_digit : i < n → is_digit (get_or line (i * 2 + 1) 0) ≡ true
-  low_digit h = digit_at line (i * 2 + 1) t.digits (omega arith)
+  pub high_digit : i < length line / 2 → is_digit (get_or (get_or pairs i []) 0 0) ≡ true
+  high_digit h = ap (λ p. is_digit (get_or p 0 0)) (pair_is h) ∙ digit_at line (i * 2) t.digits (omega arith)
 
-  pub reading_more : {b : ℕ} → i < n → b ≡ byte_of (get_or line (i * 2) 0) (get_or line (i * 2 + 1) 0) → Reading line before n (set out i b) (i + 1)
-  reading_more {b} h e = record {
-    written = t.written ∙ ap (sets out i) (bytes_more line i (omega arith)) ∙ rw (add-one i, e);
-    same_length = length-set out i b ∙ t.same_length;
-    digits = t.digits;
-    room = t.room;
-    pairs = t.pairs;
-    inside = omega arith;
-  }
+  pub low_digit : i < length line / 2 → is_digit (get_or (get_or pairs i []) 1 0) ≡ true
+  low_digit h = ap (λ p. is_digit (get_or p 1 0)) (pair_is h) ∙ digit_at line (i * 2 + 1) t.digits (omega arith)
 
-  pub reading_done : n ≤ i → out ≡ sets before 0 (pair_bytes line)
+  pub reading_more : {b : ℕ} → i < length line / 2 → b ≡ byte_of (get_or (get_or pairs i []) 0 0) (get_or (get_or pairs i []) 1 0) → Reading line before pairs (set out i b) (i + 1)
+  reading_more {b} h e =
+      let f : b ≡ byte_of (get_or line (i * 2) 0) (get_or line (i * 2 + 1) 0) = e ∙ ap (λ p. byte_of (get_or p 0 0) (get_or p 1 0)) (pair_is h) in
+      record {
+        written = t.written ∙ ap (sets out i) (bytes_more line i (omega arith)) ∙ rw (add-one i, f);
+        same_length = length-set out i b ∙ t.same_length;
+        digits = t.digits;
+        room = t.room;
+        split = t.split;
+        inside = omega arith;
+      }
+
+  pub reading_done : length line / 2 ≤ i → out ≡ sets before 0 (pair_bytes line)
   reading_done h = sym (t.written ∙ ap (sets out i) (bytes_none line i (omega arith)))
 
   pub reading_length : length out ≡ length before

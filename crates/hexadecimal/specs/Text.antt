@@ -1,9 +1,10 @@
 -- The bytes that a line of digit pairs stands for, the text of bytes, and what reading and writing them answer. Assumes nothing.
-use Rattle.std.specs.Prelude.{ℕ, ◌/◌, ◌%◌, ◌≤◌, ◌≡◌, Bool, true, false, ◌&&◌, cond, List, [], ◌∷◌, ◌++◌, leb, eqb, length, drop}
+use Rattle.std.specs.Prelude.{ℕ, ◌/◌, ◌%◌, ◌≤◌, ◌≡◌, Bool, ◌&&◌, cond, List, [], ◌∷◌, ◌++◌, leb, eqb, length, drop, Result, Ok, Err, IfOk, Some, None, IfSome}
+use Rattle.std.specs.Prelude as code
 use Rattle.std.proofs.Math.Option.{Option, none, some}
 use Rattle.hexadecimal.specs.Digits.{all_digits, byte_of, character_of}
-use Rattle.hexadecimal.specs.declared.Decoded.{Decoded}
-use Rattle.hexadecimal.specs.declared.Encoded.{Encoded}
+use Rattle.hexadecimal.specs.declared.DecodeError.{DecodeError}
+use Rattle.hexadecimal.specs.declared.DecodeError.TheVariants.{NotPairs, NoRoom}
 
 -- the byte of each pair of characters
 unfoldable pub pair_bytes : List ℕ → List ℕ
@@ -33,27 +34,26 @@ unfoldable pub bytes_within : ℕ → List ℕ → Option (List ℕ)
 bytes_within room line = cond (leb (length line / 2) room) (bytes_of line) none
 
 -- what is answered of a line, by whether it is made of digit pairs and the bytes that it is read into
-abbrev pub answer_of : Bool → Option (List ℕ) → Decoded
-answer_of digits none = record { ok = false; digits = digits; length = 0 }
-answer_of digits (some bytes) = record { ok = true; digits = digits; length = length bytes }
+abbrev pub answer_of : Bool → Option (List ℕ) → Result ℕ DecodeError
+answer_of pairs none = Err (cond pairs NoRoom NotPairs)
+answer_of pairs (some bytes) = Ok (length bytes)
 
 abbrev pub output_of : Option (List ℕ) → List ℕ → List ℕ
 output_of none before = before
 output_of (some bytes) before = with_front bytes before
 
 -- A line read into an output: the answer, and the whole output after it.
-pub record Decodes (line before after : List ℕ) (r : Decoded) : Type 0 where
+pub record Decodes (line before after : List ℕ) (r : Result ℕ DecodeError) : Type 0 where
   pub answer : r ≡ answer_of (is_text line) (bytes_within (length before) line)
   pub output : after ≡ output_of (bytes_within (length before) line) before
-  pub inside : r.length ≤ length before
+  pub inside : IfOk r (λ n. n ≤ length before)
 
 -- The bytes' text, or nothing where an output of this length has no room for it.
 unfoldable pub text_within : ℕ → List ℕ → List ℕ
 text_within room bytes = cond (leb (length (text_of bytes)) room) (text_of bytes) []
 
--- Bytes written as text into an output: whether they had room, the text's length, and the whole output after it.
-pub record Encodes (bytes before after : List ℕ) (r : Encoded) : Type 0 where
-  pub fits : r.ok ≡ leb (length (text_of bytes)) (length before)
-  pub answer : r.length ≡ length (text_within (length before) bytes)
+-- Bytes written as text into an output: the text's length where it has room, and the whole output after it.
+pub record Encodes (bytes before after : List ℕ) (r : code.Option ℕ) : Type 0 where
+  pub answer : r ≡ cond (leb (length (text_of bytes)) (length before)) (Some (length (text_of bytes))) None
   pub output : after ≡ with_front (text_within (length before) bytes) before
-  pub inside : r.length ≤ length before
+  pub inside : IfSome r (λ n. n ≤ length before)

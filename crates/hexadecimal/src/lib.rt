@@ -7,70 +7,38 @@ ghost use Rattle.hexadecimal.specs.Text.{Decodes, Encodes};
 mod digit;
 mod pairs;
 
-// Whether a line was read, whether it is made of digit pairs at all, and how many bytes it stands for; 0 where it was not read.
-// A line of digit pairs that was not read had no room.
-#[derive(Drop)]
-pub struct Decoded {
-    pub ok: bool,
-    pub digits: bool,
-    pub length: usize,
+// Why a line was not read.
+#[derive(Clone, Copy, Debug, PartialEq, Eq)]
+pub enum DecodeError {
+    // It is not made of digit pairs.
+    NotPairs,
+    // It is, and the output is too short for its bytes.
+    NoRoom,
 }
 
-// Whether bytes were written, and the length of their text; 0 where they had no room.
-#[derive(Drop)]
-pub struct Encoded {
-    pub ok: bool,
-    pub length: usize,
-}
-
-// The bytes that the line stands for, at the front of the output. Nothing is written where the line is not made of digit
-// pairs, or where the output is too short for the bytes.
-pub fn decode(line: &[u8], out: &mut [u8]) -> Decoded
+// The bytes that the line stands for, at the front of the output; how many. Nothing is written of a line that is not read.
+#[tactic(auto, unfolding(crate::specs::Text::bytes_within, crate::specs::Text::bytes_of))]
+pub fn decode(line: &[u8], out: &mut [u8]) -> Result<usize, DecodeError>
     ensures { Decodes line.now out.old out.new result }
 {
-    if line.len() % 2 != 0 {
-        return Decoded {
-            ok: false,
-            digits: false,
-            length: 0,
-        };
-    }
-    if !pairs::all_digits(line) {
-        return Decoded {
-            ok: false,
-            digits: false,
-            length: 0,
-        };
+    if line.len() % 2 != 0 || !pairs::all_digits(line) {
+        return Err(DecodeError::NotPairs);
     }
     let length = line.len() / 2;
     if out.len() < length {
-        return Decoded {
-            ok: false,
-            digits: true,
-            length: 0,
-        };
+        return Err(DecodeError::NoRoom);
     }
     pairs::write_bytes(line, out);
-    Decoded {
-        ok: true,
-        digits: true,
-        length: length,
-    }
+    Ok(length)
 }
 
-// The text of the bytes, at the front of the output; nothing where the output is too short.
-pub fn encode(bytes: &[u8], out: &mut [u8]) -> Encoded
+// The text of the bytes, at the front of the output; how long it is. Nothing is written where the output is too short.
+pub fn encode(bytes: &[u8], out: &mut [u8]) -> Option<usize>
     ensures { Encodes bytes.now out.old out.new result }
 {
     if out.len() / 2 < bytes.len() {
-        return Encoded {
-            ok: false,
-            length: 0,
-        };
+        return None;
     }
     pairs::write_text(bytes, out);
-    Encoded {
-        ok: true,
-        length: bytes.len() * 2,
-    }
+    Some(bytes.len() * 2)
 }
