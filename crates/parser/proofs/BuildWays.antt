@@ -1,4 +1,4 @@
--- What each way through `read_row` and `build_into` gives, from what is known on it. Assumes nothing.
+-- What each way through `of_row` and `build_into` gives, from what is known on it. Assumes nothing.
 use mathlib.Core.Path.{◌≡◌, refl, sym, ap, subst, ◌∙◌}
 use mathlib.Core.Bool.{Bool}
 use mathlib.Core.Option.{some}
@@ -17,8 +17,7 @@ use Rattle.disambiguation.specs.LeftToRight.{bottom, State, due, have, stuck, fi
 use Rattle.disambiguation.proofs.LeftToRight.{run_append}
 use Rattle.parser.specs.Build.{record_in, built}
 use Rattle.parser.specs.Notes.{notes_of, laid_out, Inside}
-use Rattle.parser.specs.Reading.{next, Goes, Noted, Takeable, Takes, Buildable, Beginning, Reads}
-use Rattle.parser.specs.declared.build.Front.{Front}
+use Rattle.parser.specs.Reading.{next, Goes, Held, IsHeld, Noted, Takeable, Takes, Buildable, Beginning, Reads}
 use Rattle.parser.proofs.Shares.{share_small}
 use Rattle.parser.proofs.NoteLaws.{length_notes_of}
 use Rattle.parser.proofs.Closing.{finished_notes}
@@ -43,24 +42,20 @@ module _ (ops : Operators) (closes : ℕ → ℕ → Bool) where
   unfolding made parse
   made_finishes row t e = e
 
--- ---- read_row
-module _ (ops : Operators) (closes : ℕ → ℕ → Bool) (row words₀ : List ℕ) where
+-- ---- of_row
+module _ (ops : Operators) (closes : ℕ → ℕ → Bool) (row : List ℕ) where
   -- the tokens before i are taken
-  pub record Reading (words : List ℕ) (f : Front) (i : ℕ) : Type 0 where
-    pub stands : Noted ops words f (after ops closes (take i row))
-    pub first_inside : f.first ≤ f.count
-    pub few : f.count ≤ i
+  pub record Reading (h : Held) (i : ℕ) : Type 0 where
+    pub stands : Noted ops h (after ops closes (take i row))
+    pub few : h.count ≤ i
     pub inside : i ≤ length row
-    pub same_length : length words ≡ length words₀
 
-  pub reading_starts : length words₀ ≤ most_tokens → Reading words₀ (record { count = 0; first = 0 }) 0
-  reading_starts size =
+  pub reading_starts : (words : List ℕ) → length words ≡ most_tokens → Reading (record { words = words; count = 0; first = 0 }) 0
+  reading_starts words full =
       record {
-        stands = record { noted = refl; begins = tt; over = tt; size = size; inside = omega arith };
-        first_inside = omega arith;
+        stands = record { noted = refl; begins = tt; over = tt; held = record { ordered = omega arith; inside = omega arith; full = full } };
         few = omega arith;
         inside = omega arith;
-        same_length = refl;
       }
 
   one_more : (i : ℕ) → i < length row → after ops closes (take (i + 1) row) ≡ next ops closes (get_or row i 0) (after ops closes (take i row))
@@ -76,33 +71,25 @@ module _ (ops : Operators) (closes : ℕ → ℕ → Bool) (row words₀ : List 
       (sym (ap (λ tokens. finish (after ops closes tokens)) split ∙ ap finish (run_append closes (class ops) (take i row) (get_or row i 0 ∷ ahead) (due bottom)))
       ∙ made_finishes ops closes (row ++ b.rest) b.tree b.makes)
 
-  module _ {words : List ℕ} {f : Front} {i : ℕ} (r : Reading words f i) where
-    pub token_takeable : i < length row → Beginning ops closes row → Takeable ops closes (get_or row i 0) words f
-    token_takeable h b = record { state = after ops closes (take i row); stands = r.stands; goes = goes i h b }
+  module _ {h : Held} {i : ℕ} (r : Reading h i) where
+    pub token_takeable : i < length row → Beginning ops closes row → Takeable ops closes (get_or row i 0) h
+    token_takeable l b = record { state = after ops closes (take i row); stands = r.stands; goes = goes i l b }
 
-    pub token_room : i < length row → length row ≤ length words₀ → f.count < length words
-    token_room h l = omega (arith, r.few, r.same_length)
+    pub token_room : i < length row → length row ≤ most_tokens → h.count < most_tokens
+    token_room l few = omega (arith, r.few)
 
-    pub words_same : length words ≡ length words₀
-    words_same = r.same_length
-
-    pub token_first : f.first ≤ f.count
-    token_first = r.first_inside
-
-    pub reading_more : {words' : List ℕ} {g : Front} → i < length row → Beginning ops closes row → Takes ops closes (get_or row i 0) words f words' g → Reading words' g (i + 1)
-    reading_more {words'} {g} h b t =
+    pub reading_more : {h' : Held} → i < length row → Beginning ops closes row → Takes ops closes (get_or row i 0) h h' → Reading h' (i + 1)
+    reading_more {h'} l b t =
         record {
-          stands = subst (λ m. Noted ops words' g m) (sym (one_more i h)) (t.taken (after ops closes (take i row)) r.stands (goes i h b));
-          first_inside = t.first_inside;
+          stands = subst (λ m. Noted ops h' m) (sym (one_more i l)) (t.taken (after ops closes (take i row)) r.stands (goes i l b));
           few = omega (arith, t.counted, r.few, share_small (get_or row i 0));
           inside = omega arith;
-          same_length = t.same_length ∙ r.same_length;
         }
 
-    pub reading_done : length row ≤ i → Reads ops closes row words f
-    reading_done h = record { stands = subst (λ tokens. Noted ops words f (after ops closes tokens)) (take_all i row h) r.stands }
+    pub reading_done : length row ≤ i → Reads ops closes row h
+    reading_done l = record { stands = subst (λ tokens. Noted ops h (after ops closes tokens)) (take_all i row l) r.stands }
 
-pub ruleset read_ways = (reading_starts, token_takeable, token_room, words_same, token_first, reading_more, reading_done, rules)
+pub ruleset read_ways = (reading_starts, token_takeable, token_room, reading_more, reading_done, rules)
 
 -- ---- build_into
 -- a row is a beginning of itself
@@ -113,31 +100,31 @@ module _ (ops : Operators) (closes : ℕ → ℕ → Bool) (row out : List ℕ) 
   fills : length (record_of b.tree) ≡ length out
   fills = b.measured ∙ sym size
 
-  module _ {words : List ℕ} {f : Front} (r : Reads ops closes row words f) where
+  module _ {h : Held} (r : Reads ops closes row h) where
     -- what waits at the end closes there, and the notes are those of the tree
-    counted : take f.count words ≡ notes_of 0 b.tree
+    counted : take h.count h.words ≡ notes_of 0 b.tree
     counted = r.stands.noted ∙ finished_notes (after ops closes row) b.tree (made_finishes ops closes row b.tree b.makes)
 
-    long : f.count ≡ length (record_of b.tree)
+    long : h.count ≡ length (record_of b.tree)
     long = count_is r.stands ∙ ap length (sym r.stands.noted ∙ counted) ∙ length_notes_of 0 b.tree
 
-    noted : take (length (record_of b.tree)) words ≡ notes_of 0 b.tree
-    noted = ap (λ n. take n words) (sym long) ∙ counted
+    noted : take (length (record_of b.tree)) h.words ≡ notes_of 0 b.tree
+    noted = ap (λ n. take n h.words) (sym long) ∙ counted
 
     few : length (record_of b.tree) ≤ most_tokens
-    few = omega (arith, long, r.stands.inside, r.stands.size)
+    few = omega (arith, long, r.stands.held.inside)
 
     pub out_few : length out ≤ most_tokens
     out_few = omega (arith, few, fills)
 
-    pub out_enough : length out ≤ length words
-    out_enough = enough_words ops b.tree b.over few words (length (record_of b.tree)) noted out fills
+    pub out_enough : length out ≤ length h.words
+    out_enough = enough_words ops b.tree b.over few h.words (length (record_of b.tree)) noted out fills
 
-    pub out_inside : Inside (length out) (take (length out) words) 0
-    out_inside = words_inside ops b.tree b.over few words (length (record_of b.tree)) noted out fills
+    pub out_inside : Inside (length out) (take (length out) h.words) 0
+    out_inside = words_inside ops b.tree b.over few h.words (length (record_of b.tree)) noted out fills
 
-    pub out_built : {out' : List ℕ} → out' ≡ laid_out (take (length out) words) 0 out → out' ≡ built ops closes row
+    pub out_built : {out' : List ℕ} → out' ≡ laid_out (take (length out) h.words) 0 out → out' ≡ built ops closes row
     unfolding built
-    out_built e = e ∙ words_laid ops b.tree b.over few words (length (record_of b.tree)) noted out fills ∙ sym (ap record_in b.makes)
+    out_built e = e ∙ words_laid ops b.tree b.over few h.words (length (record_of b.tree)) noted out fills ∙ sym (ap record_in b.makes)
 
 pub ruleset build_ways = (whole_begins, out_few, out_enough, out_inside, out_built, rules)

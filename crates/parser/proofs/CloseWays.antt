@@ -2,38 +2,22 @@
 use mathlib.Core.Path.{◌≡◌, refl, sym, ap, ◌∙◌}
 use mathlib.Core.Bool.{Bool, true, false, not, ◌&&◌, true≢false}
 use mathlib.Core.List.{List}
-use Prim.Native.Nat.{ℕ, ◌-◌, ◌<◌, ◌≤◌}
+use Prim.Native.Nat.{ℕ, ◌+◌, ◌-◌, ◌<◌, ◌≤◌}
 use native.Mathlib.Omega.{arith}
 use lib.Dec.{ltb}
 use lib.ListN.{length, get_or, set, length-set}
 use lib.Seq.{take-suc-set}
 use borrow.Author.Tests.{lt-ltb, le-ltb, ne_eqb, not-true, not-false}
 use borrow.Author.Rules.{rules}
-use Rattle.expression.specs.Limits.{most_operators}
+use Rattle.expression.specs.Limits.{most_operators, most_tokens}
 use Rattle.expression.specs.Token.{opening, closing, Operators}
 use Rattle.disambiguation.specs.LeftToRight.{after, ahead, operator_of, Stack, bottom, opened, waiting, remains}
 use Rattle.disambiguation.proofs.BelowLaws.{and_true}
 use Rattle.parser.specs.Notes.{byte_in, back_in}
-use Rattle.parser.specs.Reading.{closed_by, ends, Waits, SomeWait, Closes, Adds}
+use Rattle.parser.specs.Reading.{closed_by, ends, Waits, SomeWait, Closes, Held, IsHeld, Adds}
 use Rattle.parser.proofs.Closing.{length_waiting, length_led, waits_length, top_note}
 
--- ---- closes_at
-module _ (closes : ℕ → ℕ → Bool) (c a : ℕ) where
-  pub bracket_stays : most_operators ≤ a → false ≡ ends closes c a
-  unfolding ends
-  bracket_stays h = simp (le-ltb a most_operators h)
-
-  pub all_close : a < most_operators → c ≡ closing → true ≡ ends closes c a
-  unfolding ends
-  all_close h e = rw (e, lt-ltb a most_operators h)
-
-  pub closes_by : {r : Bool} → a < most_operators → (c ≡ closing → ⊥) → r ≡ closes a c → r ≡ ends closes c a
-  unfolding ends
-  closes_by h n e = e ∙ sym (rw (lt-ltb a most_operators h, ne_eqb c closing n) refl)
-
-pub ruleset closes_at_ways = (bracket_stays, all_close, closes_by, rules)
-
--- ---- close
+-- ---- close_waiting
 module _ (ops : Operators) (closes : ℕ → ℕ → Bool) (c : ℕ) (words : List ℕ) (from : ℕ) where
   -- some has closed, and what is left of what waits now is what is to be left
   pub record Closing (first : ℕ) : Type 0 where
@@ -45,16 +29,19 @@ module _ (ops : Operators) (closes : ℕ → ℕ → Bool) (c : ℕ) (words : Li
   closing_starts w = record { some_wait = w; left = λ u v. (u, v, refl); lower = omega arith }
 
   module _ {first : ℕ} (k : Closing first) where
-    pub before_inside : 0 < first → first - 1 < length words
-    before_inside h = omega (arith, k.some_wait.stands.inside)
+    pub before_inside : length words ≤ most_tokens → 0 < first → first - 1 < most_tokens
+    before_inside few h = omega (arith, k.some_wait.stands.inside)
 
     -- what closes is an operator, and what waits below it begins where its word says
-    module _ {byte : ℕ} {b : Bool} (positive : 0 < first) (is_byte_lem : byte ≡ byte_in (get_or words (first - 1) 0)) (told : b ≡ ends closes c byte) where
-      abbrev word : ℕ
-      word = get_or words (first - 1) 0
+    module _ {word byte : ℕ} {b : Bool} (positive : 0 < first) (is_word : word ≡ get_or words (first - 1) 0) (is_byte : byte ≡ byte_in word) (told : b ≡ ends closes c byte) where
+      is_byte_lem : byte ≡ byte_in (get_or words (first - 1) 0)
+      is_byte_lem = rw is_word at is_byte
+
+      abbrev here : ℕ
+      here = get_or words (first - 1) 0
 
       lower_stack : ends closes c byte ≡ true → (s : Stack) → Waits ops words first s
-          → (u : Stack) × Waits ops words (first - 1 - back_in word) u × (back_in word < first) × (remains (closed_by closes c) u ≡ remains (closed_by closes c) s)
+          → (u : Stack) × Waits ops words (first - 1 - back_in here) u × (back_in here < first) × (remains (closed_by closes c) u ≡ remains (closed_by closes c) s)
       unfolding ends
       lower_stack e bottom w = absurd (top_note ops words first positive bottom w)
       lower_stack e (opened s) w =
@@ -65,18 +52,19 @@ module _ (ops : Operators) (closes : ℕ → ℕ → Bool) (c : ℕ) (words : Li
           let closed : closed_by closes c (operator_of f) ≡ true = ap (closed_by closes c) (sym (is_byte_lem ∙ is)) ∙ (and_true (ltb byte most_operators) (closed_by closes c byte) e).1 in
           (s, below, low, sym (rw closed refl))
 
-      pub back_inside : {r : ℕ} → not b ≡ false → r ≡ back_in word → r ≤ first - 1
-      back_inside e q =
+      pub back_inside : {r : ℕ} → b ≡ true → r ≡ back_in word → r ≤ first - 1
+      back_inside {r} e q =
           let w = k.some_wait in
-          let (u, v, low, same) = lower_stack (sym told ∙ not-false b e) w.stack w.stands in
-          omega (arith, q, low)
+          let (u, v, low, same) = lower_stack (sym told ∙ e) w.stack w.stands in
+          let back : r ≡ back_in here = rw is_word at q in omega (arith, back, low)
 
-      pub closing_more : {r : ℕ} → not b ≡ false → r ≡ back_in word → Closing (first - 1 - r)
-      closing_more e q =
-          let yes = sym told ∙ not-false b e in
+      pub closing_more : {r : ℕ} → b ≡ true → r ≡ back_in word → Closing (first - 1 - r)
+      closing_more {r} e q =
+          let back : r ≡ back_in here = rw is_word at q in
+          let yes = sym told ∙ e in
           let w = k.some_wait in
           let (u, v, low, same) = lower_stack yes w.stack w.stands in
-          rw q (record {
+          rw back (record {
             some_wait = record { stack = u; stands = v };
             left = λ x y.
                 let (x₁, y₁, e₁) = k.left x y in
@@ -95,12 +83,12 @@ module _ (ops : Operators) (closes : ℕ → ℕ → Bool) (c : ℕ) (words : Li
           let open_still : closed_by closes c (operator_of f) ≡ false = rw (lt-ltb (operator_of f) most_operators small) at e' in
           rw open_still refl
 
-      pub closing_stops : not b ≡ true → Closes ops closes c words from first
+      pub closing_stops : b ≡ false → Closes ops closes c words from first
       closing_stops e =
           record {
             left = λ s w.
                 let (u, v, same) = k.left s w in
-                rw (← (same)) (rw (stays (sym told ∙ not-true b e) u v) v);
+                rw (← (same)) (rw (stays (sym told ∙ e) u v) v);
             lower = k.lower;
           }
 
@@ -119,10 +107,16 @@ module _ (ops : Operators) (closes : ℕ → ℕ → Bool) (c : ℕ) (words : Li
           lower = k.lower;
         }
 
-pub ruleset close_ways = (closing_starts, before_inside, closing_more, back_inside, closing_stops, closing_ends, rules)
+pub ruleset close_ways = (closing_starts, before_inside, back_inside, closing_more, closing_stops, closing_ends, rules)
 
--- ---- add
-pub adds : (w : ℕ) (words : List ℕ) (count : ℕ) → count < length words → Adds w words count (set words count w)
-adds w words count h = record { added = take-suc-set words count w h; same_length = length-set words count w }
+-- ---- push
+pub adds : (w first : ℕ) (h : Held) → IsHeld h → h.count < most_tokens → first ≤ h.count → Adds w first h (record { words = set h.words h.count w; count = h.count + 1; first = first })
+adds w first h k room before =
+    record {
+      added = take-suc-set h.words h.count w (omega (arith, k.full));
+      counted = refl;
+      first_is = refl;
+      held = record { ordered = omega arith; inside = omega arith; full = length-set h.words h.count w ∙ k.full };
+    }
 
-pub ruleset add_ways = (adds, rules)
+pub ruleset push_ways = (adds, rules)

@@ -58,7 +58,7 @@ shut_notes s t = append_assoc (notes_below s) (note opening 1 0 ∷ []) (notes_o
 -- ---- what stands right before an operand
 module _ (ops : Operators) (words : List ℕ) (first : ℕ) where
   pub waits_length : {s : Stack} → Waits ops words first s → first ≡ length (notes_below s)
-  waits_length w = sym (length-take-le first words (omega (arith, w.size, w.inside))) ∙ ap length w.noted
+  waits_length w = sym (length-take-le first words w.inside) ∙ ap length w.noted
 
   -- the word before the place, and what waits below it
   abbrev pub Top : ℕ → Stack → Type 0
@@ -89,7 +89,6 @@ module _ (ops : Operators) (words : List ℕ) (first : ℕ) where
               ∙ ap (take (first - 1 - back_in (get_or words (first - 1) 0))) (w.noted ∙ append_assoc (notes_below s) (notes_of 1 l) (note o 0 m ∷ []))
               ∙ take_at (notes_below s) (notes_of 1 l ++ note o 0 m ∷ []) (first - 1 - back_in (get_or words (first - 1) 0)) (sym at);
           over = w.over.2;
-          size = w.size;
           inside = omega (arith, w.inside);
         },
       )
@@ -108,7 +107,6 @@ module _ (ops : Operators) (words : List ℕ) (first : ℕ) where
               ∙ ap (take (first - 1 - back_in (get_or words (first - 1) 0))) w.noted
               ∙ take_at (notes_below s) (note p 1 0 ∷ []) (first - 1 - back_in (get_or words (first - 1) 0)) (sym at);
           over = w.over.1;
-          size = w.size;
           inside = omega (arith, w.inside);
         },
       )

@@ -40,24 +40,31 @@ module _ (words : List ℕ) (out : List ℕ) where
     places : i < length out' → Inside (length out) (get_or words i 0 ∷ drop (suc i) (take (length out) words)) at
     places h = subst (λ (ws : List ℕ). Inside (length out) ws at) (next h) y.inside
 
-    module _ {p b : ℕ} (h : i < length out') (e : p ≡ places_in (get_or words i 0)) (f : b ≡ back_in (get_or words i 0)) where
+    module _ {w p b : ℕ} (h : i < length out') (is_word : w ≡ get_or words i 0) (is_places : p ≡ places_in w) (is_back : b ≡ back_in w) where
+      e : p ≡ places_in (get_or words i 0)
+      e = rw is_word at is_places
+
+      f : b ≡ back_in (get_or words i 0)
+      f = rw is_word at is_back
+
       pub has_place : b + 1 ≤ at + p
       unfolding Inside
-      has_place = omega (arith, (places h).0)
+      has_place = omega (arith, (places h).0, e, f)
 
       pub place_inside : at + p - (b + 1) < length out'
       unfolding Inside
-      place_inside = omega (arith, (places h).1, y.same_length)
+      place_inside = omega (arith, (places h).1, y.same_length, e, f)
 
-      pub laying_more : {c : ℕ} → p < 0x100 → c ≡ byte_in (get_or words i 0) → Laying (set out' (at + p - (b + 1)) c) (at + p) (i + 1)
+      pub laying_more : {c : ℕ} → p < 0x100 → c ≡ byte_in w → Laying (set out' (at + p - (b + 1)) c) (at + p) (i + 1)
       unfolding laid_out Inside
-      laying_more {c} g q =
+      laying_more {c} g is_byte =
+          let q : c ≡ byte_in (get_or words i 0) = rw is_word at is_byte in
           let one : i + 1 ≡ suc i = add-one i in
           let back : b + 1 ≡ suc b = add-one b in
           record {
             rest =
                 ap (λ (n : ℕ). laid_out (drop n (take (length out) words)) (at + p) (set out' (at + p - (b + 1)) c)) one
-                ∙ (cc)
+                ∙ cc (q, e, f)
                 ∙ ap (λ (ws : List ℕ). laid_out ws at out') (sym (next h))
                 ∙ y.rest;
             inside = rw (one, e) (places h).2;

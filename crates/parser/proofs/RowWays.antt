@@ -40,22 +40,11 @@ module _ (n c : ℕ) where
 
 pub ruleset strange_ways = (strange_test, rules)
 
--- ---- any_strange, has_stranger
-abbrev pub strange : ℕ → ℕ → Bool
-strange n c = strange_in_row (class (operators n []) c)
-
-pub looked_strange : (n : ℕ) (row : List ℕ) {at : ℕ} {b : Bool} → Looked (strange n) row b at → length row ≤ at → b ≡ stranger_in_row (operators n []) row
-unfolding stranger_in_row
-looked_strange n row l h = looked_all (strange n) row l h
-
-pub ruleset any_strange_ways = (looked_none, looked_more, looked_strange, rules)
-
+-- ---- has_stranger
 -- strangers are told by the count of operators alone
 pub stranger_by_count : (ops : Operators) (row : List ℕ) {n : ℕ} {r : Bool} → n ≡ ops.count → r ≡ stranger_in_row (operators n []) row → r ≡ stranger_in_row ops row
 unfolding stranger_in_row
 stranger_by_count ops row e q = q ∙ ap (λ m. stranger_in_row (operators m []) row) e ∙ any_same _ _ (by_count strange_in_row refl ops []) row
-
-pub ruleset stranger_ways = (stranger_by_count, rules)
 
 -- ---- row_number
 module _ (ops : Operators) (row : List ℕ) where

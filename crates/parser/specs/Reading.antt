@@ -9,7 +9,19 @@ use Rattle.expression.specs.Checks.{record_bytes}
 use Rattle.sheet.specs.Layout.{prefix_in}
 use Rattle.disambiguation.specs.LeftToRight.{after, ahead, Stack, bottom, opened, waiting, State, due, have, stuck, remains, everything, before, step, state_after, made}
 use Rattle.parser.specs.Notes.{note, raised, notes_below, notes_at}
-use Rattle.parser.specs.declared.build.Front.{Front}
+
+-- What is held of a row while it is read from the left: a word for each token so far, in a buffer; how many these are; and which is the first of the operand
+-- that was read last. Right before that one stands what waits nearest.
+pub record Held : Type 0 where
+  pub words : List ℕ
+  pub count : ℕ
+  pub first : ℕ
+
+-- what is always true of it
+pub record IsHeld (h : Held) : Type 0 where
+  pub ordered : h.first ≤ h.count
+  pub inside : h.count ≤ most_tokens
+  pub full : length h.words ≡ most_tokens
 
 -- a token's share of the record: none for a closing bracket
 unfoldable pub share : ℕ → ℕ
@@ -59,7 +71,6 @@ ends closes c a = ltb a most_operators && closed_by closes c a
 pub record Waits (ops : Operators) (words : List ℕ) (first : ℕ) (s : Stack) : Type 0 where
   pub noted : take first words ≡ notes_below s
   pub over : OverBelow ops s
-  pub size : length words ≤ most_tokens
   pub inside : first ≤ length words
 
 pub record SomeWait (ops : Operators) (words : List ℕ) (first : ℕ) : Type 0 where
@@ -67,12 +78,11 @@ pub record SomeWait (ops : Operators) (words : List ℕ) (first : ℕ) : Type 0 
   pub stands : Waits ops words first stack
 
 -- The words before the count are the notes of the state.
-pub record Noted (ops : Operators) (words : List ℕ) (f : Front) (m : State) : Type 0 where
-  pub noted : take f.count words ≡ notes_at m
-  pub begins : Begins m f.first
+pub record Noted (ops : Operators) (h : Held) (m : State) : Type 0 where
+  pub noted : take h.count h.words ≡ notes_at m
+  pub begins : Begins m h.first
   pub over : OverAt ops m
-  pub size : length words ≤ most_tokens
-  pub inside : f.count ≤ length words
+  pub held : IsHeld h
 
 module _ (ops : Operators) (closes : ℕ → ℕ → Bool) (c : ℕ) where
   -- Where c came, the words before `first` are those of what still waits.
@@ -81,37 +91,33 @@ module _ (ops : Operators) (closes : ℕ → ℕ → Bool) (c : ℕ) where
     pub lower : first ≤ from
 
   -- The token c can be taken, and it has been taken.
-  pub record Takeable (words : List ℕ) (f : Front) : Type 0 where
+  pub record Takeable (h : Held) : Type 0 where
     pub state : State
-    pub stands : Noted ops words f state
+    pub stands : Noted ops h state
     pub goes : Goes (next ops closes c state)
 
-  pub record Takes (words : List ℕ) (f : Front) (words' : List ℕ) (g : Front) : Type 0 where
-    pub taken : (m : State) → Noted ops words f m → Goes (next ops closes c m) → Noted ops words' g (next ops closes c m)
-    pub counted : g.count ≡ f.count + share c
-    pub first_inside : g.first ≤ g.count
-    pub same_length : length words' ≡ length words
+  pub record Takes (h h' : Held) : Type 0 where
+    pub taken : (m : State) → Noted ops h m → Goes (next ops closes c m) → Noted ops h' (next ops closes c m)
+    pub counted : h'.count ≡ h.count + share c
 
--- One word more.
-pub record Adds (w : ℕ) (words : List ℕ) (count : ℕ) (words' : List ℕ) : Type 0 where
-  pub added : take (suc count) words' ≡ take count words ++ w ∷ []
-  pub same_length : length words' ≡ length words
-
--- A token that begins an operand, and is noted so.
-pub record StartsOperand (c : ℕ) (words : List ℕ) (f : Front) (words' : List ℕ) (g : Front) : Type 0 where
-  pub adds : Adds (note c 1 0) words f.count words'
-  pub counted : g.count ≡ f.count + 1
-  pub first_is : g.first ≡ f.count
+-- One word more, and an operand begins at `first`.
+pub record Adds (w first : ℕ) (h h' : Held) : Type 0 where
+  pub added : take (suc h.count) h'.words ≡ take h.count h.words ++ w ∷ []
+  pub counted : h'.count ≡ h.count + 1
+  pub first_is : h'.first ≡ first
+  pub held : IsHeld h'
 
 -- The word at `first`, one of those before the count, has room for one place more.
-pub record Raisable (words : List ℕ) (count first : ℕ) : Type 0 where
-  pub before_count : first < count
-  pub small : raised (get_or words first 0) < 0x100000000
+pub record Raisable (h : Held) (first : ℕ) : Type 0 where
+  pub before_count : first < h.count
+  pub small : raised (get_or h.words first 0) < 0x100000000
 
 -- A place is left free before the token at `first`, and the operator c has its note.
-pub record Frees (c : ℕ) (words : List ℕ) (count first : ℕ) (words' : List ℕ) : Type 0 where
-  pub added : take (suc count) words' ≡ set (take count words) first (raised (get_or words first 0)) ++ note c 0 (count - first) ∷ []
-  pub same_length : length words' ≡ length words
+pub record Frees (c first : ℕ) (h h' : Held) : Type 0 where
+  pub added : take (suc h.count) h'.words ≡ set (take h.count h.words) first (raised (get_or h.words first 0)) ++ note c 0 (h.count - first) ∷ []
+  pub counted : h'.count ≡ h.count + 1
+  pub first_is : h'.first ≡ first
+  pub held : IsHeld h'
 
 -- The machine makes a tree of the row, and its record has the bytes that are counted in the row.
 pub record Buildable (ops : Operators) (closes : ℕ → ℕ → Bool) (row : List ℕ) : Type 0 where
@@ -127,5 +133,5 @@ pub record Beginning (ops : Operators) (closes : ℕ → ℕ → Bool) (tokens :
   pub makes : made ops closes (tokens ++ rest) ≡ some tree
 
 -- They were read, from the left: the words are the notes of the machine's state after them.
-pub record Reads (ops : Operators) (closes : ℕ → ℕ → Bool) (tokens words : List ℕ) (f : Front) : Type 0 where
-  pub stands : Noted ops words f (state_after closes (class ops) tokens)
+pub record Reads (ops : Operators) (closes : ℕ → ℕ → Bool) (tokens : List ℕ) (h : Held) : Type 0 where
+  pub stands : Noted ops h (state_after closes (class ops) tokens)

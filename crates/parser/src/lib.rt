@@ -13,7 +13,7 @@ use record::Answer;
 use sheet::Sheet;
 
 mod build;
-mod notes;
+mod note;
 mod row;
 mod strangers;
 
