@@ -1,4 +1,5 @@
 pub mod Below
+pub mod Scanning
 pub mod Bits
 pub mod WordSets
 pub mod WordTests

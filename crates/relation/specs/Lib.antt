@@ -1,3 +1,6 @@
+pub mod Below
+pub mod Kinds
+pub mod Relations
 pub mod Relation
 pub mod Words
 pub mod Marking

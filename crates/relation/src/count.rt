@@ -1,0 +1,9 @@
+// A count of operators, which is at most 32.
+ghost use Rattle.std.specs.Prelude.{◌≤◌};
+ghost use Rattle.expression.specs.Limits.{most_operators};
+
+#[derive(Clone, Copy)]
+pub struct Count {
+    pub n: usize,
+    ghost few: { n ≤ most_operators },
+}
