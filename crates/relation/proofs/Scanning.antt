@@ -1,13 +1,15 @@
--- What each way through the search for the first number below n that passes a test gives. Assumes nothing.
-use mathlib.Core.Path.{◌≡◌, sym}
+-- What each way through the numbers below n gives, from what is known of a test. Assumes nothing.
+use mathlib.Core.Path.{◌≡◌, refl, sym}
 use mathlib.Core.Bool.{Bool, true, false}
 use Rattle.std.specs.Prelude.{Some, None}
-use Prim.Native.Nat.{ℕ, ◌<◌}
+use Prim.Native.Nat.{ℕ, ◌+◌, ◌<◌}
+use native.Mathlib.Numerals.{add-one}
 use native.Mathlib.Omega.{arith}
 use borrow.Author.Tests.{lt-ltb, le-ltb}
 use Rattle.disambiguation.specs.Below.{first_below}
 use Rattle.disambiguation.proofs.FirstBelow.{first_only}
 use Rattle.relation.specs.Below.{if_below}
+use Rattle.relation.specs.Words.{with_bit, word_where}
 
 module _ (p : ℕ → Bool) (n : ℕ) where
   -- no number before a passes, and a does
@@ -19,3 +21,13 @@ module _ (p : ℕ → Bool) (n : ℕ) where
   pub first_none : ((c : ℕ) → c < n → p c ≡ false) → None ≡ if_below n (first_below n p)
   unfolding if_below
   first_none before = sym (rw (first_only n p n (record { inside = omega arith; before = before; holds = λ h. absurd (omega arith) }), le-ltb n n (omega arith)))
+
+-- the set of none, and of one number more
+module _ (p : ℕ → Bool) where
+  pub set_starts : 0 ≡ word_where p 0
+  unfolding word_where
+  set_starts = refl
+
+  pub set_more : {x y : ℕ} {told : Bool} (a : ℕ) → x ≡ word_where p a → told ≡ p a → y ≡ with_bit x a told → y ≡ word_where p (a + 1)
+  unfolding word_where
+  set_more a e t f = rw (add-one, f, e, t)

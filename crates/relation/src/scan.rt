@@ -2,6 +2,10 @@
 ghost use Rattle.std.specs.Prelude.{◌≡◌, ℕ, Bool, ◌<◌};
 ghost use Rattle.disambiguation.specs.Below.{all_below, first_below};
 ghost use Rattle.relation.specs.Below.{if_below};
+ghost use Rattle.relation.specs.Words.{word_where};
+
+use crate::count::Count;
+use crate::words;
 
 // All pass the test.
 pub fn all<F: Fn(usize) -> bool>(n: usize, test: F) -> bool
@@ -27,4 +31,16 @@ pub fn first<F: Fn(usize) -> bool>(n: usize, test: F) -> Option<usize>
         }
     }
     None
+}
+
+// The set of those that pass it.
+pub fn set<F: Fn(usize) -> bool>(count: Count, test: F) -> u32
+    requires { (a : ℕ) → a < count.n → F.pre test a }
+    ensures { (p : ℕ → Bool) → ((a : ℕ) (r : Bool) → a < count.n → F.post test a r → r ≡ p a) → result ≡ word_where p count.n }
+{
+    let mut set = 0;
+    for a in 0..count.n {
+        set = words::with(set, a, test(a));
+    }
+    set
 }

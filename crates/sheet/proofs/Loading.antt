@@ -3,30 +3,34 @@ use mathlib.Core.Path.{◌≡◌, refl, sym, ap, ap₂, ◌∙◌}
 use mathlib.Core.Bool.{Bool, true, false, not, ◌||◌, cond}
 use mathlib.Core.List.{List}
 use Prim.Native.Nat.{ℕ, ◌-◌, ◌%◌, ◌<◌, ◌≤◌}
-use native.Mathlib.Nat.{sub-zero}
 use native.Mathlib.Omega.{arith}
 use borrow.Author.Tests.{lt-ltb, le-ltb, eq-eqb, ne_eqb, ltb-false}
 use borrow.Author.Rules.{rules}
-use mir.Val.{Fits}
-use mir.Syntax.{w8}
 use lib.Dec.{eqb, ltb}
 use lib.ListN.{length, set, take, drop, length-drop}
-use lib.Seq.{length-take-le, take_all}
+use lib.Seq.{length-take-le}
 use Rattle.expression.specs.Lists.{any_holds}
 use Rattle.expression.specs.Limits.{most_operators, most_rule_bytes, bytes_of_rule}
+use Rattle.std.specs.Prelude.{Result, Ok, Err}
+use Rattle.expression.specs.Outcome.{number_of}
 use Rattle.expression.specs.Refusal.{first, accepted, oversize, torn, stranger}
+use Rattle.expression.specs.declared.refusal.Refusal.{Refusal}
+use Rattle.expression.specs.declared.refusal.Refusal.TheVariants.{Oversize, Torn, Stranger, Dead, Double, NoRow, NoTree, Place, Empty, Short, InUse, Frame, NoMeaning, NoReading, NothingStaged, OtherRow, Conflict}
 use Rattle.expression.proofs.Numbers.{first_append, first_refused, passed_first}
 use Rattle.disambiguation.specs.Rules.{L, R}
 use Rattle.disambiguation.specs.Verdict.{rule_checks}
 use Rattle.disambiguation.specs.SheetChecks.{strange_rule, strange_kind, kinds_in, rules_in, operators_in, order_checks, InOrder, sheet_number}
 use Rattle.relation.specs.Relation.{closes_in, turned}
 use Rattle.relation.specs.Words.{operators_by}
-use Rattle.relation.specs.Relating.{closes_words, yields_words, Relates}
+use Rattle.relation.specs.Relating.{closes_words, yields_words}
+use Rattle.relation.specs.Relations.{Relate}
+use Rattle.relation.specs.declared.count.Count.{Count}
+use Rattle.relation.specs.declared.relations.Relations.{Relations}
 use Rattle.relation.specs.Tests.{rules_number}
 use Rattle.relation.proofs.Verdicts.{number_same}
 use Rattle.sheet.specs.Layout.{count_word, prefix_word_at, loaded_word}
 use Rattle.sheet.specs.Kinds.{prefix_word}
-use Rattle.sheet.specs.Loading.{size_number, ReadsSheet, sheet_of, Loads}
+use Rattle.sheet.specs.Loading.{size_number, ReadsSheet, MakesSheet, sheet_of, Loads}
 use Rattle.sheet.proofs.Ordered.{Ordered, order_numbered, ordered, operators_read, closes_read, yields_read}
 
 -- ---- size_number
@@ -64,28 +68,36 @@ sized n size e = go (ltb most_operators n) (ltb most_rule_bytes (size - n)) (ltb
     go false false true t a b z = absurd (omega arith)
     go false false false t a b z = (ltb-false most_operators n a, ltb-false size n b)
 
-module _ {size : ℕ} (n k : ℕ) (e : size ≡ size_number n k) (z : size ≡ 0) where
+module _ (n k : ℕ) (e : 0 ≡ size_number n k) where
   pub few_operators : n ≤ most_operators
-  few_operators = (sized n k (sym e ∙ z)).0
-
-  -- so their count fits a byte,
-  pub few_byte : Fits w8 n
-  few_byte = record { fits = omega (arith, few_operators) }
+  few_operators = (sized n k (sym e)).0
 
   -- and their kinds are there
   pub kinds_there : n ≤ k
-  kinds_there = (sized n k (sym e ∙ z)).1
+  kinds_there = (sized n k (sym e)).1
 
--- the kinds and the rules are parts of the bytes
-kinds_front : (n : ℕ) (bytes : List ℕ) → take (n - 0) (drop 0 bytes) ≡ kinds_in n bytes
-kinds_front n bytes = ap (λ m. take m bytes) (sub-zero n)
+pub kinds_few : (n : ℕ) (bytes : List ℕ) → 0 ≡ size_number n (length bytes) → length (take n bytes) ≤ most_operators
+kinds_few n bytes e = omega (arith, length-take-le n bytes (kinds_there n (length bytes) e), few_operators n (length bytes) e)
 
-pub kinds_few : {size : ℕ} (n : ℕ) (bytes : List ℕ) → size ≡ size_number n (length bytes) → size ≡ 0 → length (take (n - 0) (drop 0 bytes)) ≤ most_operators
-kinds_few n bytes e z =
-    omega (arith, ap length (kinds_front n bytes), length-take-le n bytes (kinds_there n (length bytes) e z), few_operators n (length bytes) e z)
-
-rules_end : (n : ℕ) (bytes : List ℕ) → take (length bytes - n) (drop n bytes) ≡ drop n bytes
-rules_end n bytes = take_all (length bytes - n) (drop n bytes) (omega (arith, length-drop n bytes))
+-- no refusal has number 0
+pub refusal_told : (e : Refusal) → number_of e ≡ 0 → ⊥
+refusal_told Oversize h = absurd (omega arith)
+refusal_told Torn h = absurd (omega arith)
+refusal_told Stranger h = absurd (omega arith)
+refusal_told Dead h = absurd (omega arith)
+refusal_told Double h = absurd (omega arith)
+refusal_told NoRow h = absurd (omega arith)
+refusal_told NoTree h = absurd (omega arith)
+refusal_told Place h = absurd (omega arith)
+refusal_told Empty h = absurd (omega arith)
+refusal_told Short h = absurd (omega arith)
+refusal_told InUse h = absurd (omega arith)
+refusal_told Frame h = absurd (omega arith)
+refusal_told NoMeaning h = absurd (omega arith)
+refusal_told NoReading h = absurd (omega arith)
+refusal_told NothingStaged h = absurd (omega arith)
+refusal_told OtherRow h = absurd (omega arith)
+refusal_told Conflict h = absurd (omega arith)
 
 module _ (n : ℕ) (bytes : List ℕ) where
   abbrev many_of : Bool
@@ -119,89 +131,80 @@ module _ (n : ℕ) (bytes : List ℕ) where
       go false true rest k = absurd (omega arith)
       go false false rest k = refl
 
-  -- refused by a number that is not 0
-  module _ {r word : ℕ} {t u : List ℕ} where
-    unread : r ≡ first (order_checks n bytes) → (r ≡ 0 → ⊥) → ReadsSheet n bytes r word t u
-    unread e h = record { number = e; word_is = λ z. absurd (h z); closes_is = λ z. absurd (h z); yields_is = λ z. absurd (h z) }
+  pub read_size : (e : Refusal) → number_of e ≡ size_number n (length bytes) → number_of e ≡ first (order_checks n bytes)
+  read_size e q = q ∙ by_size (λ z. refusal_told e (q ∙ z))
 
-    pub read_size : {size : ℕ} → size ≡ size_number n (length bytes) → (size ≡ 0 → ⊥) → r ≡ size → ReadsSheet n bytes r word t u
-    read_size e h q = unread (q ∙ e ∙ by_size (λ z. h (e ∙ z))) (λ z. h (sym q ∙ z))
+  module _ (sized : 0 ≡ size_number n (length bytes)) where
+    read_strange : strange_of ≡ true → 3 ≡ first (order_checks n bytes)
+    read_strange o = sym (ap (λ s. cond s stranger accepted) o) ∙ by_strangers (sym sized)
 
-    read_strange : size_number n (length bytes) ≡ 0 → strange_of ≡ true → r ≡ 3 → ReadsSheet n bytes r word t u
-    read_strange z o q = unread (q ∙ sym (ap (λ s. cond s stranger accepted) o) ∙ by_strangers z) (λ z. omega arith)
+    pub read_kinds : {odd : Bool} → odd ≡ any_holds strange_kind (take n bytes) → odd ≡ true → 3 ≡ first (order_checks n bytes)
+    read_kinds o y = read_strange (ap (λ b. b || any_holds (strange_rule n) (rules_in n bytes)) (sym o ∙ y))
 
-    pub read_kinds : {size : ℕ} {odd : Bool} → size ≡ size_number n (length bytes) → size ≡ 0 → odd ≡ any_holds strange_kind (take (n - 0) (drop 0 bytes)) → odd ≡ true
-        → r ≡ 3 → ReadsSheet n bytes r word t u
-    read_kinds e z o y =
-        read_strange (sym e ∙ z) (ap (λ b. b || any_holds (strange_rule n) (rules_in n bytes)) (ap (any_holds strange_kind) (sym (kinds_front n bytes)) ∙ sym o ∙ y))
+    -- what the reading of the rules comes to
+    pub read_rules : {odd : Bool} {word : ℕ} (count : Count) (r : Result Relations Refusal) → odd ≡ any_holds strange_kind (take n bytes) → odd ≡ false
+        → word ≡ prefix_word (take n bytes) (length (take n bytes)) → count.n ≡ n → Relate count word (drop n bytes) r → MakesSheet n bytes r
+    read_rules {word = word} count r o y w e relate = go r relate
+      where
+        strange_is : {strange : Bool} → any_holds (strange_rule count.n) (rules_in n bytes) ≡ strange → strange_of ≡ strange
+        strange_is s = ap₂ ◌||◌ (sym o ∙ y) (ap (λ m. any_holds (strange_rule m) (rules_in n bytes)) (sym e) ∙ s)
 
-module _ {size word : ℕ} {odd strange : Bool} (n : ℕ) (bytes t u : List ℕ) (size_is : size ≡ size_number n (length bytes)) (small : size ≡ 0)
-    (odd_of : odd ≡ any_holds strange_kind (take (n - 0) (drop 0 bytes))) (none_odd : odd ≡ false)
-    (word_of : word ≡ prefix_word (take (n - 0) (drop 0 bytes)) (length (take (n - 0) (drop 0 bytes)))) (relates : Relates n (take (length bytes - n) (drop n bytes)) strange t u) where
-  relates_here : Relates n (drop n bytes) strange t u
-  relates_here = rw (rules_end n bytes) at relates
+        go : (r : Result Relations Refusal) → Relate count word (drop n bytes) r → MakesSheet n bytes r
+        go (Err x) (which, s) = ap number_of which ∙ read_strange (strange_is s)
+        go (Ok made) (c, p, relates) = (
+          ap (λ (k : Count). k.n) c ∙ e,
+          record {
+            number = sym (ap (λ s. cond s stranger accepted) (strange_is (sym relates.strange_is))) ∙ by_strangers (sym sized);
+            -- the word is that of the n kinds
+            word_is = λ _. p ∙ w ∙ ap (prefix_word (kinds_in n bytes)) (length-take-le n bytes (kinds_there n (length bytes) sized));
+            closes_is = λ _. relates.closes_is refl ∙ ap (λ m. closes_words m (rules_in n bytes)) e;
+            yields_is = λ _. relates.yields_is refl ∙ ap (λ m. yields_words m (rules_in n bytes)) e;
+          },
+        )
 
-  strange_is : strange_of n bytes ≡ strange
-  strange_is = ap₂ ◌||◌ (sym (odd_of ∙ ap (any_holds strange_kind) (kinds_front n bytes)) ∙ none_odd) (sym relates_here.strange_is)
-
-  pub read_rules : {r word' : ℕ} → strange ≡ true → r ≡ 3 → ReadsSheet n bytes r word' t u
-  read_rules y = read_strange n bytes (sym size_is ∙ small) (strange_is ∙ y)
-
-  pub read_whole : strange ≡ false → ReadsSheet n bytes 0 word t u
-  read_whole y = record {
-    number = sym (ap (λ s. cond s stranger accepted) (strange_is ∙ y)) ∙ by_strangers n bytes (sym size_is ∙ small);
-    -- the word is that of the n kinds
-    word_is = λ _.
-        word_of ∙ ap (λ (ks : List ℕ). prefix_word ks (length ks)) (kinds_front n bytes)
-        ∙ ap (prefix_word (kinds_in n bytes)) (length-take-le n bytes (kinds_there n (length bytes) size_is small));
-    closes_is = λ _. relates_here.closes_is y;
-    yields_is = λ _. relates_here.yields_is y;
-  }
-
-pub ruleset read_ways = (few_operators, few_byte, kinds_there, kinds_few, read_size, read_kinds, read_rules, read_whole, rules)
+pub ruleset read_ways = (few_operators, kinds_there, kinds_few, read_size, read_kinds, read_rules, rules)
 
 -- ---- load
-module _ {r word : ℕ} (n : ℕ) (bytes t u : List ℕ) (reads : ReadsSheet n bytes r word t u) (z : r ≡ 0) where
+module _ (n : ℕ) (bytes t u : List ℕ) {word : ℕ} (reads : ReadsSheet n bytes 0 word t u) where
   in_order : InOrder n bytes
-  in_order = passed_first (order_checks n bytes) (order_numbered n bytes) (sym reads.number ∙ z)
+  in_order = passed_first (order_checks n bytes) (order_numbered n bytes) (sym reads.number)
 
-  pub known : Ordered n bytes
+  known : Ordered n bytes
   known = ordered n bytes in_order
 
-  pub load_few : n ≤ most_operators
-  load_few = known.few
+refused : (before : List ℕ) (n : ℕ) (bytes : List ℕ) (e : Refusal) → number_of e ≡ sheet_number n bytes → Loads before n bytes (number_of e) before
+refused before n bytes e q = record { number = q; stands = rw (ne_eqb (sheet_number n bytes) accepted (λ z. refusal_told e (q ∙ z))) }
 
-module _ {r word : ℕ} (before : List ℕ) (n : ℕ) (bytes t u : List ℕ) (reads : ReadsSheet n bytes r word t u) where
-  refused : {number : ℕ} → number ≡ sheet_number n bytes → (number ≡ 0 → ⊥) → Loads before n bytes number before
-  refused e h = record { number = e; stands = rw (ne_eqb (sheet_number n bytes) accepted (λ z. h (e ∙ z))) }
+pub load_order : (before : List ℕ) (n : ℕ) (bytes : List ℕ) (e : Refusal) → number_of e ≡ first (order_checks n bytes) → Loads before n bytes (number_of e) before
+unfolding sheet_number
+load_order before n bytes e q =
+    refused before n bytes e
+    (q ∙ sym (first_refused (order_checks n bytes) (rule_checks (operators_in n bytes) (L (rules_in n bytes)) (R (rules_in n bytes))) (λ z. refusal_told e (q ∙ z))))
 
-  pub load_order : (r ≡ 0 → ⊥) → Loads before n bytes r before
-  unfolding sheet_number
-  load_order h = refused (reads.number ∙ sym (first_refused (order_checks n bytes) (rule_checks (operators_in n bytes) (L (rules_in n bytes)) (R (rules_in n bytes))) (λ z. h (reads.number ∙ z)))) h
+module _ (before : List ℕ) (n : ℕ) (bytes t u : List ℕ) {word m : ℕ} (count : m ≡ n) (reads : ReadsSheet n bytes 0 word t u) where
+  sheet_number_lem : {number : ℕ} → number ≡ rules_number (operators_by m word) (turned (closes_in u)) (closes_in t) → number ≡ sheet_number n bytes
+  unfolding sheet_number rules_number
+  sheet_number_lem number_is =
+      number_is
+      ∙ ap (λ k. rules_number (operators_by k word) (turned (closes_in u)) (closes_in t)) count
+      ∙ ap₂ (λ (v x : List ℕ). rules_number (operators_by n word) (turned (closes_in v)) (closes_in x)) (reads.yields_is refl) (reads.closes_is refl)
+      ∙ number_same (operators_by n word) (turned (closes_in (yields_words n (rules_in n bytes)))) (L (rules_in n bytes)) (closes_in (closes_words n (rules_in n bytes))) (R (rules_in n bytes))
+      (yields_read n bytes (known n bytes t u reads)) (closes_read n bytes (known n bytes t u reads))
+      ∙ ap (λ ops. rules_number ops (L (rules_in n bytes)) (R (rules_in n bytes))) (ap (operators_by n) (reads.word_is refl) ∙ operators_read n bytes (known n bytes t u reads))
+      ∙ sym (first_append (order_checks n bytes) (rule_checks (operators_in n bytes) (L (rules_in n bytes)) (R (rules_in n bytes))) (in_order n bytes t u reads))
 
-  module _ (z : r ≡ 0) where
-    module _ {number : ℕ} (number_is : number ≡ rules_number (operators_by n word) (turned (closes_in u)) (closes_in t)) where
-      sheet_number_lem : number ≡ sheet_number n bytes
-      unfolding sheet_number rules_number
-      sheet_number_lem =
-          number_is
-          ∙ ap₂ (λ (v x : List ℕ). rules_number (operators_by n word) (turned (closes_in v)) (closes_in x)) (reads.yields_is z) (reads.closes_is z)
-          ∙ number_same (operators_by n word) (turned (closes_in (yields_words n (rules_in n bytes)))) (L (rules_in n bytes)) (closes_in (closes_words n (rules_in n bytes))) (R (rules_in n bytes))
-          (yields_read n bytes (known n bytes t u reads z)) (closes_read n bytes (known n bytes t u reads z))
-          ∙ ap (λ ops. rules_number ops (L (rules_in n bytes)) (R (rules_in n bytes))) (ap (operators_by n) (reads.word_is z) ∙ operators_read n bytes (known n bytes t u reads z))
-          ∙ sym (first_append (order_checks n bytes) (rule_checks (operators_in n bytes) (L (rules_in n bytes)) (R (rules_in n bytes))) (in_order n bytes t u reads z))
+  pub load_rules : (e : Refusal) → number_of e ≡ rules_number (operators_by m word) (turned (closes_in u)) (closes_in t) → Loads before n bytes (number_of e) before
+  load_rules e q = refused before n bytes e (sheet_number_lem q)
 
-      pub load_rules : (number ≡ 0 → ⊥) → Loads before n bytes number before
-      load_rules h = refused sheet_number_lem h
+  pub load_accepted : 0 ≡ rules_number (operators_by m word) (turned (closes_in u)) (closes_in t)
+      → Loads before n bytes 0 (set (set (set t count_word n) prefix_word_at word) loaded_word 1)
+  unfolding sheet_of
+  load_accepted q =
+      record {
+        number = sheet_number_lem q;
+        stands =
+            rw (eq-eqb (sheet_number n bytes) accepted (sym (sheet_number_lem q)))
+            (ap₂ (λ (w : List ℕ) (x : ℕ). set (set (set w count_word n) prefix_word_at x) loaded_word 1) (reads.closes_is refl) (reads.word_is refl));
+      }
 
-      pub load_accepted : number ≡ 0 → Loads before n bytes 0 (set (set (set t count_word n) prefix_word_at word) loaded_word 1)
-      unfolding sheet_of
-      load_accepted y =
-          record {
-            number = sym y ∙ sheet_number_lem;
-            stands =
-                rw (eq-eqb (sheet_number n bytes) accepted (sym sheet_number_lem ∙ y))
-                (ap₂ (λ (w : List ℕ) (x : ℕ). set (set (set w count_word n) prefix_word_at x) loaded_word 1) (reads.closes_is z) (reads.word_is z));
-          }
-
-pub ruleset load_ways = (load_few, load_order, load_rules, load_accepted, rules)
+pub ruleset load_ways = (load_order, load_rules, load_accepted, rules)

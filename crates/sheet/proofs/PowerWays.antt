@@ -13,11 +13,10 @@ use lib.Dec.{ltb}
 use Rattle.expression.specs.Limits.{most_operators}
 use Rattle.disambiguation.specs.Powers.{below, right_power}
 use Rattle.relation.specs.Relation.{bit_of, closes_in}
-use Rattle.relation.specs.Words.{with_bit, word_where, SetOf}
+use Rattle.relation.specs.Words.{SetOf}
 use Rattle.sheet.specs.Layout.{operators_of}
-use Rattle.sheet.specs.BindingPowers.{infix_in, given, not_infix, given_in, powers_in, capped, closers_of, left_by, given_by}
+use Rattle.sheet.specs.BindingPowers.{infix_in, given, not_infix, given_in, powers_in, capped, left_by, given_by}
 use Rattle.sheet.specs.declared.powers.Powers.{Powers}
-use Rattle.sheet.proofs.KindWays.{none_yet, one_more}
 use Rattle.sheet.proofs.PowerWords.{none_beyond, infix_set, below_set, left_by_set}
 
 -- ---- capped_count
@@ -40,22 +39,6 @@ most_few n {m} e = go (ltb most_operators n) refl e
 
 pub ruleset infixes_ways = (most_few, infix_set, rules)
 
--- ---- closers
-module _ (sheet : List ℕ) (a : ℕ) where
-  abbrev pub closing : ℕ → Bool
-  closing b = closes_in sheet b a
-
-  pub none_closing : 0 ≡ word_where closing 0
-  none_closing = none_yet closing
-
-  pub closing_more : {x y : ℕ} {told : Bool} (c : ℕ) → x ≡ word_where closing c → told ≡ closes_in sheet c a → y ≡ with_bit x c told → y ≡ word_where closing (c + 1)
-  closing_more c e t f = one_more closing c e t f
-
-  pub all_closing : {x : ℕ} (c : ℕ) → x ≡ word_where closing c → c ≤ most_operators → most_operators ≤ c → x ≡ closers_of sheet a
-  all_closing c e l h = e ∙ ap (word_where closing) (omega arith)
-
-pub ruleset closers_ways = (none_closing, closing_more, all_closing, rules)
-
 -- ---- set_below
 pub ruleset below_ways = (below_set, rules)
 
@@ -75,26 +58,22 @@ power_fits x small = record { fits = omega (arith, ones_few x small) }
 
 pub ruleset left_ways = (ones_fit, twice_fits, power_fits, rules)
 
--- ---- given
-module _ (left : ℕ) {itself : Bool} where
-  pub given_same : itself ≡ true → given left left ≡ given_by left itself
-  given_same e = rw e
-
-  pub given_less : itself ≡ false → given left (left - 1) ≡ given_by left itself
-  given_less e = rw e
-
-pub ruleset given_ways = (given_same, given_less, rules)
-
 -- ---- powers_of_infix
-pub both_powers : (sheet : List ℕ) (a : ℕ) {r : Powers} {l y : ℕ} {s : Bool} → r ≡ given_by l s → l ≡ left_by y → s ≡ closes_in sheet a a → Fits w32 y
-    → SetOf (below (operators_of sheet) (closes_in sheet) a) y → r ≡ given_in sheet a
-unfolding given_in right_power
-both_powers sheet a {r} {l} {y} e f g small lies = e ∙ ap₂ given_by (f ∙ left_by_set (operators_of sheet) (closes_in sheet) a y small lies) g
+module _ (sheet : List ℕ) (a : ℕ) {l y : ℕ} {s : Bool} (left : l ≡ left_by y) (itself : s ≡ closes_in sheet a a) (small : Fits w32 y) (lies : SetOf (below (operators_of sheet) (closes_in sheet) a) y) where
+  both_powers : given_by l s ≡ given_in sheet a
+  unfolding given_in right_power
+  both_powers = ap₂ given_by (left ∙ left_by_set (operators_of sheet) (closes_in sheet) a y small lies) itself
+
+  pub powers_same : s ≡ true → given l l ≡ given_in sheet a
+  powers_same z = ap (λ b. given l (cond b l (l - 1))) (sym z) ∙ both_powers
+
+  pub powers_less : s ≡ false → given l (l - 1) ≡ given_in sheet a
+  powers_less z = ap (λ b. given l (cond b l (l - 1))) (sym z) ∙ both_powers
 
 pub at_least_one : (y : ℕ) {l : ℕ} → l ≡ left_by y → 1 ≤ l
 at_least_one y e = omega arith
 
-pub ruleset both_ways = (both_powers, at_least_one, rules)
+pub ruleset both_ways = (powers_same, powers_less, at_least_one, rules)
 
 -- ---- powers_of
 module _ (sheet : List ℕ) (a : ℕ) {r : Powers} where

@@ -1,13 +1,16 @@
 -- The binding powers that the words of a sheet give, for every content. Assumes nothing.
-use Rattle.std.specs.Prelude.{ℕ, ◌+◌, ◌-◌, ◌*◌, Bool, cond, List, ltb}
+use Rattle.std.specs.Prelude.{ℕ, ◌+◌, ◌-◌, ◌*◌, Bool, cond, List, ltb, Result, Ok, Err}
 use Rattle.std.specs.Int.Count.{ones}
 use Rattle.expression.specs.Limits.{most_operators}
 use Rattle.expression.specs.Refusal.{accepted, stranger}
+use Rattle.expression.specs.Outcome.{number_of}
 use Rattle.expression.specs.Token.{class}
+use Rattle.expression.specs.declared.refusal.Refusal.{Refusal}
 use Rattle.disambiguation.specs.Powers.{is_infix, left_power, right_power}
 use Rattle.relation.specs.Relation.{closes_in}
 use Rattle.relation.specs.Words.{word_where}
 use Rattle.sheet.specs.Layout.{operators_of}
+use Rattle.sheet.specs.declared.powers.Binding.{Binding}
 use Rattle.sheet.specs.declared.powers.Powers.{Powers}
 
 -- an infix operator of the sheet
@@ -20,6 +23,11 @@ given left right = record { number = accepted; left = left; right = right }
 
 abbrev pub not_infix : Powers
 not_infix = record { number = stranger; left = 0; right = 0 }
+
+-- what the call's outcome answers
+abbrev pub answered : Result Binding Refusal → Powers
+answered (Ok binding) = given binding.left binding.right
+answered (Err refusal) = record { number = number_of refusal; left = 0; right = 0 }
 
 -- both powers of an operator by the sheet's relation
 unfoldable pub given_in : List ℕ → ℕ → Powers

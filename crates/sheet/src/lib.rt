@@ -3,14 +3,18 @@
 
 ghost use Rattle.std.specs.Prelude.{◌≡◌, ◌&&◌, ltb, ℕ, List};
 ghost use Rattle.expression.specs.Limits.{most_operators};
+ghost use Rattle.expression.specs.Outcome.{number_in};
 ghost use Rattle.sheet.specs.Layout.{operators_of, prefix_in, some_prefix, is_loaded, fresh};
 ghost use Rattle.relation.specs.Relation.{bit_of, closes_in};
 ghost use Rattle.sheet.specs.Kinds.{kind_changes};
-ghost use Rattle.sheet.specs.Loading.{Loads, ReadsSheet, size_number};
+ghost use Rattle.sheet.specs.Loading.{Loads, MakesSheet, size_number};
 
-use expression::{limits, refusal};
+use expression::limits;
+use expression::refusal::Refusal;
 use layout::SHEET_WORDS;
-use relation::{verdict, words};
+use relation::count::Count;
+use relation::relations::Relations;
+use relation::words;
 use std::marker::Model;
 
 mod kinds;
@@ -56,13 +60,7 @@ impl Sheet {
     pub fn closes_before(&self, a: u8, b: u8) -> bool
         ensures { result ≡ closes_in self.now a b }
     {
-        if limits::MOST_OPERATORS <= a {
-            return false;
-        }
-        if limits::MOST_OPERATORS <= b {
-            return false;
-        }
-        words::has(self.words[a as usize], b as usize)
+        a < limits::MOST_OPERATORS && is_in(self.words[a as usize], b)
     }
 
     // Operator c is a prefix operator; false where it is none of 32.
@@ -70,10 +68,7 @@ impl Sheet {
     pub fn is_prefix(&self, c: u8) -> bool
         ensures { result ≡ prefix_in self.now c }
     {
-        if limits::MOST_OPERATORS <= c {
-            return false;
-        }
-        words::has(self.words[layout::PREFIX_WORD], c as usize)
+        is_in(self.words[layout::PREFIX_WORD], c)
     }
 
     // Some operator may be a prefix operator: where this is false, none is.
@@ -99,102 +94,60 @@ impl Sheet {
         kinds::changes(self, new)
     }
 
-    // The sheet of n operators with their kinds and the rules: its number. The lent sheet is written only where it is accepted.
+    // The sheet of n operators with their kinds and the rules is judged. The lent sheet is written only where it is accepted.
     #[tactic(auto, using(crate::proofs::Loading::load_ways))]
-    pub fn load(&mut self, n: u32, bytes: &[u8]) -> u8
-        ensures { Loads self.old n bytes.now result self.new }
+    pub fn load(&mut self, n: u32, bytes: &[u8]) -> Result<(), Refusal>
+        ensures { Loads self.old n bytes.now (number_in result) self.new }
     {
-        let mut made = [0u32; SHEET_WORDS];
-        let mut yields = [0u32; SHEET_WORDS];
-        let found = read(n, bytes, &mut made, &mut yields);
-        let order = found.number;
-        if order != refusal::ACCEPTED {
-            return order;
-        }
-        let prefixes = found.prefixes;
-        let number = verdict::rules_number(n as usize, prefixes, &made, &yields);
-        if number != refusal::ACCEPTED {
-            return number;
-        }
-        made[layout::COUNT_WORD] = n;
-        made[layout::PREFIX_WORD] = prefixes;
-        made[layout::LOADED_WORD] = 1;
-        self.words = made;
-        refusal::ACCEPTED
+        let made = read(n, bytes)?;
+        made.verdict()?;
+        self.words = made.closes;
+        self.words[layout::COUNT_WORD] = n;
+        self.words[layout::PREFIX_WORD] = made.prefixes;
+        self.words[layout::LOADED_WORD] = 1;
+        Ok(())
     }
 }
 
 // Operator c is in the set; false where it is none of 32.
+#[tactic(auto, using(crate::proofs::LayoutWays::is_in_ways))]
 pub fn is_in(set: u32, c: u8) -> bool
     ensures { result ≡ (ltb c most_operators && bit_of set c) }
 {
-    if limits::MOST_OPERATORS <= c {
-        return false;
-    }
-    words::has(set, c as usize)
+    c < limits::MOST_OPERATORS && words::has(set, c as usize)
 }
 
-// Numbers 1 and 2, or 0: the checks that need no look at the bytes. The kinds come first, a byte for each operator.
-fn size_number(n: u32, length: usize) -> u8
-    ensures { result ≡ size_number n length }
+// Numbers 1 and 2: the checks that need no look at the bytes. The kinds come first, a byte for each operator.
+#[tactic(auto, using(crate::proofs::Loading::size_ways))]
+fn check_size(n: u32, length: usize) -> Result<(), Refusal>
+    ensures { number_in result ≡ size_number n length }
 {
     if (limits::MOST_OPERATORS as u32) < n {
-        return refusal::OVERSIZE;
+        return Err(Refusal::Oversize);
     }
     let kinds = n as usize;
     if length < kinds {
-        return refusal::TORN;
+        return Err(Refusal::Torn);
     }
     if limits::MOST_RULE_BYTES < length - kinds {
-        return refusal::OVERSIZE;
+        return Err(Refusal::Oversize);
     }
     if (length - kinds) % limits::BYTES_OF_RULE != 0 {
-        return refusal::TORN;
+        return Err(Refusal::Torn);
     }
-    refusal::ACCEPTED
+    Ok(())
 }
 
-// What is read of a sheet: its number, which is 1, 2, 3 or 0, and the set of its prefix operators.
-#[derive(Drop)]
-pub struct Found {
-    pub number: u8,
-    pub prefixes: u32,
-}
-
-fn unread(number: u8) -> Found
-    ensures { (result.number ≡ number) × (result.prefixes ≡ 0) }
+// The sheet of n operators with their kinds and the rules, read, and its relations made. Numbers 1, 2 and 3.
+#[tactic(auto, using(crate::proofs::Loading::read_ways))]
+pub fn read(n: u32, bytes: &[u8]) -> Result<Relations, Refusal>
+    ensures { MakesSheet n bytes.now result }
 {
-    Found {
-        number: number,
-        prefixes: 0,
-    }
-}
-
-// The sheet of n operators with their kinds and the rules, read, and its relations made in two empty tables.
-pub fn read(
-    n: u32,
-    bytes: &[u8],
-    closes: &mut [u32; SHEET_WORDS],
-    yields: &mut [u32; SHEET_WORDS],
-) -> Found
-    requires { (closes.old ≡ fresh) × (yields.old ≡ fresh) }
-    ensures { ReadsSheet n bytes.now result.number result.prefixes closes.new yields.new }
-{
-    let size = size_number(n, bytes.len());
-    if size != refusal::ACCEPTED {
-        return unread(size);
-    }
-    let count = n as usize;
-    let kinds = &bytes[0..count];
+    check_size(n, bytes.len())?;
+    let count = Count { n: n as usize };
+    let (kinds, rules) = bytes.split_at(count.n);
     if kinds::any_strange(kinds) {
-        return unread(refusal::STRANGER);
+        return Err(Refusal::Stranger);
     }
-    let prefixes = kinds::prefixes(kinds);
-    if relation::relate(n as u8, &bytes[count..bytes.len()], closes, yields) {
-        return unread(refusal::STRANGER);
-    }
-    Found {
-        number: refusal::ACCEPTED,
-        prefixes: prefixes,
-    }
+    Relations::read(count, kinds::prefixes(kinds), rules)
 }
