@@ -16,7 +16,6 @@ use places::Store;
 use record::operands::Part;
 use record::{Answer, Judgement};
 use sheet::Sheet;
-use sheet::powers;
 use sheet::powers::Powers;
 use witness::lists;
 
@@ -206,7 +205,7 @@ pub extern "C" fn tihvomen_explain_rules(
 pub extern "C" fn tihvomen_powers(sheet: &Sheet, operator: u32) -> Powers
     ensures { result ≡ powers_in sheet.now operator }
 {
-    powers::powers_of(sheet, operator)
+    sheet.powers_of(operator).into()
 }
 
 // The reply to a line: its length.

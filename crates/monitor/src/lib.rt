@@ -19,10 +19,11 @@ mod storing;
 const PLACE_COUNT: u32 = limits::PLACE_COUNT as u32;
 
 // The sheet of n operators, their kinds and the rules is judged, and staged in place of an earlier one.
+#[tactic(auto, using(crate::proofs::SwitchWays::stage_ways))]
 pub fn stage(staged: &mut Sheet, n: u32, bytes: &[u8]) -> u8
     ensures { Stages staged.old (stage n bytes.now) result staged.new }
 {
-    staged.load(n, bytes)
+    refusal::number(&staged.load(n, bytes))
 }
 
 // The staged sheet is in force, nothing is staged, and every held tree is the conflict-free tree of its row.

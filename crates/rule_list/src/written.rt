@@ -21,6 +21,7 @@ pub fn put_rule(bytes: &mut [u8; BUFFER_BYTES], i: usize, rule: Rule)
 }
 
 // Stages the kinds, and the first `count` rules whose bytes are in the buffer.
+#[tactic(auto, using(crate::proofs::WrittenWays::stage_written_ways))]
 pub fn stage_written(
     staged: &mut Sheet,
     n: u32,
@@ -31,7 +32,7 @@ pub fn stage_written(
     requires { count ≤ most_rules }
     ensures { StagesList staged.old n kinds.now bytes.old count result staged.new }
 {
-    let number = lists::kinds_number(n, kinds.len());
+    let number = refusal::number(&lists::check_kinds(n, kinds.len()));
     if number != refusal::ACCEPTED {
         return number;
     }

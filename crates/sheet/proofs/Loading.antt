@@ -169,7 +169,7 @@ module _ (n : ℕ) (bytes t u : List ℕ) {word : ℕ} (reads : ReadsSheet n byt
   in_order : InOrder n bytes
   in_order = passed_first (order_checks n bytes) (order_numbered n bytes) (sym reads.number)
 
-  known : Ordered n bytes
+  pub known : Ordered n bytes
   known = ordered n bytes in_order
 
 refused : (before : List ℕ) (n : ℕ) (bytes : List ℕ) (e : Refusal) → number_of e ≡ sheet_number n bytes → Loads before n bytes (number_of e) before

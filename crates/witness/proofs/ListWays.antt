@@ -3,7 +3,6 @@ use mathlib.Core.Path.{◌≡◌, refl, sym, ap, ap₂, subst, ◌∙◌}
 use mathlib.Core.Bool.{or-true}
 use mathlib.Core.List.{List, [], ◌∷◌, ◌++◌, append_assoc}
 use Prim.Native.Nat.{ℕ, suc, ◌+◌, ◌-◌, ◌*◌, ◌/◌, ◌<◌, ◌≤◌}
-use native.Mathlib.Nat.{sub-zero}
 use native.Mathlib.Omega.{arith}
 use borrow.Author.Rules.{rules}
 use borrow.Author.Tests.{lt-ltb, ne_eqb}
@@ -14,13 +13,18 @@ use lib.Seq.{take-append_seam, drop_at, length-take-le}
 use Rattle.expression.specs.Checks.{short_check}
 use Rattle.expression.specs.Limits.{most_operators, most_rules, most_rule_bytes, bytes_of_rule}
 use Rattle.expression.specs.Refusal.{Check, accepted, oversize}
+use Rattle.std.specs.Prelude.{Err}
+use Rattle.expression.specs.Outcome.{number_of}
+use Rattle.expression.specs.declared.refusal.Refusal.{Refusal}
 use Rattle.expression.specs.Token.{operators}
 use Rattle.disambiguation.specs.Rules.{Rule}
 use Rattle.disambiguation.specs.SheetChecks.{rules_of, rule_bytes, order_checks, list_order_checks}
 use Rattle.disambiguation.specs.Witness.{witness_of, witness_bytes}
 use Rattle.disambiguation.proofs.RuleBytes.{kinds_back, rules_in_lem, list_checks}
 use Rattle.sheet.specs.Lists.{kinds_number, buffer_bytes, PutsKinds}
-use Rattle.sheet.proofs.ListLaws.{kinds_known, few_kinds, kinds_refused, kinds_begin}
+use Rattle.sheet.proofs.ListLaws.{kinds_known, kinds_refused, kinds_begin}
+use Rattle.sheet.proofs.Loading.{refusal_told}
+use Rattle.record.specs.Outcome.{answer_of}
 use Rattle.record.specs.declared.Answer.{Answer}
 use Rattle.witness.specs.Explaining.{AnswersWith, explained, Explains, explained_list, ExplainsList}
 
@@ -79,13 +83,10 @@ list_answer n kinds rules as_many =
 -- ---- explain_list
 -- the bytes of the rules that are whole, as they are lent
 abbrev used : List ℕ → List ℕ
-used rules = take (length rules / bytes_of_rule * bytes_of_rule - 0) (drop 0 rules)
-
-used_is : (rules : List ℕ) → used rules ≡ take (length rules / bytes_of_rule * bytes_of_rule) rules
-used_is rules = ap (λ m. take m rules) (sub-zero (length rules / bytes_of_rule * bytes_of_rule))
+used rules = take (length rules / bytes_of_rule * bytes_of_rule) rules
 
 pub rules_fit : (rules : List ℕ) → length rules / bytes_of_rule ≤ most_rules → length (used rules) ≤ most_rule_bytes
-rules_fit rules fit = omega (arith, fit, ap length (used_is rules), length-take-le (length rules / bytes_of_rule * bytes_of_rule) rules (omega arith))
+rules_fit rules fit = omega (arith, fit, length-take-le (length rules / bytes_of_rule * bytes_of_rule) rules (omega arith))
 
 module _ (n : ℕ) (kinds rules out : List ℕ) where
   pub many_rules : most_rules < length rules / bytes_of_rule → ExplainsList n kinds (rules_of rules) out out (record { number = oversize; length = 0 })
@@ -96,28 +97,30 @@ module _ (n : ℕ) (kinds rules out : List ℕ) where
         output = refl;
       }
 
-  module _ {number : ℕ} (number_is : number ≡ kinds_number n (length kinds)) where
-    pub other_kinds : length rules / bytes_of_rule ≤ most_rules → (number ≡ accepted → ⊥)
-        → ExplainsList n kinds (rules_of rules) out out (record { number = number; length = 0 })
-    other_kinds fit h =
-        record {
-          numbered = number_is ∙ sym (kinds_refused n kinds (rules_of rules) short (omega (arith, fit, rule_count rules)) (λ z. h (number_is ∙ z)));
-          measured = rw (ne_eqb number accepted h);
-          output = rw (ne_eqb number accepted h);
-        }
-      where
-        short : List Check
-        short = short_check (length (explained_list n kinds (rules_of rules))) (length out) ∷ []
+  pub other_kinds : (e : Refusal) → length rules / bytes_of_rule ≤ most_rules → number_of e ≡ kinds_number n (length kinds)
+      → ExplainsList n kinds (rules_of rules) out out (answer_of (Err e))
+  other_kinds e fit q =
+      record {
+        numbered = q ∙ sym (kinds_refused n kinds (rules_of rules) short (omega (arith, fit, rule_count rules)) (λ z. refusal_told e (q ∙ z)));
+        measured = rw (ne_eqb (number_of e) accepted (refusal_told e));
+        output = rw (ne_eqb (number_of e) accepted (refusal_told e));
+      }
+    where
+      short : List Check
+      short = short_check (length (explained_list n kinds (rules_of rules))) (length out) ∷ []
 
-    pub list_explained : {after : List ℕ} {r : Answer} → number ≡ accepted → Explains n (kinds ++ used rules) out after r
-        → ExplainsList n kinds (rules_of rules) out after r
-    list_explained {after} {r} zero k = subst (λ cs. AnswersWith cs (explained_list n kinds (rules_of rules)) out after r) (sym checks) by_bytes
+  module _ (zero : 0 ≡ kinds_number n (length kinds)) where
+    pub kinds_fit : length kinds ≤ most_operators
+    kinds_fit = let (few, as_many) = kinds_known n (length kinds) (sym zero) in omega arith
+
+    pub list_explained : {after : List ℕ} {r : Answer} → Explains n (kinds ++ used rules) out after r → ExplainsList n kinds (rules_of rules) out after r
+    list_explained {after} {r} k = subst (λ cs. AnswersWith cs (explained_list n kinds (rules_of rules)) out after r) (sym checks) by_bytes
       where
         as_many : length kinds ≡ n
-        as_many = (kinds_known n (length kinds) (sym number_is ∙ zero)).1
+        as_many = (kinds_known n (length kinds) (sym zero)).1
 
         all : kinds ++ used rules ≡ kinds ++ rule_bytes (rules_of rules)
-        all = ap (λ s. kinds ++ s) (used_is rules ∙ sym (whole_rules rules))
+        all = ap (λ s. kinds ++ s) (sym (whole_rules rules))
 
         checks : list_order_checks n kinds (rules_of rules) ≡ order_checks n (kinds ++ rule_bytes (rules_of rules))
         checks = list_checks n kinds (rules_of rules) as_many
@@ -129,4 +132,4 @@ module _ (n : ℕ) (kinds rules out : List ℕ) where
         by_bytes =
             subst (λ s. AnswersWith (order_checks n (kinds ++ rule_bytes (rules_of rules))) s out after r) answers (subst (λ s. Explains n s out after r) all k)
 
-pub ruleset explain_list_ways = (many_rules, other_kinds, few_kinds, rules_fit, list_explained, rules)
+pub ruleset explain_list_ways = (many_rules, other_kinds, kinds_fit, rules_fit, list_explained, rules)

@@ -6,10 +6,12 @@ ghost use Rattle.expression.specs.Limits.{most_operators};
 ghost use Rattle.disambiguation.specs.Witness.{of_triples, witness};
 ghost use Rattle.relation.specs.Relation.{closes_in, turned};
 ghost use Rattle.relation.specs.Words.{operators_by};
+ghost use Rattle.record.specs.Outcome.{answer_of};
 ghost use Rattle.witness.specs.Shapes.{Tells};
 ghost use Rattle.witness.specs.Explaining.{most_explained, Explains};
 
-use expression::{bytes, refusal};
+use expression::bytes;
+use expression::refusal::Refusal;
 use limits::MOST_EXPLAINED;
 use record::Answer;
 use relation::words;
@@ -68,30 +70,29 @@ fn tell(
 }
 
 // The sheet of n operators with their kinds and the rules: the verdict, and what shows it. After a refusal `out` is as it was.
-pub fn explain(n: u32, bytes: &[u8], out: &mut [u8]) -> Answer
+#[tactic(auto, using(crate::proofs::ExplainWays::explain_ways))]
+pub fn explain(n: u32, bytes: &[u8], out: &mut [u8]) -> Result<usize, Refusal>
+    ensures { Explains n bytes.now out.old out.new (answer_of result) }
+{
+    let relations = sheet::read(n, bytes)?;
+    let mut text = [0u8; MOST_EXPLAINED];
+    let length = tell(
+        relations.count.n,
+        relations.prefixes,
+        &relations.closes,
+        &relations.yields,
+        &mut text,
+    );
+    if out.len() < length {
+        return Err(Refusal::Short);
+    }
+    bytes::copy(&text[..length], out);
+    Ok(length)
+}
+
+// The same, as a number and a length.
+pub fn explain_numbered(n: u32, bytes: &[u8], out: &mut [u8]) -> Answer
     ensures { Explains n bytes.now out.old out.new result }
 {
-    let mut closes = [0u32; SHEET_WORDS];
-    let mut yields = [0u32; SHEET_WORDS];
-    let found = sheet::read(n, bytes, &mut closes, &mut yields);
-    let number = found.number;
-    if number != refusal::ACCEPTED {
-        return Answer {
-            number: number,
-            length: 0,
-        };
-    }
-    let mut text = [0u8; MOST_EXPLAINED];
-    let length = tell(n as usize, found.prefixes, &closes, &yields, &mut text);
-    if out.len() < length {
-        return Answer {
-            number: refusal::SHORT,
-            length: 0,
-        };
-    }
-    bytes::copy(&text[0..length], out);
-    Answer {
-        number: refusal::ACCEPTED,
-        length: length,
-    }
+    explain(n, bytes, out).into()
 }
