@@ -184,7 +184,7 @@ pub extern "C" fn tihvomen_operand(sheet: &Sheet, bytes: &[u8], right: bool) -> 
 pub extern "C" fn tihvomen_explain(n: u32, bytes: &[u8], out: &mut [u8]) -> Answer
     ensures { Explains n bytes.now out.old out.new result }
 {
-    witness::explain(n, bytes, out)
+    witness::explain(n, bytes, out).into()
 }
 
 // The same with the kinds and the rules as two lists: of the rules the bytes, three a rule.
@@ -197,7 +197,7 @@ pub extern "C" fn tihvomen_explain_rules(
 ) -> Answer
     ensures { ExplainsList n kinds.now (rules_of rules.now) out.old out.new result }
 {
-    lists::explain_list(n, kinds, rules, out)
+    lists::explain_list(n, kinds, rules, out).into()
 }
 
 // The binding powers of an operator.

@@ -18,7 +18,7 @@ fn reply_to_sheet(n: u8, bytes: &[u8], out: &mut [u8]) -> usize
     ensures { Says (sheet_bytes n bytes.now) out.old out.new result }
 {
     let mut answer = [0u8; MOST_EXPLAINED];
-    let told = witness::explain(n as u32, bytes, &mut answer);
+    let told = witness::explain_numbered(n as u32, bytes, &mut answer);
     let until = told.length;
     frame::write_reply(told.number, &answer[0..until], out)
 }
