@@ -1,4 +1,2 @@
-pub mod Range
-pub mod Stopping
 pub mod Applying
 pub mod Examples

@@ -2,19 +2,70 @@
 #![tactic(auto)]
 
 ghost use Rattle.std.specs.Prelude.{◌≡◌};
-ghost use Rattle.meanings.specs.Meanings.{is_true, truth, Or, And, Less, AtMost, Equal, Smaller, Larger, Not, Minus, applied, applied_to, meant, prefix_meant, worked, worked_on, is_missing};
+ghost use Rattle.meanings.specs.Meanings.{is_true, applied, applied_to, meant, prefix_meant, is_missing};
+ghost use Rattle.meanings.specs.Enums.{said, prefix_said};
 
-mod ends;
+use expression::refusal::Refusal;
 
-// The first and the last of infix operators.
-const OR: u8 = 1;
-
-const LARGER: u8 = 9;
+// Those of infix operators.
+#[derive(Clone, Copy, Debug, PartialEq, Eq)]
+pub enum Meaning {
+    Or = 1,
+    And,
+    Less,
+    AtMost,
+    Equal,
+    Sum,
+    Difference,
+    Smaller,
+    Larger,
+}
 
 // Those of prefix operators.
-pub const NOT: u8 = 10;
+#[derive(Clone, Copy, Debug, PartialEq, Eq)]
+pub enum PrefixMeaning {
+    Not = 10,
+    Minus,
+}
 
-const MINUS: u8 = 11;
+impl TryFrom<u8> for Meaning {
+    type Error = Refusal;
+
+    ghost use Rattle.meanings.specs.Enums.{Decodes};
+
+    ghost try_from_gives = { Decodes };
+
+    fn try_from(number: u8) -> Result<Self, Refusal> {
+        match number {
+            1 => Ok(Meaning::Or),
+            2 => Ok(Meaning::And),
+            3 => Ok(Meaning::Less),
+            4 => Ok(Meaning::AtMost),
+            5 => Ok(Meaning::Equal),
+            6 => Ok(Meaning::Sum),
+            7 => Ok(Meaning::Difference),
+            8 => Ok(Meaning::Smaller),
+            9 => Ok(Meaning::Larger),
+            _ => Err(Refusal::NoMeaning),
+        }
+    }
+}
+
+impl TryFrom<u8> for PrefixMeaning {
+    type Error = Refusal;
+
+    ghost use Rattle.meanings.specs.Enums.{PrefixDecodes};
+
+    ghost try_from_gives = { PrefixDecodes };
+
+    fn try_from(number: u8) -> Result<Self, Refusal> {
+        match number {
+            10 => Ok(PrefixMeaning::Not),
+            11 => Ok(PrefixMeaning::Minus),
+            _ => Err(Refusal::NoMeaning),
+        }
+    }
+}
 
 fn is_true(a: i32) -> bool
     ensures { result ≡ is_true a }
@@ -22,127 +73,49 @@ fn is_true(a: i32) -> bool
     a != 0
 }
 
-fn truth(holds: bool) -> i32
-    ensures { result ≡ truth holds }
-{
-    if holds {
-        return 1;
+impl Meaning {
+    // What it makes of the values of the left and of the right operand. All are worked out and one is picked, since which one it will
+    // be cannot be foreseen.
+    pub fn apply(self, a: i32, b: i32) -> i32
+        ensures { result ≡ applied (said self) a b }
+    {
+        let made = [
+            i32::from(is_true(a) | is_true(b)),
+            i32::from(is_true(a) & is_true(b)),
+            i32::from(a < b),
+            i32::from(a <= b),
+            i32::from(a == b),
+            a.saturating_add(b),
+            a.saturating_sub(b),
+            a.min(b),
+            a.max(b),
+        ];
+        made[self as usize - 1]
     }
-    0
 }
 
-fn either(a: i32, b: i32) -> i32
-    ensures { result ≡ applied Or a b }
-{
-    truth(is_true(a) | is_true(b))
-}
-
-fn both(a: i32, b: i32) -> i32
-    ensures { result ≡ applied And a b }
-{
-    truth(is_true(a) & is_true(b))
-}
-
-fn less(a: i32, b: i32) -> i32
-    ensures { result ≡ applied Less a b }
-{
-    truth(a < b)
-}
-
-fn at_most(a: i32, b: i32) -> i32
-    ensures { result ≡ applied AtMost a b }
-{
-    truth(a <= b)
-}
-
-fn equal(a: i32, b: i32) -> i32
-    ensures { result ≡ applied Equal a b }
-{
-    truth(a == b)
-}
-
-fn smaller(a: i32, b: i32) -> i32
-    ensures { result ≡ applied Smaller a b }
-{
-    if b < a {
-        return b;
+impl PrefixMeaning {
+    // What it makes of the value of the only operand.
+    pub fn apply(self, a: i32) -> i32
+        ensures { result ≡ applied_to (prefix_said self) a }
+    {
+        match self {
+            PrefixMeaning::Not => i32::from(!is_true(a)),
+            PrefixMeaning::Minus => 0i32.saturating_sub(a),
+        }
     }
-    a
-}
-
-fn larger(a: i32, b: i32) -> i32
-    ensures { result ≡ applied Larger a b }
-{
-    if a < b {
-        return b;
-    }
-    a
-}
-
-fn negated(a: i32) -> i32
-    ensures { result ≡ applied_to Not a }
-{
-    truth(!is_true(a))
-}
-
-fn minus(a: i32) -> i32
-    ensures { result ≡ applied_to Minus a }
-{
-    ends::difference(0, a)
 }
 
 // No meaning of infix operators has that number.
 pub fn is_missing(number: u8) -> bool
     ensures { result ≡ is_missing (meant number) }
 {
-    if number < OR {
-        return true;
-    }
-    LARGER < number
+    Meaning::try_from(number).is_err()
 }
 
 // No meaning of prefix operators has it.
 pub fn is_prefix_missing(number: u8) -> bool
     ensures { result ≡ is_missing (prefix_meant number) }
 {
-    if number < NOT {
-        return true;
-    }
-    MINUS < number
-}
-
-// What the meaning with that number makes of the values of the left and of the right operand; 0 where there is none. All are
-// worked out and one is picked, since which one it will be cannot be foreseen.
-pub fn apply(number: u8, a: i32, b: i32) -> i32
-    ensures { result ≡ worked (meant number) a b }
-{
-    if LARGER < number {
-        return 0;
-    }
-    let made = [
-        0,
-        either(a, b),
-        both(a, b),
-        less(a, b),
-        at_most(a, b),
-        equal(a, b),
-        ends::sum(a, b),
-        ends::difference(a, b),
-        smaller(a, b),
-        larger(a, b),
-    ];
-    made[number as usize]
-}
-
-// What the meaning with that number makes of the value of the only operand; 0 where there is none.
-pub fn apply_prefix(number: u8, a: i32) -> i32
-    ensures { result ≡ worked_on (prefix_meant number) a }
-{
-    if number == NOT {
-        return negated(a);
-    }
-    if number == MINUS {
-        return minus(a);
-    }
-    0
+    PrefixMeaning::try_from(number).is_err()
 }
