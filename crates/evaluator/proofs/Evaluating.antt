@@ -10,7 +10,6 @@ use borrow.Author.Rules.{rules}
 use borrow.Author.Tests.{lt-ltb, le-ltb, ne_eqb}
 use mir.Syntax.{w32}
 use mir.Val.{SFits}
-use mir.Facts.{to_z-of_z}
 use Rattle.expression.specs.Refusal.{first, accepted, place, empty, no_meaning, no_reading}
 use Rattle.expression.specs.Token.{Operators, class}
 use Rattle.expression.specs.Tree.{Tree, record_of}
@@ -29,9 +28,10 @@ use Rattle.run.proofs.Places.{empty_true, empty_false}
 use Rattle.evaluator.specs.Value.{lacks_meaning, lacks_reading, tree_checks}
 use Rattle.evaluator.specs.Bytes.{any_meaningless, any_beyond}
 use Rattle.evaluator.specs.Walk.{Evaluable, IsValue}
+use Rattle.std.specs.Prelude.{Ok}
+use Rattle.evaluator.specs.Outcome.{evaluation_of}
 use Rattle.evaluator.specs.Evaluation.{EvaluatesOn, evaluated, checks_in, value_in, record_and_tree, number_of, evaluation_of_record, evaluation}
 use Rattle.evaluator.specs.declared.Evaluation.{Evaluation}
-use Rattle.meanings.proofs.Stopping.{read}
 use Rattle.evaluator.proofs.Lacking.{meanings_of_tree, readings_of_tree}
 
 -- a refusal is answered with the value 0
@@ -92,46 +92,44 @@ module _ (meanings : List ℕ) (readings : List ℤ) (sheet bytes : List ℕ) wh
 
 -- ---- the value
 module _ (meanings : List ℕ) (readings : List ℤ) (ops : Operators) (bytes : List ℕ) where
-  module _ {number : ℕ} (known : number ≡ number_of meanings readings ops bytes) where
-    pub refused_record : (number ≡ accepted → ⊥) → {r : Evaluation} → r ≡ record { number = number; value = pos 0 } → r ≡ evaluation_of_record meanings readings ops bytes
+  pub refused_record : {number : ℕ} → number ≡ number_of meanings readings ops bytes → (number ≡ accepted → ⊥) → {r : Evaluation} → r ≡ record { number = number; value = pos 0 }
+      → r ≡ evaluation_of_record meanings readings ops bytes
+  unfolding evaluation_of_record
+  refused_record {number} known f = refused number (number_of meanings readings ops bytes) (value_in meanings readings (tree_of (class ops) bytes)) (sym known) f
+
+  module _ (known : accepted ≡ number_of meanings readings ops bytes) where
+    the_tree : (t : Tree) × Accepted ops bytes t
+    unfolding number_of record_number
+    the_tree = accepted_tree ops bytes (front_accepted (record_checks ops bytes) (checks_in meanings readings (tree_of (class ops) bytes)) (record_numbered ops bytes) (sym known))
+
+    none_lacking : (t : Tree) → Accepted ops bytes t → (lacks_meaning meanings t ≡ false) × (lacks_reading readings t ≡ false)
+    none_lacking t a =
+        let (m, (r, _)) = passed_first (tree_checks meanings readings t) ((λ e. omega arith), ((λ e. omega arith), tt)) (sym (by_tree meanings readings ops bytes t a) ∙ sym known) in
+        (m, r)
+
+    pub can_be_valued : Evaluable bytes meanings readings 0
+    can_be_valued =
+        let (t, a) = the_tree in
+        let (m, r) = none_lacking t a in
+        record {
+          short = a.bytes_fit;
+          ops = ops;
+          tree = t;
+          to = length bytes;
+          stands = a.stands;
+          meant = m;
+          read = r;
+        }
+
+    pub valued : {w : ℤ} → SFits w32 w → IsValue bytes meanings readings w → evaluation_of (Ok w) ≡ evaluation_of_record meanings readings ops bytes
     unfolding evaluation_of_record
-    refused_record f = refused number (number_of meanings readings ops bytes) (value_in meanings readings (tree_of (class ops) bytes)) (sym known) f
-
-    module _ (z : number ≡ accepted) where
-      the_tree : (t : Tree) × Accepted ops bytes t
-      unfolding number_of record_number
-      the_tree = accepted_tree ops bytes (front_accepted (record_checks ops bytes) (checks_in meanings readings (tree_of (class ops) bytes)) (record_numbered ops bytes) (sym known ∙ z))
-
-      none_lacking : (t : Tree) → Accepted ops bytes t → (lacks_meaning meanings t ≡ false) × (lacks_reading readings t ≡ false)
-      none_lacking t a =
-          let (m, (r, _)) = passed_first (tree_checks meanings readings t) ((λ e. omega arith), ((λ e. omega arith), tt)) (sym (by_tree meanings readings ops bytes t a) ∙ sym known ∙ z) in
-          (m, r)
-
-      pub can_be_valued : Evaluable bytes meanings readings 0
-      can_be_valued =
-          let (t, a) = the_tree in
-          let (m, r) = none_lacking t a in
-          record {
-            short = a.bytes_fit;
-            ops = ops;
-            tree = t;
-            to = length bytes;
-            stands = a.stands;
-            meant = m;
-            read = r;
-          }
-
-      pub valued : {w : ℤ} → SFits w32 w → IsValue bytes meanings readings w → record { number = accepted; value = read w } ≡ evaluation_of_record meanings readings ops bytes
-      unfolding evaluation_of_record
-      valued {w = w} f r =
-          let (t, a) = the_tree in
-          let same : read w ≡ value_in meanings readings (tree_of (class ops) bytes) =
-          to_z-of_z f ∙ r.valued ops t (length bytes) a.stands (none_lacking t a).0 ∙ ap (value_in meanings readings) (sym a.read) in
-          rw (sym known ∙ z) (ap (λ (x : ℤ). record { number = accepted; value = x }) same)
+    valued {w = w} f r =
+        let (t, a) = the_tree in
+        let same : w ≡ value_in meanings readings (tree_of (class ops) bytes) =
+        r.valued ops t (length bytes) a.stands (none_lacking t a).0 ∙ ap (value_in meanings readings) (sym a.read) in
+        rw (sym known) (ap (λ (x : ℤ). evaluation_of (Ok x)) same)
 
 pub ruleset number_of_ways = (own_number, no_stranger, no_meaning_lem, no_reading_lem, nothing_lacks, rules)
-
-pub ruleset evaluate_record_ways = (refused_record, can_be_valued, valued, rules)
 
 -- ---- a place
 module _ (meanings : List ℕ) (readings : List ℤ) (sheet : List ℕ) (places : List (List ℕ)) (k : ℕ) where
@@ -157,4 +155,4 @@ module _ (meanings : List ℕ) (readings : List ℤ) (sheet : List ℕ) (places 
   pub over : {r : Evaluation} → place_count ≤ k → r ≡ record { number = place; value = pos 0 } → EvaluatesOn meanings readings sheet places k r
   over h q = as_held refl (refused place _ _ (rw (le-ltb k place_count h)) (λ e. omega arith) q)
 
-pub ruleset evaluate_ways = (over, none_held, held_valued, rules)
+pub ruleset evaluate_ways = (over, none_held, held_valued, refused_record, can_be_valued, valued, rules)

@@ -23,7 +23,6 @@ use Rattle.expression.specs.Checks.{strange_in_record}
 use Rattle.expression.proofs.Cond.{by_cond}
 use Rattle.expression.proofs.Classes.{by_class, infix_byte, prefix_byte, reading_byte}
 use Rattle.expression.proofs.Tests.{any_append, any_same, any_none, none_at}
-use Rattle.expression.proofs.Looking.{Looked, looked_none, looked_more, looked_all}
 use Rattle.disambiguation.specs.Below.{all_below}
 use Rattle.disambiguation.proofs.BelowLaws.{all_below_at}
 use Rattle.sheet.specs.Layout.{operators_of, prefix_in, some_prefix}
@@ -50,13 +49,6 @@ module _ (sheet lent : List ℕ) (byte : ℕ) where
       as_infix z e = rw (lt-ltb byte most_operators h, sym kind ∙ z) e
 
 pub ruleset meaningless_ways = (no_operator, past_the_list, as_prefix, as_infix, rules)
-
--- ---- all bytes
-pub all_meaningless : (sheet lent bytes : List ℕ) {at : ℕ} {found : Bool} → Looked (meaningless sheet lent) bytes found at → length bytes ≤ at → found ≡ any_meaningless sheet lent bytes
-unfolding any_meaningless
-all_meaningless sheet lent bytes l h = looked_all (meaningless sheet lent) bytes l h
-
-pub ruleset looking_ways = (looked_none, looked_more, looked_all, all_meaningless, rules)
 
 -- ---- all operators
 module _ (sheet lent : List ℕ) where

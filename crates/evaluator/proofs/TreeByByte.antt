@@ -1,10 +1,10 @@
 -- The tree at a place, by the byte there and, where that is an operator, by the number of its meaning. Assumes nothing.
 use Prim.Native.Nat.{ℕ, ◌+◌, ◌≤◌, ◌<◌}
 use native.Mathlib.Nat.{add-zero}
-use native.Mathlib.Decide.{dec_lt}
 use native.Mathlib.Omega.{arith}
 use mathlib.Core.Path.{◌≡◌, refl, ap, sym, ◌∙◌}
 use mathlib.Core.Bool.{false, ◌||◌, true≢false}
+use mathlib.Core.Option.{none, some}
 use mathlib.Core.List.{List, ◌++◌}
 use lib.ListN.{get_or, drop}
 use lib.Seq.{get_or-drop}
@@ -14,28 +14,9 @@ use Rattle.expression.proofs.Classes.{infix_byte, prefix_byte, reading_byte}
 use Rattle.expression.proofs.Tests.{both_false}
 use Rattle.record.specs.TreeAt.{TreeAt}
 use Rattle.record.proofs.Trees.{top_node, in_bracket, in_prefix, an_operator}
-use Rattle.meanings.specs.Meanings.{meant, prefix_meant, is_missing}
-use Rattle.meanings.proofs.Applying.{over_nine, under_one, under_ten}
+use Rattle.meanings.specs.Meanings.{PrefixMeaning, prefix_meant, is_missing}
+use Rattle.meanings.proofs.Numbers.{in_meant, in_prefix_meant, one_kind}
 use Rattle.evaluator.specs.Value.{meaning_in, prefix_meaning_in, lacks_meaning}
-
--- ---- the number of a meaning tells the kind
-infix_number : (n : ℕ) → is_missing (meant n) ≡ false → (1 ≤ n) × (n < 10)
-infix_number n e = (go (dec_lt n 1), up (dec_lt n 10))
-  where
-    go : Dec (n < 1) → 1 ≤ n
-    go (yes l) = absurd (true≢false (under_one n l ∙ e))
-    go (no l) = omega arith
-
-    up : Dec (n < 10) → n < 10
-    up (yes l) = l
-    up (no l) = absurd (true≢false (sym (ap (λ m. is_missing m) (over_nine n (omega arith))) ∙ e))
-
-prefix_number : (n : ℕ) → is_missing (prefix_meant n) ≡ false → 10 ≤ n
-prefix_number n e = go (dec_lt n 10)
-  where
-    go : Dec (n < 10) → 10 ≤ n
-    go (yes l) = absurd (true≢false (under_ten n l ∙ e))
-    go (no l) = omega arith
 
 -- ---- what operands have of the tree's meanings
 pub operands_meant : (lent : List ℕ) (o : ℕ) (l r : Tree) → lacks_meaning lent (binary o l r) ≡ false
@@ -88,21 +69,23 @@ module _ (ops : Operators) (bytes : List ℕ) (from : ℕ) where
     pub is_numbered : (t : Tree) {to : ℕ} → TreeAt ops bytes from t to → lacks_meaning lent t ≡ false → 1 ≤ get_or lent (get_or bytes from 0) 0
     is_numbered (reading a) x m = no_leaf a x
     is_numbered (bracket u) x m = absurd (n (first_byte (bracket u) x))
-    is_numbered (binary o l r) x m = omega (arith, number_of (binary o l r) x, infix_number (get_or lent o 0) (operands_meant lent o l r m).0)
-    is_numbered (prefix p u) x m = omega (arith, number_of (prefix p u) x, prefix_number (get_or lent p 0) (operand_meant lent p u m).0)
+    is_numbered (binary o l r) x m = omega (arith, number_of (binary o l r) x, in_meant (get_or lent o 0) (operands_meant lent o l r m).0)
+    is_numbered (prefix p u) x m = omega (arith, number_of (prefix p u) x, in_prefix_meant (get_or lent p 0) (operand_meant lent p u m).0)
 
-    pub is_infix_lem : get_or lent (get_or bytes from 0) 0 < 10 → (t : Tree) {to : ℕ} → TreeAt ops bytes from t to → lacks_meaning lent t ≡ false
+    pub is_infix_lem : prefix_meant (get_or lent (get_or bytes from 0) 0) ≡ none → (t : Tree) {to : ℕ} → TreeAt ops bytes from t to → lacks_meaning lent t ≡ false
         → (l : Tree) × (r : Tree) × (mid : ℕ) × (t ≡ binary (get_or bytes from 0) l r) × TreeAt ops bytes (from + 1) l mid × TreeAt ops bytes mid r to
     is_infix_lem k (reading a) x m = no_leaf a x
     is_infix_lem k (bracket u) x m = absurd (n (first_byte (bracket u) x))
     is_infix_lem k (binary o l r) x m =
         let (u, v, mid, e, a, b) = an_operator ops bytes from refl (top_node ops bytes from (binary o l r) x) (binary o l r) x in
         (u, v, mid, e ∙ ap (λ p. binary p u v) (sym (first_byte (binary o l r) x)), a, b)
-    is_infix_lem k (prefix p u) x m = absurd (omega (arith, number_of (prefix p u) x, prefix_number (get_or lent p 0) (operand_meant lent p u m).0))
+    is_infix_lem k (prefix p u) x m =
+        absurd (true≢false (sym (ap is_missing (ap prefix_meant (number_of (prefix p u) x) ∙ k)) ∙ (operand_meant lent p u m).0))
 
-    pub is_prefix_lem : 10 ≤ get_or lent (get_or bytes from 0) 0 → (t : Tree) {to : ℕ} → TreeAt ops bytes from t to → lacks_meaning lent t ≡ false
+    pub is_prefix_lem : {v : PrefixMeaning} → prefix_meant (get_or lent (get_or bytes from 0) 0) ≡ some v → (t : Tree) {to : ℕ} → TreeAt ops bytes from t to → lacks_meaning lent t ≡ false
         → (u : Tree) × (t ≡ prefix (get_or bytes from 0) u) × TreeAt ops bytes (from + 1) u to
     is_prefix_lem k (reading a) x m = no_leaf a x
     is_prefix_lem k (bracket u) x m = absurd (n (first_byte (bracket u) x))
-    is_prefix_lem k (binary o l r) x m = absurd (omega (arith, number_of (binary o l r) x, infix_number (get_or lent o 0) (operands_meant lent o l r m).0))
+    is_prefix_lem k (binary o l r) x m =
+        absurd (true≢false (sym (one_kind (get_or lent o 0) (ap prefix_meant (number_of (binary o l r) x) ∙ k)) ∙ (operands_meant lent o l r m).0))
     is_prefix_lem k (prefix p u) {to} x m = (u, ap (λ c. prefix c u) (sym (first_byte (prefix p u) x)), in_prefix ops bytes from p u to x)

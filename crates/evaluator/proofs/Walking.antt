@@ -5,12 +5,13 @@ use native.Mathlib.Omega.{arith}
 use mathlib.Core.Path.{◌≡◌, ap, ap₂, sym, ◌∙◌}
 use mathlib.Core.Bool.{false}
 use mathlib.Core.List.{List}
+use mathlib.Core.Option.{Option, none, some}
 use lib.IntN.{ℤ, pos}
 use lib.ListN.{length, get_or, get_or-eq_default}
 use borrow.Author.Rules.{rules}
 use borrow.Author.Tests.{leb-false}
 use mir.Syntax.{w32, w64}
-use mir.Val.{Fits, SFits}
+use mir.Val.{Fits, SFits, to_z, of_z}
 use mir.Facts.{to_z-of_z}
 use Rattle.expression.specs.Token.{opening, first_reading, Operators}
 use Rattle.expression.specs.Tree.{Tree, binary}
@@ -18,11 +19,14 @@ use Rattle.expression.proofs.Tests.{both_false}
 use Rattle.record.specs.TreeAt.{TreeAt}
 use Rattle.record.proofs.Trees.{ends_within}
 use Rattle.record.proofs.Standing.{onward}
-use Rattle.meanings.specs.Meanings.{meant, prefix_meant, worked, worked_on}
-use Rattle.meanings.proofs.Stopping.{read}
+use Rattle.meanings.specs.Meanings.{Meaning, PrefixMeaning, meant, prefix_meant, applied_to, worked, worked_on}
 use Rattle.evaluator.specs.Value.{value, lacks_meaning, lacks_reading}
 use Rattle.evaluator.specs.Walk.{Evaluable, Values, IsValue}
 use Rattle.evaluator.proofs.TreeByByte.{operands_meant, operand_meant, small_byte, is_leaf, is_bracket_lem, is_numbered, is_infix_lem, is_prefix_lem}
+
+-- a number as it is read back from its bits
+abbrev read : ℤ → ℤ
+read z = to_z w32 (of_z w32 z)
 
 -- what falls: the bytes from a place on, twice, since a node may be entered as an operand first
 abbrev pub node_due : List ℕ → ℕ → ℕ
@@ -106,7 +110,7 @@ module _ {bytes lent : List ℕ} {readings : List ℤ} {from : ℕ} (p : Evaluab
         go (no l) = absurd (omega (arith, is_numbered p.ops bytes from h n lent p.tree p.stands p.meant, get_or-eq_default lent 0 {n = get_or bytes from 0} (omega arith)))
 
     -- a prefix operator, and the operand behind it
-    module _ (k : 10 ≤ get_or lent (get_or bytes from 0) 0) where
+    module _ {said : PrefixMeaning} (k : prefix_meant (get_or lent (get_or bytes from 0) 0) ≡ some said) where
       pub operand_evaluable : Evaluable bytes lent readings (from + 1)
       operand_evaluable =
           let (u, e, x) = is_prefix_lem p.ops bytes from h n lent k p.tree p.stands p.meant in
@@ -121,17 +125,17 @@ module _ {bytes lent : List ℕ} {readings : List ℤ} {from : ℕ} (p : Evaluab
           }
 
       pub prefix_value : {to : ℕ} {v r : ℤ} → Values bytes lent readings (from + 1) to v → SFits w32 v → SFits w32 r
-          → r ≡ worked_on (prefix_meant (get_or lent (get_or bytes from 0) 0)) (read v) → Values bytes lent readings from to (read r)
+          → r ≡ applied_to said (read v) → Values bytes lent readings from to (read r)
       prefix_value {to} {v} {r} first fv fr q =
           record {
             valued = λ ops t end x m.
                 let (u, e, y) = is_prefix_lem ops bytes from h n lent k t x m in
                 let (i, j) = first.valued ops u end y (operand_meant lent (get_or bytes from 0) u (ap (lacks_meaning lent) (sym e) ∙ m)).1 in
-                (i, to_z-of_z fr ∙ q ∙ ap (worked_on (prefix_meant (get_or lent (get_or bytes from 0) 0))) (to_z-of_z fv ∙ j) ∙ ap (value lent readings) (sym e));
+                (i, to_z-of_z fr ∙ q ∙ ap (applied_to said) (to_z-of_z fv ∙ j) ∙ ap (λ w. worked_on w (value lent readings u)) (sym k) ∙ ap (value lent readings) (sym e));
           }
 
     -- an infix operator, and the operands behind it
-    module _ (k : get_or lent (get_or bytes from 0) 0 < 10) where
+    module _ (k : prefix_meant (get_or lent (get_or bytes from 0) 0) ≡ none) where
       pub left_evaluable : Evaluable bytes lent readings (from + 1)
       left_evaluable =
           let (l, r, mid, e, x, y) = is_infix_lem p.ops bytes from h n lent k p.tree p.stands p.meant in
@@ -159,15 +163,15 @@ module _ {bytes lent : List ℕ} {readings : List ℤ} {from : ℕ} (p : Evaluab
             record { short = p.short; ops = p.ops; tree = r; to = p.to; stands = rw (sym (after_left p.ops l r lacks x).0) at y; meant = a; read = b }
 
         pub infix_value : {to : ℕ} {w r : ℤ} → Values bytes lent readings mid to w → SFits w32 v → SFits w32 w → SFits w32 r
-            → r ≡ worked (meant (get_or lent (get_or bytes from 0) 0)) (read v) (read w) → Values bytes lent readings from to (read r)
-        infix_value {to} {w} {r} second fv fw fr q =
+            → {said : Option Meaning} → meant (get_or lent (get_or bytes from 0) 0) ≡ said → r ≡ worked said (read v) (read w) → Values bytes lent readings from to (read r)
+        infix_value {to} {w} {r} second fv fw fr {said} s q =
             record {
               valued = λ ops t end x lacks.
                   let (l, i, m, e, a, b) = is_infix_lem ops bytes from h n lent k t x lacks in
                   let none = ap (lacks_meaning lent) (sym e) ∙ lacks in
                   let (c, d) = after_left ops l i none a in
                   let (c2, d2) = second.valued ops i end (rw (sym c) at b) (operands_meant lent (get_or bytes from 0) l i none).2 in
-                  (c2, to_z-of_z fr ∙ q ∙ ap₂ (worked (meant (get_or lent (get_or bytes from 0) 0))) (to_z-of_z fv ∙ d) (to_z-of_z fw ∙ d2) ∙ ap (value lent readings) (sym e));
+                  (c2, to_z-of_z fr ∙ q ∙ ap₂ (worked said) (to_z-of_z fv ∙ d) (to_z-of_z fw ∙ d2) ∙ ap (λ w. worked w (value lent readings l) (value lent readings i)) (sym s) ∙ ap (value lent readings) (sym e));
             }
 
 -- ---- the whole record

@@ -3,3 +3,4 @@ pub mod Bytes
 pub mod Walk
 pub mod Evaluation
 pub mod Promises
+pub mod Outcome

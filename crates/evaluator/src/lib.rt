@@ -2,17 +2,18 @@
 // A library above the panel's: nothing of the panel rests on it.
 #![tactic(auto)]
 
-ghost use Rattle.std.specs.Prelude.{◌≡◌, pos};
-ghost use Rattle.sheet.specs.Layout.{operators_of};
+ghost use Rattle.std.specs.Prelude.{◌≡◌};
 ghost use Rattle.places.specs.Store.{records_in};
-ghost use Rattle.evaluator.specs.Evaluation.{number_of, evaluation_of_record, EvaluatesOn};
+ghost use Rattle.evaluator.specs.Evaluation.{EvaluatesOn};
+ghost use Rattle.evaluator.specs.Outcome.{evaluation_of};
 
-use expression::refusal;
-use places::limits;
-use places::Store;
+use expression::refusal::{self, Refusal};
+use lent::Lent;
+use places::{Store, limits};
 use sheet::Sheet;
 
 mod checks;
+mod lent;
 mod walk;
 
 // The number of an evaluation, and the value of the tree; 0 after a refusal.
@@ -23,69 +24,41 @@ pub struct Evaluation {
     pub value: i32,
 }
 
-// The answer of a refusal.
-fn unevaluated(number: u8) -> Evaluation
-    ensures { result ≡ record { number = number; value = pos 0 } }
-{
-    Evaluation {
-        number: number,
-        value: 0,
-    }
-}
+impl From<Result<i32, Refusal>> for Evaluation {
+    ghost from_gives = { λ outcome answer. answer ≡ evaluation_of outcome };
 
-// The number of a record's evaluation: the record's own, then 13 for its operators, 14 for its readings, or 0.
-fn number_of(sheet: &Sheet, bytes: &[u8], meanings: &[u8], readings: &[i32]) -> u8
-    ensures { result ≡ number_of meanings.now readings.now (operators_of sheet.now) bytes.now }
-{
-    let number = record::record_number(sheet, bytes);
-    if number != refusal::ACCEPTED {
-        return number;
-    }
-    if checks::lacks_meaning(sheet, meanings, bytes) {
-        return refusal::NO_MEANING;
-    }
-    if checks::lacks_reading(readings.len(), bytes) {
-        return refusal::NO_READING;
-    }
-    refusal::ACCEPTED
-}
-
-// The value of the tree that the record is of.
-fn evaluate_record(
-    sheet: &Sheet,
-    bytes: &[u8],
-    meanings: &[u8],
-    readings: &[i32],
-) -> Evaluation
-    ensures { result ≡ evaluation_of_record meanings.now readings.now (operators_of sheet.now) bytes.now }
-{
-    let number = number_of(sheet, bytes, meanings, readings);
-    if number != refusal::ACCEPTED {
-        return unevaluated(number);
-    }
-    let value = walk::value_of(bytes, meanings, readings);
-    Evaluation {
-        number: refusal::ACCEPTED,
-        value: value,
+    fn from(outcome: Result<i32, Refusal>) -> Evaluation {
+        let number = refusal::number(&outcome);
+        Evaluation {
+            number: number,
+            value: outcome.unwrap_or(0),
+        }
     }
 }
 
 // The value of the tree that the place holds. The meaning of operator o is byte o of `meanings`; reading 80 is the first of `readings`.
+#[tactic(auto, using(crate::proofs::Evaluating::evaluate_ways))]
 pub fn evaluate(
     sheet: &Sheet,
     places: &Store,
     place: u32,
     meanings: &[u8],
     readings: &[i32],
-) -> Evaluation
-    ensures { EvaluatesOn meanings.now readings.now sheet.now (records_in places.now) place result }
+) -> Result<i32, Refusal>
+    ensures { EvaluatesOn meanings.now readings.now sheet.now (records_in places.now) place (evaluation_of result) }
 {
     if limits::PLACE_COUNT as u32 <= place {
-        return unevaluated(refusal::PLACE);
+        return Err(Refusal::Place);
     }
     let bytes = places.held_record(place as u8);
-    if bytes.len() == 0 {
-        return unevaluated(refusal::EMPTY);
+    if bytes.is_empty() {
+        return Err(Refusal::Empty);
     }
-    evaluate_record(sheet, bytes, meanings, readings)
+    let lent = Lent {
+        bytes: bytes,
+        meanings: meanings,
+        readings: readings,
+    };
+    lent.check(sheet)?;
+    Ok(lent.value())
 }

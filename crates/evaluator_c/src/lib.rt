@@ -18,5 +18,5 @@ pub extern "C" fn tihvomen_evaluate(
 ) -> Evaluation
     ensures { EvaluatesOn meanings.now readings.now sheet.now (records_in places.now) place result }
 {
-    evaluator::evaluate(sheet, places, place, meanings, readings)
+    evaluator::evaluate(sheet, places, place, meanings, readings).into()
 }
