@@ -1,8 +1,9 @@
 // Lines in a buffer: where one ends, and the unfinished one moved to the front.
 #![tactic(auto)]
 
-ghost use Rattle.std.specs.Prelude.{◌≡◌, ◌+◌, ◌≤◌, length};
-ghost use Rattle.line_io.specs.Lines.{Ends, Tests, Skips};
+ghost use Rattle.std.specs.Prelude.{◌≡◌, ◌==◌, position};
+ghost use Rattle.std.specs.List.{position_or_len};
+ghost use Rattle.line_io.specs.Lines.{has_end, Ends};
 ghost use Rattle.line_io.specs.Moves.{moved_to_front};
 
 pub const LINE_FEED: u8 = 10;
@@ -10,64 +11,45 @@ pub const LINE_FEED: u8 = 10;
 // How many bytes are tested at a time.
 const STEP: usize = 32;
 
-// Among the bytes of a step there is a line end. The loop has no early end, so that they are tested together.
-fn has_end(buf: &[u8], at: usize) -> bool
-    requires { at + 32 ≤ length buf.now }
-    ensures { Tests buf.now at result }
+// Among the bytes there is a line end. None ends the test early, so that they are tested together.
+fn has_end(bytes: &[u8]) -> bool
+    ensures { result ≡ has_end bytes.now }
 {
-    let mut found = false;
-    let mut i = 0;
-    while i < STEP {
-        found = found | (buf[at + i] == LINE_FEED);
-        i += 1;
-    }
-    found
+    bytes
+        .iter()
+        .fold(false, |found, c| found | (*c == LINE_FEED))
 }
 
-// A place as near to the first line end as whole steps go.
-fn skip_steps(buf: &[u8], from: usize) -> usize
-    requires { from ≤ length buf.now }
-    ensures { Skips buf.now from result }
+// The first step that has a line end.
+fn first_step(steps: &[[u8; STEP]]) -> Option<usize>
+    ensures { result ≡ position has_end steps.now }
 {
-    let mut i = from;
-    while STEP <= buf.len() - i {
-        if has_end(buf, i) {
-            return i;
-        }
-        i += STEP;
-    }
-    i
+    steps.iter().position(|step| has_end(step))
 }
 
-// The place of the first line end from a place on, or the buffer's length where there is none.
-pub fn line_end(buf: &[u8], from: usize) -> usize
+// The first line end among the bytes.
+fn first_end(bytes: &[u8]) -> Option<usize>
+    ensures { result ≡ position (λ c. c == 10) bytes.now }
+{
+    bytes.iter().position(|c| *c == LINE_FEED)
+}
+
+// The place of the first line end from a place on.
+pub fn line_end(buf: &[u8], from: usize) -> Option<usize>
     ensures { Ends buf.now from result }
 {
-    if buf.len() < from {
-        return from;
-    }
-    let mut i = skip_steps(buf, from);
-    while i < buf.len() {
-        if buf[i] == LINE_FEED {
-            return i;
-        }
-        i += 1;
-    }
-    i
+    let rest = buf.get(from..)?;
+    let (steps, _) = rest.as_chunks::<STEP>();
+    let skipped = first_step(steps).unwrap_or(steps.len()) * STEP;
+    let more = first_end(&rest[skipped..])?;
+    Some(from + skipped + more)
 }
 
 // The bytes from one place up to another, moved to the front; nothing where they are no part of the buffer.
 pub fn move_to_front(buf: &mut [u8], from: usize, to: usize)
     ensures { buf.new ≡ moved_to_front from to buf.old }
 {
-    if buf.len() < to {
-        return;
-    }
-    let mut i = from;
-    let mut o = 0;
-    while i < to {
-        buf[o] = buf[i];
-        i += 1;
-        o += 1;
+    if from <= to && to <= buf.len() {
+        buf.copy_within(from..to, 0);
     }
 }

@@ -54,8 +54,7 @@ pub fn answer_lines(
     let mut reply = [0u8; MOST_REPLY];
     let mut rest = from;
     let mut filled = 0;
-    let mut end = line_io::line_end(buf, from);
-    while end < buf.len() && filled <= MOST_FILLED {
+    while filled <= MOST_FILLED && let Some(end) = line_io::line_end(buf, rest) {
         filled = answer(
             sheet,
             staged,
@@ -66,7 +65,6 @@ pub fn answer_lines(
             filled,
         );
         rest = end + 1;
-        end = line_io::line_end(buf, rest);
     }
     Lines {
         rest: rest,
