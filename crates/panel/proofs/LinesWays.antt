@@ -7,7 +7,7 @@ use borrow.Author.Rules.{rules}
 use lib.ListN.{length, get_or, take, drop, length-drop, take-append-drop}
 use lib.Seq.{take-suc, drop-drop, get_or-take, get_or-drop, length-take-le}
 use Rattle.run.specs.Panel.{Panel}
-use Rattle.std.specs.Prelude.{Some, None}
+use Rattle.std.specs.Prelude.{Option, Some, None}
 use Rattle.line_io.specs.Lines.{line_feed, line_end, Ends}
 use Rattle.line_io.proofs.Laws.{line_end_here, none_before_line_end, ends_found, ends_none}
 use Rattle.frame.specs.Lines.{line_reply, line_after}
@@ -94,7 +94,7 @@ module _ {p : Panel} {s : List ℕ} {from : ℕ} {out : List ℕ} {rest filled :
         stands = w.stands ∙ ap (λ q. line_after q line) t.stands;
         inside = omega (arith, f.inside);
         room = omega (arith, w.inside);
-            long = l ∙ t.long;
+        long = l ∙ t.long;
       }
 
   answering_so_far : (length (take filled out) ≤ most_filled → Plain (drop rest s)) → AnswersLines p s from out rest filled later
@@ -104,8 +104,8 @@ module _ {p : Panel} {s : List ℕ} {from : ℕ} {out : List ℕ} {rest filled :
     room = omega (arith, t.room, t.long);
   }
 
-  pub answering_all : Ends s rest None → AnswersLines p s from out rest filled later
-  answering_all f = answering_so_far (λ _. none_left f)
+  pub answering_all : {r : Option ℕ} → Ends s rest r → r ≡ None → AnswersLines p s from out rest filled later
+  answering_all f e = answering_so_far (λ _. none_left (rw e at f))
 
   pub answering_full : most_filled < filled → AnswersLines p s from out rest filled later
   answering_full h =

@@ -54,7 +54,9 @@ pub fn answer_lines(
     let mut reply = [0u8; MOST_REPLY];
     let mut rest = from;
     let mut filled = 0;
-    while filled <= MOST_FILLED && let Some(end) = line_io::line_end(buf, rest) {
+    while filled <= MOST_FILLED
+        && let Some(end) = line_io::line_end(buf, rest)
+    {
         filled = answer(
             sheet,
             staged,

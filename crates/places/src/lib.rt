@@ -16,6 +16,7 @@ mod write;
 
 // A lent store: the places one after the other; all zero is the one whose places are empty.
 #[repr(C)]
+#[derive(Drop)]
 pub struct Store {
     bytes: [u8; STORE_BYTES],
 }
