@@ -16,7 +16,7 @@ pub fn shortest_row(sheet: &Sheet, bytes: &[u8], out: &mut [u8]) -> Answer
     ensures { AnswersShortest sheet.now bytes.now out.old out.new result }
 {
     let mut whole = [0u8; limits::MOST_RECORD_BYTES];
-    let repaired = parser::repair_record(sheet, bytes, &mut whole);
+    let repaired = parser::repair_record_numbered(sheet, bytes, &mut whole);
     let number = repaired.number;
     if number != refusal::ACCEPTED {
         return Answer {

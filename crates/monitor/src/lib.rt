@@ -169,14 +169,14 @@ pub fn image(places: &Store, place: u32, out: &mut [u8]) -> Answer
 pub fn build(sheet: &Sheet, row: &[u8], out: &mut [u8]) -> Answer
     ensures { AnswersUnder sheet.now (build row.now out.old) result out.new }
 {
-    parser::build_row(sheet, row, out)
+    parser::build_row_numbered(sheet, row, out)
 }
 
 // The record of the conflict-free tree of the record's row, at the front of `out`.
 pub fn repair(sheet: &Sheet, bytes: &[u8], out: &mut [u8]) -> Answer
     ensures { AnswersUnder sheet.now (repair bytes.now out.old) result out.new }
 {
-    parser::repair_record(sheet, bytes, out)
+    parser::repair_record_numbered(sheet, bytes, out)
 }
 
 // The number of the record, and its conflict count.

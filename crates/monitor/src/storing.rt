@@ -16,7 +16,7 @@ pub fn store_row(sheet: &Sheet, places: &mut Store, place: u8, row: &[u8], buffe
     requires { most_record_bytes ≤ length buffer.old }
     ensures { StoresRow sheet.now places.old place row.now result places.new }
 {
-    let built = parser::build_row(sheet, row, buffer);
+    let built = parser::build_row_numbered(sheet, row, buffer);
     let number = built.number;
     if number != refusal::ACCEPTED {
         return number;
@@ -37,7 +37,7 @@ pub fn store_record(
     requires { most_record_bytes ≤ length buffer.old }
     ensures { StoresRecord sheet.now places.old place bytes.now result places.new }
 {
-    let repaired = parser::repair_record(sheet, bytes, buffer);
+    let repaired = parser::repair_record_numbered(sheet, bytes, buffer);
     let number = repaired.number;
     if number != refusal::ACCEPTED {
         return number;
@@ -65,7 +65,7 @@ fn rebuild_by(sheet: &Sheet, places: &mut Store, place: u8, buffer: &mut [u8])
     ensures { records_in places.new ≡ rebuilt_at sheet.now (records_in places.old) place }
 {
     let bytes = places.held_record(place);
-    let repaired = parser::repair_record(sheet, bytes, buffer);
+    let repaired = parser::repair_record_numbered(sheet, bytes, buffer);
     let number = repaired.number;
     if number != refusal::ACCEPTED {
         return;

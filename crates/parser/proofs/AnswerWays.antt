@@ -13,6 +13,9 @@ use lib.Seq.{take-suc, take_all, length-take-le}
 use borrow.Author.Tests.{ne_eqb}
 use borrow.Author.Rules.{rules}
 use Rattle.expression.specs.Limits.{most_tokens}
+use Rattle.expression.specs.Refusal.{accepted, short}
+use Rattle.expression.specs.Outcome.{number_of}
+use Rattle.expression.specs.declared.refusal.Refusal.{Refusal}
 use Rattle.expression.specs.Token.{closing}
 use Rattle.expression.specs.Checks.{record_bytes, short_check, row_checks, row_number, build_number}
 use Rattle.expression.proofs.Lengths.{count_append}
@@ -22,6 +25,7 @@ use Rattle.sheet.specs.Relation.{closes_in}
 use Rattle.parser.specs.Build.{built}
 use Rattle.parser.specs.Reading.{share, Buildable}
 use Rattle.parser.specs.Answers.{AnswersBuild}
+use Rattle.parser.proofs.Outcomes.{not_accepted}
 use Rattle.parser.proofs.BuildLaws.{built_length_accepted, accepted_buildable}
 use Rattle.parser.proofs.Shares.{share_small}
 
@@ -57,44 +61,44 @@ pub ruleset bytes_ways = (counted_none, counted_more, counted_fits, counted_all,
 
 -- ---- build_row
 module _ (sheet row out : List ℕ) where
-  pub build_refused : {number : ℕ} → number ≡ row_number (operators_of sheet) row → (number ≡ 0 → ⊥) → AnswersBuild sheet row out out (record { number = number; length = 0 })
+  pub build_refused : (r : Refusal) → number_of r ≡ row_number (operators_of sheet) row → AnswersBuild sheet row out out (record { number = number_of r; length = 0 })
   unfolding row_number build_number
-  build_refused {number} e h =
+  build_refused r e =
       record {
-        numbered = e ∙ sym (first_refused (row_checks (operators_of sheet) row) (short_check (record_bytes row) (length out) ∷ []) (λ f. h (e ∙ f)));
-        measured = rw (ne_eqb number 0 h);
-        output = rw (ne_eqb number 0 h);
+        numbered = e ∙ sym (first_refused (row_checks (operators_of sheet) row) (short_check (record_bytes row) (length out) ∷ []) (λ f. not_accepted r (e ∙ f)));
+        measured = rw (ne_eqb (number_of r) accepted (not_accepted r));
+        output = rw (ne_eqb (number_of r) accepted (not_accepted r));
       }
 
-  module _ {number m : ℕ} (e : number ≡ row_number (operators_of sheet) row) (f : number ≡ 0) (b : m ≡ record_bytes row) where
-    pub build_short : length out < m → AnswersBuild sheet row out out (record { number = 10; length = 0 })
+  module _ {m : ℕ} (e : accepted ≡ row_number (operators_of sheet) row) (b : m ≡ record_bytes row) where
+    pub build_short : length out < m → AnswersBuild sheet row out out (record { number = short; length = 0 })
     unfolding row_number build_number
     build_short h =
         record {
-          numbered = sym (first_short (row_checks (operators_of sheet) row) (record_bytes row) (length out) (sym e ∙ f) (row_numbered (operators_of sheet) row) (omega arith));
+          numbered = sym (first_short (row_checks (operators_of sheet) row) (record_bytes row) (length out) (sym e) (row_numbered (operators_of sheet) row) (omega arith));
           measured = refl;
           output = refl;
         }
 
     -- the whole part is the record, and what lies past it is as before
-    pub build_done : {part : List ℕ} → m ≤ length out → part ≡ built (operators_of sheet) (closes_in sheet) row → AnswersBuild sheet row out (part ++ drop (m - 0) out) (record { number = 0; length = m })
+    pub build_done : {part : List ℕ} → m ≤ length out → part ≡ built (operators_of sheet) (closes_in sheet) row → AnswersBuild sheet row out (part ++ drop (m - 0) out) (record { number = accepted; length = m })
     unfolding row_number build_number
     build_done h same =
-        let long : length (built (operators_of sheet) (closes_in sheet) row) ≡ m = built_length_accepted (closes_in sheet) (operators_of sheet) row (sym e ∙ f) ∙ sym b in
+        let long : length (built (operators_of sheet) (closes_in sheet) row) ≡ m = built_length_accepted (closes_in sheet) (operators_of sheet) row (sym e) ∙ sym b in
         let ends : m - 0 ≡ length (built (operators_of sheet) (closes_in sheet) row) = omega (arith, long) in
         record {
-          numbered = sym (first_roomy (row_checks (operators_of sheet) row) (record_bytes row) (length out) (sym e ∙ f) (row_numbered (operators_of sheet) row) (omega arith));
+          numbered = sym (first_roomy (row_checks (operators_of sheet) row) (record_bytes row) (length out) (sym e) (row_numbered (operators_of sheet) row) (omega arith));
           measured = sym long;
           output = ap₂ ◌++◌ same (ap (λ x. drop x out) ends);
         }
 
-  pub few_tokens : {number : ℕ} → number ≡ row_number (operators_of sheet) row → number ≡ 0 → length row ≤ most_tokens
-  few_tokens e f = ((row_accepted (operators_of sheet) row).0 (sym e ∙ f)).0
+  pub few_tokens : accepted ≡ row_number (operators_of sheet) row → length row ≤ most_tokens
+  few_tokens e = ((row_accepted (operators_of sheet) row).0 (sym e)).0
 
-  pub can_build : {number : ℕ} → number ≡ row_number (operators_of sheet) row → number ≡ 0 → Buildable (operators_of sheet) (closes_in sheet) row
-  can_build e f = accepted_buildable (closes_in sheet) (operators_of sheet) row (sym e ∙ f)
+  pub can_build : accepted ≡ row_number (operators_of sheet) row → Buildable (operators_of sheet) (closes_in sheet) row
+  can_build e = accepted_buildable (closes_in sheet) (operators_of sheet) row (sym e)
 
 pub room_for_record : (row out : List ℕ) {m : ℕ} → m ≡ record_bytes row → m ≤ length out → length (take (m - 0) out) ≡ record_bytes row
 room_for_record row out {m} b h = length-take-le (m - 0) out (omega arith) ∙ omega (arith, b)
 
-pub ruleset build_row_ways = (build_refused, build_short, build_done, few_tokens, can_build, room_for_record, rules)
+pub ruleset build_row_ways = (build_short, build_done, few_tokens, can_build, room_for_record, rules)

@@ -17,7 +17,7 @@ use Rattle.disambiguation.specs.LeftToRight.{bottom, State, due, have, stuck, fi
 use Rattle.disambiguation.proofs.LeftToRight.{run_append}
 use Rattle.parser.specs.Build.{record_in, built}
 use Rattle.parser.specs.Notes.{notes_of, laid_out, Inside}
-use Rattle.parser.specs.Reading.{next, Goes, Held, IsHeld, Noted, Takeable, Takes, Buildable, Beginning, Reads}
+use Rattle.parser.specs.Reading.{next, Goes, Held, Noted, Takeable, Takes, Buildable, Beginning, Reads}
 use Rattle.parser.proofs.Shares.{share_small}
 use Rattle.parser.proofs.NoteLaws.{length_notes_of}
 use Rattle.parser.proofs.Closing.{finished_notes}

@@ -1,16 +1,16 @@
 -- What each way through `closes_at`, `close` and `add` gives, from what is known on it. Assumes nothing.
 use mathlib.Core.Path.{◌≡◌, refl, sym, ap, ◌∙◌}
-use mathlib.Core.Bool.{Bool, true, false, not, ◌&&◌, true≢false}
+use mathlib.Core.Bool.{Bool, true, false, ◌&&◌, true≢false}
 use mathlib.Core.List.{List}
 use Prim.Native.Nat.{ℕ, ◌+◌, ◌-◌, ◌<◌, ◌≤◌}
 use native.Mathlib.Omega.{arith}
 use lib.Dec.{ltb}
 use lib.ListN.{length, get_or, set, length-set}
 use lib.Seq.{take-suc-set}
-use borrow.Author.Tests.{lt-ltb, le-ltb, ne_eqb, not-true, not-false}
+use borrow.Author.Tests.{lt-ltb, le-ltb}
 use borrow.Author.Rules.{rules}
 use Rattle.expression.specs.Limits.{most_operators, most_tokens}
-use Rattle.expression.specs.Token.{opening, closing, Operators}
+use Rattle.expression.specs.Token.{opening, Operators}
 use Rattle.disambiguation.specs.LeftToRight.{after, ahead, operator_of, Stack, bottom, opened, waiting, remains}
 use Rattle.disambiguation.proofs.BelowLaws.{and_true}
 use Rattle.parser.specs.Notes.{byte_in, back_in}

@@ -1,3 +1,4 @@
+pub mod Outcomes
 pub mod Shares
 pub mod NoteLaws
 pub mod Laying

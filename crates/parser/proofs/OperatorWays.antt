@@ -4,11 +4,11 @@ use mathlib.Core.Bool.{Bool, false, cond}
 use mathlib.Core.List.{List, [], ◌∷◌, ◌++◌}
 use Prim.Native.Nat.{ℕ, suc, ◌+◌, ◌-◌, ◌<◌, ◌≤◌}
 use native.Mathlib.Omega.{arith}
-use lib.ListN.{length, get_or, take, set, length-set}
+use lib.ListN.{length, get_or, take, set}
 use lib.Seq.{take-set-lt, set_at, get_or_at, get_or-take}
 use borrow.Author.Tests.{ne_eqb}
 use borrow.Author.Rules.{rules}
-use Rattle.expression.specs.Limits.{most_operators, most_tokens}
+use Rattle.expression.specs.Limits.{most_operators}
 use Rattle.expression.specs.Token.{Infix, Prefix, closing, Operators, class}
 use Rattle.expression.specs.Tree.{Tree, record_of, Over}
 use Rattle.expression.proofs.Classes.{class_operator, by_class, brackets}

@@ -1,130 +1,114 @@
 -- The token at a place of a row, and the scan over it. Assumes nothing.
-use mathlib.Core.Path.{◌≡◌, refl, sym, ap, ◌∙◌}
-use mathlib.Core.Bool.{true, false, cond, true≢false, false≢true}
-use mathlib.Core.List.{List, [], ◌∷◌}
+use mathlib.Core.Path.{◌≡◌, refl, ap, ◌∙◌}
+use mathlib.Core.Bool.{false}
+use mathlib.Core.List.{List, ◌∷◌}
 use Prim.Native.Nat.{ℕ, suc, ◌+◌, ◌<◌, ◌≤◌}
 use native.Mathlib.Omega.{arith}
 use native.Mathlib.Decide.{dec_lt}
 use native.Mathlib.Numerals.{add-one}
-use lib.Dec.{ltb}
-use lib.ListN.{length, get_or, drop, drop_of_length-le, length-drop}
+use lib.ListN.{length, get_or, drop, drop_of_length-le}
 use lib.Seq.{drop-cons}
 use borrow.Author.Tests.{lt-ltb, le-ltb}
+use Rattle.std.specs.Prelude.{Some, None}
 use Rattle.expression.specs.Token.{Class, Operators, class}
 use Rattle.expression.specs.Token as token
-use Rattle.expression.specs.RowTest.{Progress, done, wrong, where_done, complete, advance, scan}
+use Rattle.expression.specs.RowTest.{Progress, due, done, wrong, where_due, where_done, complete, advance, scan}
 use Rattle.expression.proofs.Strangers.{scan_wrong}
-use Rattle.parser.specs.Rows.{token_of, token_at, is_operator, is_prefix, is_closing}
+use Rattle.parser.specs.Rows.{token_of, token_at, Refuses}
 use Rattle.parser.specs.declared.row.Token.{Token}
-use Rattle.parser.specs.declared.row.Token.TheVariants.{Operator, Prefix, Opening, Closing, Reading, Other, End}
+use Rattle.parser.specs.declared.row.Token.TheVariants.{Operator, Prefix, Opening, Closing, Reading}
 
--- the class that a token is of; none past the row's end
-abbrev pub Is : Token → Class → Type 0
-Is Operator x = x ≡ token.Infix
-Is Prefix x = x ≡ token.Prefix
-Is Opening x = x ≡ token.Opening
-Is Closing x = x ≡ token.Closing
-Is Reading x = x ≡ token.Reading
-Is Other x = x ≡ token.Meaningless
-Is End x = ⊥
+-- the class that a token is of
+abbrev pub class_of : Token → Class
+class_of Operator = token.Infix
+class_of Prefix = token.Prefix
+class_of Opening = token.Opening
+class_of Closing = token.Closing
+class_of Reading = token.Reading
 
-is_class : (x : Class) → Is (token_of x) x
-is_class token.Infix = refl
-is_class token.Prefix = refl
-is_class token.Opening = refl
-is_class token.Closing = refl
-is_class token.Reading = refl
-is_class token.Meaningless = refl
+is_class : (x : Class) (t : Token) → token_of x ≡ Some t → x ≡ class_of t
+is_class token.Infix t e = let same : Operator ≡ t = cc in ap class_of same
+is_class token.Prefix t e = let same : Prefix ≡ t = cc in ap class_of same
+is_class token.Opening t e = let same : Opening ≡ t = cc in ap class_of same
+is_class token.Closing t e = let same : Closing ≡ t = cc in ap class_of same
+is_class token.Reading t e = let same : Reading ≡ t = cc in ap class_of same
+is_class token.Meaningless t e = cc
 
-module _ (ops : Operators) (row : List ℕ) where
-  -- What stands at a place: a token of its class before the rest of the row, or the end.
-  abbrev pub Found : ℕ → Token → Type 0
-  Found at t = (at < length row) × Is t (class ops (get_or row at 0)) × (drop at row ≡ get_or row at 0 ∷ drop (at + 1) row)
+module _ (ops : Operators) (row : List ℕ) (at : ℕ) where
+  -- What stands at a place: a token of its class, before the rest of the row.
+  pub record Found (t : Token) : Type 0 where
+    pub inside : at < length row
+    pub class_is : class ops (get_or row at 0) ≡ class_of t
+    pub splits : drop at row ≡ get_or row at 0 ∷ drop (at + 1) row
 
-  abbrev pub There : ℕ → Token → Type 0
-  There at Operator = Found at Operator
-  There at Prefix = Found at Prefix
-  There at Opening = Found at Opening
-  There at Closing = Found at Closing
-  There at Reading = Found at Reading
-  There at Other = Found at Other
-  There at End = drop at row ≡ []
+  rest : at < length row → drop at row ≡ get_or row at 0 ∷ drop (at + 1) row
+  rest h = rw (drop-cons row at 0 h, add-one)
 
-  found_there : (at : ℕ) (t : Token) → Found at t → There at t
-  found_there at Operator f = f
-  found_there at Prefix f = f
-  found_there at Opening f = f
-  found_there at Closing f = f
-  found_there at Reading f = f
-  found_there at Other f = f
-  found_there at End f = absurd f.1
-
-  pub there : (at : ℕ) → There at (token_at ops row at)
+  pub found : {t : Token} → token_at ops row at ≡ Some t → Found t
   unfolding token_at
-  there at = go (dec_lt at (length row))
+  found {t} e = go (dec_lt at (length row))
     where
-      past : length row ≤ at → drop at row ≡ []
-      past h = drop_of_length-le row h
+      go : Dec (at < length row) → Found t
+      go (yes h) = record { inside = h; class_is = is_class (class ops (get_or row at 0)) t (rw (lt-ltb at (length row) h) at e); splits = rest h }
+      go (no h) = let none : None ≡ Some t = rw (le-ltb at (length row) (omega arith)) at e in cc
 
-      go : Dec (at < length row) → There at (cond (ltb at (length row)) (token_of (class ops (get_or row at 0))) End)
-      go (yes h) = rw (lt-ltb at (length row) h) (found_there at (token_of (class ops (get_or row at 0))) (h, is_class (class ops (get_or row at 0)), rw (drop-cons row at 0 h, add-one)))
-      go (no h) = rw (le-ltb at (length row) (omega arith)) (past (omega arith))
-
-  pub there_is : (at : ℕ) {t u : Token} → t ≡ token_at ops row at → t ≡ u → There at u
-  there_is at e f = rw (sym e ∙ f) at (there at)
+  -- a token of that class stands there
+  pub stands : (t : Token) → at < length row → class ops (get_or row at 0) ≡ class_of t → token_of (class_of t) ≡ Some t → token_at ops row at ≡ Some t
+  unfolding token_at
+  stands t h e q = rw (lt-ltb at (length row) h) (ap token_of e ∙ q)
 
   -- the scan over the token at a place
-  pub scan_found : (at : ℕ) (t : Token) → Found at t → (p : Progress) → scan (class ops) p (drop at row) ≡ scan (class ops) (advance (class ops) p (get_or row at 0)) (drop (at + 1) row)
-  scan_found at t f p = ap (scan (class ops) p) f.2
+  pub scan_on : at < length row → (p : Progress) → scan (class ops) p (drop at row) ≡ scan (class ops) (advance (class ops) p (get_or row at 0)) (drop (at + 1) row)
+  scan_on h p = ap (scan (class ops) p) (rest h)
+
+  pub scan_found : {t : Token} → Found t → (p : Progress) → scan (class ops) p (drop at row) ≡ scan (class ops) (advance (class ops) p (get_or row at 0)) (drop (at + 1) row)
+  scan_found f p = scan_on f.inside p
 
   -- a token where none such may stand
-  pub goes_wrong : (at : ℕ) (t : Token) → Found at t → (p : Progress) → advance (class ops) p (get_or row at 0) ≡ wrong → complete (scan (class ops) p (drop at row)) ≡ false
-  goes_wrong at t f p h =
-      ap complete (scan_found at t f p ∙ ap (λ q. scan (class ops) q (drop (at + 1) row)) h ∙ scan_wrong (class ops) (drop (at + 1) row))
+  goes_wrong : at < length row → (p : Progress) → advance (class ops) p (get_or row at 0) ≡ wrong → complete (scan (class ops) p (drop at row)) ≡ false
+  goes_wrong h p e =
+      ap complete (scan_on h p ∙ ap (λ q. scan (class ops) q (drop (at + 1) row)) e ∙ scan_wrong (class ops) (drop (at + 1) row))
+
+  -- an operand begins with a reading, an opening bracket or a prefix operator
+  pub none_begins : (token_at ops row at ≡ Some Reading → ⊥) → (token_at ops row at ≡ Some Opening → ⊥) → (token_at ops row at ≡ Some Prefix → ⊥) → Refuses ops row at
+  none_begins r o p = record { refused = λ d. go d (dec_lt at (length row)) }
+    where
+      wrong_here : (d : ℕ) → at < length row → (k : Class) → class ops (get_or row at 0) ≡ k → complete (scan (class ops) (due d) (drop at row)) ≡ false
+      wrong_here d h token.Infix e = goes_wrong h (due d) (ap (λ x. where_due x d) e)
+      wrong_here d h token.Prefix e = absurd (p (stands Prefix h e refl))
+      wrong_here d h token.Opening e = absurd (o (stands Opening h e refl))
+      wrong_here d h token.Closing e = goes_wrong h (due d) (ap (λ x. where_due x d) e)
+      wrong_here d h token.Reading e = absurd (r (stands Reading h e refl))
+      wrong_here d h token.Meaningless e = goes_wrong h (due d) (ap (λ x. where_due x d) e)
+
+      go : (d : ℕ) → Dec (at < length row) → complete (scan (class ops) (due d) (drop at row)) ≡ false
+      go d (yes h) = wrong_here d h (class ops (get_or row at 0)) refl
+      go d (no h) = let past : length row ≤ at = omega arith in rw (drop_of_length-le row past)
 
   -- inside a bracket, a row goes on with an operator or a closing bracket
-  pub open_ends : (at : ℕ) (t : Token) → There at t → is_operator t ≡ false → is_closing t ≡ false → (d : ℕ) → complete (scan (class ops) (done (suc d)) (drop at row)) ≡ false
-  open_ends at Operator f o c d = absurd (true≢false o)
-  open_ends at Prefix f o c d = goes_wrong at Prefix f (done (suc d)) (ap (λ x. where_done x (suc d)) f.1)
-  open_ends at Opening f o c d = goes_wrong at Opening f (done (suc d)) (ap (λ x. where_done x (suc d)) f.1)
-  open_ends at Closing f o c d = absurd (true≢false c)
-  open_ends at Reading f o c d = goes_wrong at Reading f (done (suc d)) (ap (λ x. where_done x (suc d)) f.1)
-  open_ends at Other f o c d = goes_wrong at Other f (done (suc d)) (ap (λ x. where_done x (suc d)) f.1)
-  open_ends at End f o c d = rw f
+  pub open_ends : (token_at ops row at ≡ Some Operator → ⊥) → (token_at ops row at ≡ Some Closing → ⊥) → (d : ℕ) → complete (scan (class ops) (done (suc d)) (drop at row)) ≡ false
+  open_ends o c d = go (dec_lt at (length row))
+    where
+      wrong_here : at < length row → (k : Class) → class ops (get_or row at 0) ≡ k → complete (scan (class ops) (done (suc d)) (drop at row)) ≡ false
+      wrong_here h token.Infix e = absurd (o (stands Operator h e refl))
+      wrong_here h token.Prefix e = goes_wrong h (done (suc d)) (ap (λ x. where_done x (suc d)) e)
+      wrong_here h token.Opening e = goes_wrong h (done (suc d)) (ap (λ x. where_done x (suc d)) e)
+      wrong_here h token.Closing e = absurd (c (stands Closing h e refl))
+      wrong_here h token.Reading e = goes_wrong h (done (suc d)) (ap (λ x. where_done x (suc d)) e)
+      wrong_here h token.Meaningless e = goes_wrong h (done (suc d)) (ap (λ x. where_done x (suc d)) e)
+
+      go : Dec (at < length row) → complete (scan (class ops) (done (suc d)) (drop at row)) ≡ false
+      go (yes h) = wrong_here h (class ops (get_or row at 0)) refl
+      go (no h) = let past : length row ≤ at = omega arith in rw (drop_of_length-le row past)
 
   -- outside of brackets it ends, or goes on with an operator
-  pub row_ends : (at : ℕ) (t : Token) → There at t → is_operator t ≡ false → at < length row → complete (scan (class ops) (done 0) (drop at row)) ≡ false
-  row_ends at Operator f o h = absurd (true≢false o)
-  row_ends at Prefix f o h = goes_wrong at Prefix f (done 0) (ap (λ x. where_done x 0) f.1)
-  row_ends at Opening f o h = goes_wrong at Opening f (done 0) (ap (λ x. where_done x 0) f.1)
-  row_ends at Closing f o h = goes_wrong at Closing f (done 0) (ap (λ x. where_done x 0) f.1)
-  row_ends at Reading f o h = goes_wrong at Reading f (done 0) (ap (λ x. where_done x 0) f.1)
-  row_ends at Other f o h = goes_wrong at Other f (done 0) (ap (λ x. where_done x 0) f.1)
-  row_ends at End f o h = absurd (omega (arith, length-drop at row, ap length f))
-
-  pub closing_there : (at : ℕ) (t : Token) → There at t → is_closing t ≡ true → Found at Closing
-  closing_there at Operator f c = absurd (false≢true c)
-  closing_there at Prefix f c = absurd (false≢true c)
-  closing_there at Opening f c = absurd (false≢true c)
-  closing_there at Closing f c = f
-  closing_there at Reading f c = absurd (false≢true c)
-  closing_there at Other f c = absurd (false≢true c)
-  closing_there at End f c = absurd (false≢true c)
-
-  pub operator_there : (at : ℕ) (t : Token) → There at t → is_operator t ≡ true → Found at Operator
-  operator_there at Operator f c = f
-  operator_there at Prefix f c = absurd (false≢true c)
-  operator_there at Opening f c = absurd (false≢true c)
-  operator_there at Closing f c = absurd (false≢true c)
-  operator_there at Reading f c = absurd (false≢true c)
-  operator_there at Other f c = absurd (false≢true c)
-  operator_there at End f c = absurd (false≢true c)
-
-  pub prefix_there : (at : ℕ) (t : Token) → There at t → is_prefix t ≡ true → Found at Prefix
-  prefix_there at Operator f c = absurd (false≢true c)
-  prefix_there at Prefix f c = f
-  prefix_there at Opening f c = absurd (false≢true c)
-  prefix_there at Closing f c = absurd (false≢true c)
-  prefix_there at Reading f c = absurd (false≢true c)
-  prefix_there at Other f c = absurd (false≢true c)
-  prefix_there at End f c = absurd (false≢true c)
+  pub row_ends : (token_at ops row at ≡ Some Operator → ⊥) → at < length row → complete (scan (class ops) (done 0) (drop at row)) ≡ false
+  row_ends o h = go (class ops (get_or row at 0)) refl
+    where
+      go : (k : Class) → class ops (get_or row at 0) ≡ k → complete (scan (class ops) (done 0) (drop at row)) ≡ false
+      go token.Infix e = absurd (o (stands Operator h e refl))
+      go token.Prefix e = goes_wrong h (done 0) (ap (λ x. where_done x 0) e)
+      go token.Opening e = goes_wrong h (done 0) (ap (λ x. where_done x 0) e)
+      go token.Closing e = goes_wrong h (done 0) (ap (λ x. where_done x 0) e)
+      go token.Reading e = goes_wrong h (done 0) (ap (λ x. where_done x 0) e)
+      go token.Meaningless e = goes_wrong h (done 0) (ap (λ x. where_done x 0) e)

@@ -1,5 +1,5 @@
 -- What each way through the checks of a row gives, from what is known on it. Assumes nothing.
-use mathlib.Core.Path.{◌≡◌, refl, sym, ap, ◌∙◌}
+use mathlib.Core.Path.{◌≡◌, refl, ap, ◌∙◌}
 use mathlib.Core.Bool.{Bool, true, false, not, ◌&&◌, ◌||◌, cond, and-false}
 use mathlib.Core.List.{List, []}
 use Prim.Native.Nat.{ℕ, ◌<◌, ◌≤◌}
@@ -13,13 +13,13 @@ use borrow.Author.Rules.{rules}
 use native.Mathlib.Decide.{dec_lt, ℕ_discrete}
 use Rattle.expression.specs.Limits.{most_operators, most_tokens}
 use Rattle.expression.specs.Token.{opening, closing, first_reading, last_reading, Operators, operators, class}
+use Rattle.expression.specs.Refusal.{accepted, oversize, stranger, no_row}
 use Rattle.expression.specs.RowTest.{done, complete, scan, is_row}
 use Rattle.expression.specs.Checks.{strange_in_row, row_number}
 use Rattle.expression.proofs.Classes.{by_count}
 use Rattle.expression.proofs.Tests.{any_same}
-use Rattle.expression.proofs.Looking.{Looked, looked_none, looked_more, looked_all}
-use Rattle.parser.specs.Rows.{token_at, ReadsExpression, stranger_in_row}
-use Rattle.parser.proofs.RowTokens.{there, row_ends}
+use Rattle.parser.specs.Rows.{Refuses, Ends, stranger_in_row}
+use Rattle.parser.proofs.RowTokens.{row_ends}
 
 -- ---- is_strange
 module _ (n c : ℕ) where
@@ -46,36 +46,33 @@ pub stranger_by_count : (ops : Operators) (row : List ℕ) {n : ℕ} {r : Bool} 
 unfolding stranger_in_row
 stranger_by_count ops row e q = q ∙ ap (λ m. stranger_in_row (operators m []) row) e ∙ any_same _ _ (by_count strange_in_row refl ops []) row
 
--- ---- row_number
+-- ---- check
 module _ (ops : Operators) (row : List ℕ) where
-  pub is_oversize : most_tokens < length row → 1 ≡ row_number ops row
+  pub is_oversize : most_tokens < length row → oversize ≡ row_number ops row
   unfolding row_number
   is_oversize h = simp (lt-ltb most_tokens (length row) h)
 
-  module _ (short : length row ≤ most_tokens) {b : Bool} (s : b ≡ stranger_in_row ops row) where
-    pub is_stranger : b ≡ true → 3 ≡ row_number ops row
+  module _ (short : length row ≤ most_tokens) where
+    pub is_stranger : stranger_in_row ops row ≡ true → stranger ≡ row_number ops row
     unfolding row_number stranger_in_row
-    is_stranger e = simp (le-ltb most_tokens (length row) short, sym s ∙ e)
+    is_stranger e = simp (le-ltb most_tokens (length row) short, e)
 
-    pub no_stranger : b ≡ false → stranger_in_row ops row ≡ false
-    no_stranger e = sym s ∙ e
+    module _ (known : stranger_in_row ops row ≡ false) where
+      by_test : (t : Bool) → is_row (class ops) row ≡ t → cond (not t) no_row accepted ≡ row_number ops row
+      unfolding row_number stranger_in_row
+      by_test t f = simp (le-ltb most_tokens (length row) short, known, f)
 
-    by_test : b ≡ false → (t : Bool) → is_row (class ops) row ≡ t → cond (not t) 6 0 ≡ row_number ops row
-    unfolding row_number stranger_in_row
-    by_test e t f = simp (le-ltb most_tokens (length row) short, sym s ∙ e, f)
-
-    module _ (e : b ≡ false) {end : ℕ} (h : ReadsExpression ops row 0 end) where
-      pub is_no_row : end ≡ 0 → 6 ≡ row_number ops row
+      pub is_no_row : Refuses ops row 0 → no_row ≡ row_number ops row
       unfolding is_row
-      is_no_row q = by_test e false (h.refuses q 0)
+      is_no_row h = by_test false (h.refused 0)
 
-      pub is_longer : (end ≡ 0 → ⊥) → end < length row → 6 ≡ row_number ops row
-      unfolding is_row
-      is_longer q l =
-          by_test e false (ap complete ((h.passes q).2 0) ∙ row_ends ops row end (token_at ops row end) (there ops row end) (h.stops q) l)
+      module _ {end : ℕ} (h : Ends ops row 0 end) where
+        pub is_longer : end < length row → no_row ≡ row_number ops row
+        unfolding is_row
+        is_longer l = by_test false (ap complete (h.passes.same 0) ∙ row_ends ops row end h.stops l)
 
-      pub is_row_lem : (end ≡ 0 → ⊥) → length row ≤ end → 0 ≡ row_number ops row
-      unfolding is_row
-      is_row_lem q l = by_test e true (ap complete ((h.passes q).2 0 ∙ ap (scan (class ops) (done 0)) (drop_of_length-le row l)))
+        pub is_row_lem : length row ≤ end → accepted ≡ row_number ops row
+        unfolding is_row
+        is_row_lem l = by_test true (ap complete (h.passes.same 0 ∙ ap (scan (class ops) (done 0)) (drop_of_length-le row l)))
 
-pub ruleset row_ways = (is_oversize, is_stranger, no_stranger, is_no_row, is_longer, is_row_lem, rules)
+pub ruleset check_ways = (is_oversize, is_stranger, is_no_row, is_longer, is_row_lem, rules)

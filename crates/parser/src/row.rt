@@ -1,215 +1,150 @@
 // The checks of a row: an expression reader and an operand reader that call each other.
-ghost use Rattle.std.specs.Prelude.{◌≡◌, false, ◌≤◌, length};
+ghost use Rattle.std.specs.Prelude.{◌≡◌, false, ◌≤◌, length, Some};
 ghost use Rattle.expression.specs.Limits.{most_tokens};
-ghost use Rattle.expression.specs.Token.{operators, class};
+ghost use Rattle.expression.specs.Token.{class};
 ghost use Rattle.expression.specs.Checks.{strange_in_row, row_number, record_bytes};
+ghost use Rattle.expression.specs.Outcome.{number_in};
 ghost use Rattle.sheet.specs.Layout.{operators_of};
 ghost use Rattle.parser.specs.Reading.{share};
-ghost use Rattle.parser.specs.Rows.{token_of, token_at, is_operator, is_prefix, is_closing, Continues, ReadsOperand, ReadsExpression, stranger_in_row};
+ghost use Rattle.parser.specs.Rows.{token_of, token_at, Continues, ReadsOperand, ReadsExpression, stranger_in_row};
 
 use crate::strangers;
-use expression::{limits, refusal, token};
+use expression::refusal::Refusal;
+use expression::{limits, token};
 use sheet::Sheet;
 
-// What a token is under a sheet's operators; an Operator is infix.
-#[derive(Drop)]
+// What a token of a row without strangers is under a sheet's operators; an Operator is infix.
+#[derive(Clone, Copy, PartialEq, Eq)]
 pub enum Token {
     Operator,
     Prefix,
     Opening,
     Closing,
     Reading,
-    Other,
-    End,
 }
 
-// The token that a byte is. In a row without strangers an operator is below n.
-fn token_of(sheet: &Sheet, c: u8) -> Token
-    requires { strange_in_row (class (operators_of sheet.now) c) ≡ false }
-    ensures { result ≡ token_of (class (operators_of sheet.now) c) }
-{
-    if token::FIRST_READING <= c {
-        return Token::Reading;
-    }
-    if c < limits::MOST_OPERATORS {
-        if sheet.is_prefix(c) {
-            return Token::Prefix;
-        }
-        return Token::Operator;
-    }
-    if c == token::OPENING {
-        return Token::Opening;
-    }
-    if c == token::CLOSING {
-        return Token::Closing;
-    }
-    Token::Other
+// A row that is not too long and has no stranger, under a sheet's operators.
+#[derive(Drop)]
+pub struct Row<'a> {
+    sheet: &'a Sheet,
+    tokens: &'a [u8],
+    ghost short: { length tokens.now ≤ most_tokens },
+    ghost known: { stranger_in_row (operators_of sheet.now) tokens.now ≡ false },
 }
 
-// The token at a place; End past the row's end.
-fn token_at(sheet: &Sheet, row: &[u8], at: usize) -> Token
-    requires { stranger_in_row (operators_of sheet.now) row.now ≡ false }
-    ensures { result ≡ token_at (operators_of sheet.now) row.now at }
-{
-    if row.len() <= at {
-        return Token::End;
-    }
-    token_of(sheet, row[at])
-}
-
-// An infix operator stands at a place.
-fn operator_at(sheet: &Sheet, row: &[u8], at: usize) -> bool
-    requires { stranger_in_row (operators_of sheet.now) row.now ≡ false }
-    ensures { result ≡ is_operator (token_at (operators_of sheet.now) row.now at) }
-{
-    let t = token_at(sheet, row, at);
-    match t {
-        Token::Operator => true,
-        Token::Prefix => false,
-        Token::Opening => false,
-        Token::Closing => false,
-        Token::Reading => false,
-        Token::Other => false,
-        Token::End => false,
-    }
-}
-
-// A prefix operator stands at a place.
-fn prefix_at(sheet: &Sheet, row: &[u8], at: usize) -> bool
-    requires { stranger_in_row (operators_of sheet.now) row.now ≡ false }
-    ensures { result ≡ is_prefix (token_at (operators_of sheet.now) row.now at) }
-{
-    let t = token_at(sheet, row, at);
-    match t {
-        Token::Operator => false,
-        Token::Prefix => true,
-        Token::Opening => false,
-        Token::Closing => false,
-        Token::Reading => false,
-        Token::Other => false,
-        Token::End => false,
-    }
-}
-
-// A closing bracket stands at a place.
-fn closing_at(sheet: &Sheet, row: &[u8], at: usize) -> bool
-    requires { stranger_in_row (operators_of sheet.now) row.now ≡ false }
-    ensures { result ≡ is_closing (token_at (operators_of sheet.now) row.now at) }
-{
-    let t = token_at(sheet, row, at);
-    match t {
-        Token::Operator => false,
-        Token::Prefix => false,
-        Token::Opening => false,
-        Token::Closing => true,
-        Token::Reading => false,
-        Token::Other => false,
-        Token::End => false,
-    }
-}
-
-// A reader's answer where it can read nothing: no place after something is 0.
-const NOWHERE: usize = 0;
-
-// The place after the readings from `at` on that an infix operator follows, each with its operator. Most of a row is passed so.
-fn pairs_end(sheet: &Sheet, row: &[u8], at: usize) -> usize
-    requires row_len_bound { length row.now ≤ most_tokens }
-    requires at_in_bounds { at ≤ length row.now }
-    requires row_value { stranger_in_row (operators_of sheet.now) row.now ≡ false }
-    ensures { Continues (operators_of sheet.now) row.now at result }
-{
-    let mut next = at;
-    while next + 1 < row.len() {
-        if row[next] < token::FIRST_READING {
-            return next;
-        }
-        if !operator_at(sheet, row, next + 1) {
-            return next;
-        }
-        next += 2;
-    }
-    next
-}
-
-// The place after the expression that starts at `at`: an operand, then any number of operator and operand. What follows a prefix
-// operator is an expression too. The row goes on by its one reference, so that the call for what follows an operator is a jump.
-#[cycle(expression_end_operand_end)]
-fn expression_end<'a, 'b, 'c>(sheet: &'a Sheet, row: &'b &'c [u8], at: usize) -> usize
-    requires row_len_bound { length row.now.now ≤ most_tokens }
-    requires at_in_bounds { at ≤ length row.now.now }
-    requires row_value { stranger_in_row (operators_of sheet.now) row.now.now ≡ false }
-    ensures { ReadsExpression (operators_of sheet.now) row.now.now at result }
-{
-    let from = pairs_end(sheet, *row, at);
-    let next = operand_end(sheet, row, from);
-    if next == NOWHERE {
-        if prefix_at(sheet, *row, from) {
-            return expression_end(sheet, row, from + 1);
-        }
-        return NOWHERE;
-    }
-    if operator_at(sheet, *row, next) {
-        return expression_end(sheet, row, next + 1);
-    }
-    next
-}
-
-// The place after the operand that starts at `at`, but for a prefix operator: a reading, or an expression in brackets.
-#[cycle(expression_end_operand_end)]
-fn operand_end<'a, 'b, 'c>(sheet: &'a Sheet, row: &'b &'c [u8], at: usize) -> usize
-    requires row_len_bound { length row.now.now ≤ most_tokens }
-    requires row_value { stranger_in_row (operators_of sheet.now) row.now.now ≡ false }
-    ensures { ReadsOperand (operators_of sheet.now) row.now.now at result }
-{
-    let t = token_at(sheet, *row, at);
-    match t {
-        Token::Reading => at + 1,
-        Token::Opening => {
-            let next = expression_end(sheet, row, at + 1);
-            if next == NOWHERE {
-                return NOWHERE;
+impl<'a> Row<'a> {
+    // The token that a byte is.
+    #[tactic(auto, using(crate::proofs::TokenWays::token_of_ways))]
+    fn token_of(&self, c: u8) -> Token
+        requires { strange_in_row (class (operators_of self.now.sheet.now) c) ≡ false }
+        ensures { Some result ≡ token_of (class (operators_of self.now.sheet.now) c) }
+    {
+        if token::FIRST_READING <= c {
+            Token::Reading
+        } else if c < limits::MOST_OPERATORS {
+            if self.sheet.is_prefix(c) {
+                Token::Prefix
+            } else {
+                Token::Operator
             }
-            if closing_at(sheet, *row, next) {
-                return next + 1;
-            }
-            NOWHERE
+        } else if c == token::OPENING {
+            Token::Opening
+        } else {
+            Token::Closing
         }
-        Token::Prefix => NOWHERE,
-        Token::Operator => NOWHERE,
-        Token::Closing => NOWHERE,
-        Token::Other => NOWHERE,
-        Token::End => NOWHERE,
+    }
+
+    // The token at a place; None past the row's end.
+    #[tactic(auto, using(crate::proofs::TokenWays::token_at_ways))]
+    fn token_at(&self, at: usize) -> Option<Token>
+        ensures { result ≡ token_at (operators_of self.now.sheet.now) self.now.tokens.now at }
+    {
+        let c = self.tokens.get(at)?;
+        Some(self.token_of(*c))
+    }
+
+    // The place after the readings from `at` on that an infix operator follows, each with its operator. Most of a row is passed so.
+    fn pairs_end(&self, at: usize) -> usize
+        requires { at ≤ length self.now.tokens.now }
+        ensures { Continues (operators_of self.now.sheet.now) self.now.tokens.now at result }
+    {
+        let mut next = at;
+        while next + 1 < self.tokens.len() && token::FIRST_READING <= self.tokens[next] {
+            if self.token_at(next + 1) != Some(Token::Operator) {
+                return next;
+            }
+            next += 2;
+        }
+        next
+    }
+
+    // The place after the expression that starts at `at`: an operand, then any number of operator and operand. What follows a prefix
+    // operator is an expression too. The row goes on by its one reference, so that the call for what follows an operator is a jump.
+    #[cycle(readers)]
+    fn expression_end(&self, at: usize) -> Option<usize>
+        requires { at ≤ length self.now.tokens.now }
+        ensures { ReadsExpression (operators_of self.now.sheet.now) self.now.tokens.now at result }
+    {
+        let from = self.pairs_end(at);
+        let Some(next) = self.operand_end(from) else {
+            if self.token_at(from) == Some(Token::Prefix) {
+                return self.expression_end(from + 1);
+            }
+            return None;
+        };
+        if self.token_at(next) == Some(Token::Operator) {
+            return self.expression_end(next + 1);
+        }
+        Some(next)
+    }
+
+    // The place after the operand that starts at `at`, but for a prefix operator: a reading, or an expression in brackets.
+    #[cycle(readers)]
+    fn operand_end(&self, at: usize) -> Option<usize>
+        ensures { ReadsOperand (operators_of self.now.sheet.now) self.now.tokens.now at result }
+    {
+        match self.token_at(at)? {
+            Token::Reading => Some(at + 1),
+            Token::Opening => {
+                let next = self.expression_end(at + 1)?;
+                if self.token_at(next) == Some(Token::Closing) {
+                    Some(next + 1)
+                } else {
+                    None
+                }
+            }
+            _ => None,
+        }
     }
 }
 
-// The number of a row: 1, 3, 6 or 0.
-pub fn number(sheet: &Sheet, row: &[u8]) -> u8
-    ensures { result ≡ row_number (operators_of sheet.now) row.now }
+// A row under the sheet's operators: 1, 3 or 6 where it is refused.
+#[tactic(auto, using(crate::proofs::RowWays::check_ways))]
+pub fn check(sheet: &Sheet, tokens: &[u8]) -> Result<(), Refusal>
+    ensures { number_in result ≡ row_number (operators_of sheet.now) tokens.now }
 {
-    if limits::MOST_TOKENS < row.len() {
-        return refusal::OVERSIZE;
+    if limits::MOST_TOKENS < tokens.len() {
+        return Err(Refusal::Oversize);
     }
-    if strangers::has_stranger(sheet, row) {
-        return refusal::STRANGER;
+    if strangers::has_stranger(sheet, tokens) {
+        return Err(Refusal::Stranger);
     }
-    let end = expression_end(sheet, &row, 0);
-    if end == NOWHERE {
-        return refusal::NO_ROW;
+    let row = Row { sheet, tokens };
+    let Some(end) = row.expression_end(0) else {
+        return Err(Refusal::NoRow);
+    };
+    if end < tokens.len() {
+        return Err(Refusal::NoRow);
     }
-    if end < row.len() {
-        return refusal::NO_ROW;
-    }
-    refusal::ACCEPTED
+    Ok(())
 }
 
 // A token's share of its row's record: a byte, but none for a closing bracket.
+#[tactic(auto, unfolding(crate::specs::Reading::share))]
 fn share_of(c: u8) -> u16
     ensures { result ≡ share c }
 {
-    if c == token::CLOSING {
-        return 0;
-    }
-    1
+    if c == token::CLOSING { 0 } else { 1 }
 }
 
 // The bytes of the row's record. The loop has no branch, so that tokens can be counted side by side.
@@ -218,10 +153,8 @@ pub fn record_bytes(row: &[u8]) -> usize
     ensures { result ≡ record_bytes row.now }
 {
     let mut count: u16 = 0;
-    let mut i: usize = 0;
-    while i < row.len() {
-        count += share_of(row[i]);
-        i += 1;
+    for c in row {
+        count += share_of(*c);
     }
     count as usize
 }

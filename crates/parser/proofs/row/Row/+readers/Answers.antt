@@ -1,0 +1,60 @@
+-- The answers of the readers of expressions and operands. Assumes nothing.
+use Rattle.std.proofs.Common.{rules, ◌≡◌, ◌∙◌, sym, Some, arith}
+use Rattle.parser.specs.declared.row.Token.TheVariants.{Operator, Prefix, Closing}
+use Rattle.parser.proofs.ReaderWays.{token_inside, here_is, none_read, other_read, operand_reading, inner_refused, operand_closed, operand_unclosed, reads_led, prefix_led, operator_led}
+use Rattle.parser.proofs.row.Row.+readers.Goals as goal
+
+pub expression_end-expression_end-requires : goal.expression_end-expression_end-requires
+expression_end-expression_end-requires t c =
+    let prefix_token : c.token_at.result ≡ Some Prefix = search rules in
+    let inside = token_inside _ _ _ (sym c.token_at.ensures ∙ prefix_token) in
+    search rules
+
+pub expression_end-returns-then-eq : goal.expression_end-returns-then-eq
+expression_end-returns-then-eq t c =
+    let prefix_token : c.token_at.result ≡ Some Prefix = search rules in
+    reads_led _ _ (prefix_led _ _ c.pairs_end-from.ensures (sym c.token_at.ensures ∙ prefix_token)) c.expression_end.result c.expression_end.ensures
+
+pub expression_end-expression_end-requires-then-eq-2 : goal.expression_end-expression_end-requires-then-eq-2
+expression_end-expression_end-requires-then-eq-2 t c =
+    let operator : c.token_at-2.result ≡ Some Operator = search rules in
+    let inside = token_inside _ _ _ (sym c.token_at-2.ensures ∙ operator) in
+    let p = c.in-Some.ensures in
+    search rules
+
+pub expression_end-returns-then-eq-2 : goal.expression_end-returns-then-eq-2
+expression_end-returns-then-eq-2 t c =
+    let operator : c.token_at-2.result ≡ Some Operator = search rules in
+    reads_led _ _ (operator_led _ _ c.pairs_end-from.ensures c.in-Some.ensures (sym c.token_at-2.ensures ∙ operator)) c.expression_end-then-eq-2.result c.expression_end-then-eq-2.ensures
+
+pub operand_end-returns-in_err-token_at : goal.operand_end-returns-in_err-token_at
+operand_end-returns-in_err-token_at t c = rw c.from_residual.ensures (none_read _ _ _ c.in_err-token_at.ensures)
+
+pub operand_end-overflow_add-result : goal.operand_end-overflow_add-result
+operand_end-overflow_add-result t c = let inside = token_inside _ _ _ (sym c.in_ok-token_at.ensures) in omega arith
+
+pub operand_end-overflow_add-at : goal.operand_end-overflow_add-at
+operand_end-overflow_add-at t c = let inside = token_inside _ _ _ (sym c.in_ok-token_at.ensures) in omega arith
+
+pub operand_end-expression_end-requires : goal.operand_end-expression_end-requires
+operand_end-expression_end-requires t c = let inside = token_inside _ _ _ (sym c.in_ok-token_at.ensures) in search rules
+
+pub operand_end-returns-in_err-next-in-Opening : goal.operand_end-returns-in_err-next-in-Opening
+operand_end-returns-in_err-next-in-Opening t c =
+    rw c.from_residual-in_err-next-in-Opening.ensures (λ p. inner_refused _ _ _ (here_is _ _ _ c.in_ok-token_at.ensures c.in-Opening.is) c.in_err-next-in-Opening.ensures)
+
+pub operand_end-returns-in-Reading : goal.operand_end-returns-in-Reading
+operand_end-returns-in-Reading t c = operand_reading _ _ _ (here_is _ _ _ c.in_ok-token_at.ensures c.in-Reading.is)
+
+pub operand_end-returns-then-eq : goal.operand_end-returns-then-eq
+operand_end-returns-then-eq t c =
+    let closed : c.token_at-in-Opening.result ≡ Some Closing = search rules in
+    operand_closed _ _ _ (here_is _ _ _ c.in_ok-token_at.ensures c.in-Opening.is) c.in_ok-next-in-Opening.ensures (sym c.token_at-in-Opening.ensures ∙ closed)
+
+pub operand_end-returns-else-eq : goal.operand_end-returns-else-eq
+operand_end-returns-else-eq t c =
+    let unclosed : c.token_at-in-Opening.result ≡ Some Closing → ⊥ = search rules in
+    λ p. operand_unclosed _ _ _ (here_is _ _ _ c.in_ok-token_at.ensures c.in-Opening.is) c.in_ok-next-in-Opening.ensures (λ q. unclosed (c.token_at-in-Opening.ensures ∙ q))
+
+pub operand_end-returns-in_default : goal.operand_end-returns-in_default
+operand_end-returns-in_default t c = other_read _ _ _ c.in_ok-token_at.ensures c.in_default.not-Reading c.in_default.not-Opening
