@@ -1,5 +1,4 @@
 pub mod SameBytes
-pub mod Comparing
 pub mod Accepting
 pub mod Claiming
 pub mod InForceClaims
