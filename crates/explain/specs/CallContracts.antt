@@ -1,9 +1,9 @@
 -- What answering a line, and taking the bytes of a read, promise. Assumes nothing.
-use Rattle.std.specs.Prelude.{ℕ, ◌+◌, ◌*◌, ◌≤◌, ◌≡◌, Bool, true, List, ◌++◌, length, take}
+use Rattle.std.specs.Prelude.{ℕ, ◌+◌, ◌*◌, ◌≤◌, ◌≡◌, Bool, true, List, [], ◌++◌, length}
 use Rattle.hexadecimal.specs.Text.{text_of, with_front}
 use Rattle.frame.specs.CallContracts.{most_reply}
 use Rattle.witness.specs.Explaining.{most_explained}
-use Rattle.explain.specs.Lines.{said, most_kept, last_said, Progress, Step, after_read, Read, after_reads, GoOn}
+use Rattle.explain.specs.Lines.{said, last_said, Progress, after_read, Read, after_reads, GoOn}
 
 -- bytes of a read
 abbrev pub block : ℕ
@@ -23,45 +23,35 @@ pub record Says (bytes before after : List ℕ) (r : ℕ) : Type 0 where
   pub output : after ≡ with_front (text_of bytes) before
   pub inside : r + 1 ≤ most_said
 
--- A line was answered: r bytes of the output are filled, `at` of them from earlier.
-pub record Puts (line before after : List ℕ) (at r : ℕ) : Type 0 where
-  pub written : take r after ≡ take at before ++ said line
-  pub inside : r ≤ at + most_said
+-- A line was answered, behind what was there.
+pub record Puts (line before after : List ℕ) : Type 0 where
+  pub written : after ≡ before ++ said line
+  pub inside : length after ≤ length before + most_said
 
--- The line and the output hold what is kept and what was written, with so many bytes filled earlier and so many bytes of the input taken.
-pub record Takes (p : Progress) (line out : List ℕ) (earlier count kept filled : ℕ) : Type 0 where
-  pub keeps : take kept line ≡ p.kept
-  pub writes : take filled out ≡ p.written
-  pub short : kept ≤ most_kept
-  pub inside : filled ≤ earlier + most_said * count
+-- The line and the output hold what is kept and what was written, with so many bytes written earlier and so many bytes of the input taken.
+pub record Takes (p : Progress) (line out : List ℕ) (earlier count : ℕ) : Type 0 where
+  pub keeps : line ≡ p.kept
+  pub writes : out ≡ p.written
+  pub inside : length out ≤ earlier + most_said * count
 
--- The last line was answered, where there is one.
-pub record Ends (line out : List ℕ) (r : ℕ) : Type 0 where
-  pub writes : take r out ≡ last_said line
-  pub inside : r ≤ most_said
-
--- After a read.
-pub record Steps (s : Step) (line out : List ℕ) (kept filled : ℕ) (go : Bool) : Type 0 where
-  pub keeps : take kept line ≡ s.made.kept
-  pub writes : take filled out ≡ s.made.written
-  pub goes : go ≡ s.goes
-  pub short : kept ≤ most_kept
-  pub inside : filled ≤ out_bytes
+-- The last line was answered, where there is one, and none is kept.
+pub record Ends (line after out : List ℕ) : Type 0 where
+  pub keeps : after ≡ []
+  pub writes : out ≡ last_said line
+  pub inside : length out ≤ most_said
 
 -- A turn: some read was made, and what follows it is in the line and the output. The program goes on only if the write succeeds.
-pub record Turns (before line out : List ℕ) (kept filled : ℕ) (go : Bool) : Type 0 where
+pub record Turns (before line out : List ℕ) (go : Bool) : Type 0 where
   pub failed : Bool
   pub bytes : List ℕ
-  pub keeps : take kept line ≡ (after_read failed before bytes).made.kept
-  pub writes : take filled out ≡ (after_read failed before bytes).made.written
+  pub keeps : line ≡ (after_read failed before bytes).made.kept
+  pub writes : out ≡ (after_read failed before bytes).made.written
   pub goes : go ≡ true → (after_read failed before bytes).goes ≡ true
-  pub short : kept ≤ most_kept
 
 -- A run: reads were made, one after the other, and what follows the last one is in the line and the output. (That what they gave is the input is the read call's.)
-pub record Runs (line out : List ℕ) (kept filled : ℕ) (go : Bool) : Type 0 where
+pub record Runs (line out : List ℕ) (go : Bool) : Type 0 where
   pub reads : List Read
-  pub keeps : take kept line ≡ (after_reads reads).made.kept
-  pub writes : take filled out ≡ (after_reads reads).made.written
+  pub keeps : line ≡ (after_reads reads).made.kept
+  pub writes : out ≡ (after_reads reads).made.written
   pub in_turn : GoOn reads
   pub goes : go ≡ true → (after_reads reads).goes ≡ true
-  pub short : kept ≤ most_kept

@@ -1,119 +1,62 @@
 // Bytes of the input taken one after the other: a line end has the line before it answered, any other byte is kept.
-ghost use Rattle.std.specs.Prelude.{◌≡◌, [], ◌+◌, ◌≤◌, ◌<◌, length, take};
-ghost use Rattle.frame.specs.CallContracts.{most_reply};
-ghost use Rattle.explain.specs.Lines.{most_kept, progress, with_byte, with_bytes, after_read};
-ghost use Rattle.explain.specs.CallContracts.{block, out_bytes, Puts, Ends, Takes, Steps};
+ghost use Rattle.std.specs.Prelude.{◌≡◌, [], ◌+◌, ◌≤◌, length};
+ghost use Rattle.explain.specs.Lines.{progress, with_byte, with_bytes};
+ghost use Rattle.explain.specs.CallContracts.{block, out_bytes, most_said, Puts, Ends, Takes};
 
-use crate::limits::MOST_KEPT;
+use crate::limits::{MOST_KEPT, OUT_BYTES};
 use crate::reply;
 use frame::limits::MOST_REPLY;
-use line_io::LINE_FEED;
+use line_io::{Buffer, LINE_FEED};
 
-// How many characters of the unfinished line are kept, and how much of the output is filled.
-#[derive(Drop)]
-pub struct Taken {
-    pub kept: usize,
-    pub filled: usize,
-}
+// The characters that are kept of the unfinished line.
+pub type Line = Buffer<MOST_KEPT>;
 
-// The same after a read, and whether to go on.
-#[derive(Drop)]
-pub struct State {
-    pub kept: usize,
-    pub filled: usize,
-    pub go: bool,
-}
+// The replies to lines, each with a line end.
+pub type Output = Buffer<OUT_BYTES>;
 
-// Puts the reply to a line and a line end into the output; how much of it is then filled.
-fn answer(line: &[u8], out: &mut [u8], at: usize) -> usize
-    requires { at + most_reply < length out.old }
-    ensures { Puts line.now out.old out.new at result }
+// Puts the reply to a line and a line end behind what is in the output.
+fn answer(line: &[u8], out: &mut Output)
+    requires { length out.old + most_said ≤ out_bytes }
+    ensures { Puts line.now out.old out.new }
 {
-    let to = at + MOST_REPLY;
-    let length = reply::reply(line, &mut out[at..to]);
-    let end = at + length;
-    out[end] = LINE_FEED;
-    end + 1
+    let mut text = [0u8; MOST_REPLY];
+    let length = reply::reply(line, &mut text);
+    out.append(&text[..length]);
+    out.push(LINE_FEED);
 }
 
-// One byte.
-fn take_byte(c: u8, line: &mut [u8], kept: usize, out: &mut [u8], filled: usize) -> Taken
-    requires { (length line.old ≡ most_kept) × (kept ≤ most_kept) × (filled + most_reply < length out.old) }
-    ensures { Takes (with_byte (progress (take filled out.old) (take kept line.old)) c) line.new out.new filled 1 result.kept result.filled }
+// One byte; a line over the limit stays over it without the bytes that have no room.
+#[tactic(auto, using(crate::proofs::LineWays::byte_ways))]
+fn take_byte(byte: u8, line: &mut Line, out: &mut Output)
+    requires { length out.old + most_said ≤ out_bytes }
+    ensures { Takes (with_byte (progress out.old line.old) byte) line.new out.new (length out.old) 1 }
 {
-    if c == LINE_FEED {
-        let end = answer(&line[0..kept], out, filled);
-        return Taken {
-            kept: 0,
-            filled: end,
-        };
-    }
-    if kept < MOST_KEPT {
-        line[kept] = c;
-        return Taken {
-            kept: kept + 1,
-            filled: filled,
-        };
-    }
-    Taken {
-        kept: kept,
-        filled: filled,
+    if byte == LINE_FEED {
+        answer(line.as_slice(), out);
+        line.clear();
+    } else {
+        line.push(byte);
     }
 }
 
-// Bytes of a read, in order. The replies to the lines that they end fill the front of the output.
-fn take_bytes(bytes: &[u8], line: &mut [u8], kept: usize, out: &mut [u8]) -> Taken
-    requires { (length bytes.now ≤ block) × (length line.old ≡ most_kept) × (kept ≤ most_kept) × (length out.old ≡ out_bytes) }
-    ensures { Takes (with_bytes (progress [] (take kept line.old)) bytes.now) line.new out.new 0 (length bytes.now) result.kept result.filled }
+// Bytes of a read, in order.
+pub fn take_bytes(bytes: &[u8], line: &mut Line, out: &mut Output)
+    requires { (length bytes.now ≤ block) × (out.old ≡ []) }
+    ensures { Takes (with_bytes (progress [] line.old) bytes.now) line.new out.new 0 (length bytes.now) }
 {
-    let mut t = Taken {
-        kept: kept,
-        filled: 0,
-    };
-    let mut i = 0;
-    while i < bytes.len() {
-        t = take_byte(bytes[i], line, t.kept, out, t.filled);
-        i += 1;
+    for byte in bytes {
+        take_byte(*byte, line, out);
     }
-    t
 }
 
-// At the end of the input, the reply to a last line without line end; how much of the output it fills.
-fn finish(line: &[u8], out: &mut [u8]) -> usize
-    requires { length out.old ≡ out_bytes }
-    ensures { Ends line.now out.new result }
+// At the end of the input, a last line without line end is answered.
+#[tactic(auto, using(crate::proofs::ReadWays::finish_ways))]
+pub fn finish(line: &mut Line, out: &mut Output)
+    requires { out.old ≡ [] }
+    ensures { Ends line.old line.new out.new }
 {
-    if line.len() == 0 {
-        return 0;
+    if !line.as_slice().is_empty() {
+        answer(line.as_slice(), out);
     }
-    answer(line, out, 0)
-}
-
-// What a read gave. Where it failed, the unfinished line is not complete and is not run; where it gave nothing, the input has
-// ended, and that line is the last one.
-pub fn take_read(failed: bool, bytes: &[u8], line: &mut [u8], kept: usize, out: &mut [u8]) -> State
-    requires { (length bytes.now ≤ block) × (length line.old ≡ most_kept) × (kept ≤ most_kept) × (length out.old ≡ out_bytes) }
-    ensures { Steps (after_read failed (take kept line.old) bytes.now) line.new out.new result.kept result.filled result.go }
-{
-    if failed {
-        return State {
-            kept: 0,
-            filled: 0,
-            go: false,
-        };
-    }
-    if bytes.len() == 0 {
-        let filled = finish(&line[0..kept], out);
-        return State {
-            kept: 0,
-            filled: filled,
-            go: false,
-        };
-    }
-    let t = take_bytes(bytes, line, kept, out);
-    State {
-        kept: t.kept,
-        filled: t.filled,
-        go: true,
-    }
+    line.clear();
 }

@@ -2,66 +2,59 @@
 // why the sheet is refused.
 #![tactic(auto)]
 
-ghost use Rattle.std.specs.Prelude.{◌≡◌, ◌≤◌, length, take};
-ghost use Rattle.explain.specs.Lines.{most_kept};
-ghost use Rattle.explain.specs.CallContracts.{block, out_bytes, Turns, Runs};
+ghost use Rattle.std.specs.Prelude.{◌≡◌, [], length};
+ghost use Rattle.explain.specs.CallContracts.{block, Turns, Runs};
 
-use limits::{BLOCK, MOST_KEPT, OUT_BYTES};
-use lines::State;
+use limits::BLOCK;
+use line_io::Buffer;
+use lines::{Line, Output};
 use std::io::{Print, Read, Stdin, Stdout};
 
 mod limits;
 mod lines;
 mod reply;
 
-// One read, and the replies to the lines that it ends, written out.
-#[tactic(auto, using(crate::proofs::ReadWays::turn_ways))]
-fn turn(
-    mut stdin: Stdin,
-    stdout: Stdout,
-    buf: &mut [u8],
-    line: &mut [u8],
-    out: &mut [u8],
-    kept: usize,
-) -> State
-    requires { (length buf.old ≡ block) × (length line.old ≡ most_kept) × (length out.old ≡ out_bytes) × (kept ≤ most_kept) }
-    ensures { Turns (take kept line.old) line.new out.new result.kept result.filled result.go }
+// One read, and the replies to the lines that it ends, written out; whether to go on. At the end of the input the unfinished line is
+// the last one; where the read failed that line is not complete and is not run.
+fn turn(mut stdin: Stdin, stdout: Stdout, buf: &mut [u8], line: &mut Line, out: &mut Output) -> bool
+    requires { length buf.old ≡ block }
+    ensures { Turns line.old line.new out.new result }
 {
-    let got = stdin.read(buf);
-    let failed = got.is_err();
-    let n = got.unwrap_or(0);
-    let s = lines::take_read(failed, &buf[0..n], line, kept, out);
-    let filled = s.filled;
-    let ok = stdout.write_all(&out[0..filled]).is_ok();
-    State {
-        kept: s.kept,
-        filled: filled,
-        go: s.go & ok,
-    }
+    out.clear();
+    let go = match stdin.read(buf) {
+        Ok(0) => {
+            lines::finish(line, out);
+            false
+        }
+        Ok(count) => {
+            lines::take_bytes(&buf[..count], line, out);
+            true
+        }
+        Err(_) => {
+            line.clear();
+            false
+        }
+    };
+    go & stdout.write_all(out.as_slice()).is_ok()
 }
 
-// Lines are taken until the input ends. A proved loop has to end, and nothing says that the input does, so the turns are counted down.
-#[tactic(auto, using(crate::proofs::ReadWays::run_ways))]
-fn run(stdin: Stdin, stdout: Stdout, buf: &mut [u8], line: &mut [u8], out: &mut [u8]) -> State
-    requires { (length buf.old ≡ block) × (length line.old ≡ most_kept) × (length out.old ≡ out_bytes) }
-    ensures { Runs line.new out.new result.kept result.filled result.go }
+// Lines are taken until the input ends. A proved loop has to end, and nothing says that the input does, so the turns are counted.
+// Whether a turn would follow.
+fn run(stdin: Stdin, stdout: Stdout, buf: &mut [u8], line: &mut Line, out: &mut Output) -> bool
+    requires { (length buf.old ≡ block) × (line.old ≡ []) × (out.old ≡ []) }
+    ensures { Runs line.new out.new result }
 {
-    let mut turns = u64::MAX;
-    let mut s = State {
-        kept: 0,
-        filled: 0,
-        go: true,
-    };
-    while 0 < turns && s.go {
-        s = turn(stdin, stdout, buf, line, out, s.kept);
-        turns -= 1;
+    for _turn in 0..u64::MAX {
+        if !turn(stdin, stdout, buf, line, out) {
+            return false;
+        }
     }
-    s
+    true
 }
 
 fn main(rt: HostRuntime) {
     let mut buf = [0u8; BLOCK];
-    let mut line = [0u8; MOST_KEPT];
-    let mut out = [0u8; OUT_BYTES];
+    let mut line = Buffer::new();
+    let mut out = Buffer::new();
     run(rt.stdin(), rt.stdout(), &mut buf, &mut line, &mut out);
 }

@@ -6,6 +6,10 @@ ghost use Rattle.std.specs.List.{position_or_len};
 ghost use Rattle.line_io.specs.Lines.{has_end, Ends};
 ghost use Rattle.line_io.specs.Moves.{moved_to_front};
 
+mod buffer;
+
+pub use buffer::Buffer;
+
 pub const LINE_FEED: u8 = 10;
 
 // How many bytes are tested at a time.
