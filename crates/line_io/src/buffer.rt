@@ -37,6 +37,13 @@ impl<const N: usize> Buffer<N> {
         &all[..self.filled]
     }
 
+    pub fn len(&self) -> usize
+        ensures same { result ≡ length self.now }
+        ensures short { result ≤ N }
+    {
+        self.filled
+    }
+
     pub fn clear(&mut self)
         ensures { self.new ≡ [] }
     {
