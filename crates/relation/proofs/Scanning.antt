@@ -1,26 +1,21 @@
 -- What each way through the numbers below n gives, from what is known of a test. Assumes nothing.
 use mathlib.Core.Path.{◌≡◌, refl, sym}
 use mathlib.Core.Bool.{Bool, true, false}
-use Rattle.std.specs.Prelude.{Some, None}
 use Prim.Native.Nat.{ℕ, ◌+◌, ◌<◌}
 use native.Mathlib.Numerals.{add-one}
 use native.Mathlib.Omega.{arith}
-use borrow.Author.Tests.{lt-ltb, le-ltb}
 use Rattle.disambiguation.specs.Below.{first_below}
 use Rattle.disambiguation.proofs.FirstBelow.{first_only}
-use Rattle.relation.specs.Below.{if_below}
 use Rattle.relation.specs.Words.{with_bit, word_where}
 
 module _ (p : ℕ → Bool) (n : ℕ) where
   -- no number before a passes, and a does
-  pub first_here : (a : ℕ) → a < n → ((c : ℕ) → c < a → p c ≡ false) → p a ≡ true → Some a ≡ if_below n (first_below n p)
-  unfolding if_below
-  first_here a l before e = sym (rw (first_only n p a (record { inside = omega arith; before = before; holds = λ _. e }), lt-ltb a n l))
+  pub first_here : (a : ℕ) → a < n → ((c : ℕ) → c < a → p c ≡ false) → p a ≡ true → a ≡ first_below n p
+  first_here a l before e = sym (first_only n p a (record { inside = omega arith; before = before; holds = λ _. e }))
 
   -- none below n does
-  pub first_none : ((c : ℕ) → c < n → p c ≡ false) → None ≡ if_below n (first_below n p)
-  unfolding if_below
-  first_none before = sym (rw (first_only n p n (record { inside = omega arith; before = before; holds = λ h. absurd (omega arith) }), le-ltb n n (omega arith)))
+  pub first_none : ((c : ℕ) → c < n → p c ≡ false) → first_below n p ≡ n
+  first_none before = first_only n p n (record { inside = omega arith; before = before; holds = λ h. absurd (omega arith) })
 
 -- the set of none, and of one number more
 module _ (p : ℕ → Bool) where

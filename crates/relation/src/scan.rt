@@ -1,7 +1,6 @@
 // The numbers below n, tested one after the other from 0 up.
-ghost use Rattle.std.specs.Prelude.{◌≡◌, ℕ, Bool, ◌<◌};
+ghost use Rattle.std.specs.Prelude.{◌≡◌, ℕ, Bool, ◌<◌, Option, is_some, MatchOption, IfSome};
 ghost use Rattle.disambiguation.specs.Below.{all_below, first_below};
-ghost use Rattle.relation.specs.Below.{if_below};
 ghost use Rattle.relation.specs.Words.{word_where};
 
 use crate::count::Count;
@@ -20,14 +19,16 @@ pub fn all<F: Fn(usize) -> bool>(n: usize, test: F) -> bool
     true
 }
 
-// The first that passes it.
-pub fn first<F: Fn(usize) -> bool>(n: usize, test: F) -> Option<usize>
-    requires { (a : ℕ) → a < n → F.pre test a }
-    ensures { (p : ℕ → Bool) → ((a : ℕ) (r : Bool) → a < n → F.post test a r → r ≡ p a) → result ≡ if_below n (first_below n p) }
+// The first of which the search finds something, and what it finds.
+pub fn first<T, F: Fn(usize) -> Option<T>>(n: usize, search: F) -> Option<(usize, T)>
+    requires { (a : ℕ) → a < n → F.pre search a }
+    ensures first { (p : ℕ → Bool) → ((a : ℕ) (r : Option T) → a < n → F.post search a r → is_some r ≡ p a)
+        → MatchOption result (first_below n p ≡ n) (λ found. found.0 ≡ first_below n p) }
+    ensures found { IfSome result (λ found. (found.0 < n) × F.post search found.0 (Some found.1)) }
 {
     for a in 0..n {
-        if test(a) {
-            return Some(a);
+        if let Some(found) = search(a) {
+            return Some((a, found));
         }
     }
     None

@@ -1,11 +1,10 @@
 -- What each way through explaining a sheet gives, from what is known on it. Assumes nothing.
 use mathlib.Core.Path.{◌≡◌, refl, sym, ap, ap₂, ◌∙◌}
 use mathlib.Core.List.{List, [], ◌∷◌, ◌++◌}
-use Prim.Native.Nat.{ℕ, ◌-◌, ◌<◌, ◌≤◌}
+use Prim.Native.Nat.{ℕ, ◌<◌, ◌≤◌}
 use native.Mathlib.Omega.{arith}
-use borrow.Author.Rules.{rules}
 use borrow.Author.Tests.{ne_eqb}
-use lib.ListN.{length, take, drop}
+use lib.ListN.{length, drop}
 use Rattle.std.specs.Prelude.{Err}
 use Rattle.expression.specs.Outcome.{number_of}
 use Rattle.expression.specs.declared.refusal.Refusal.{Refusal}
@@ -14,7 +13,7 @@ use Rattle.expression.specs.Refusal.{first, accepted, short}
 use Rattle.expression.proofs.Numbers.{first_refused, first_short, first_roomy}
 use Rattle.disambiguation.specs.Rules.{L, R}
 use Rattle.disambiguation.specs.SheetChecks.{rules_in, operators_in, order_checks}
-use Rattle.disambiguation.specs.Witness.{Witness, witness, witness_of, witness_bytes}
+use Rattle.disambiguation.specs.Witness.{witness, witness_of, witness_bytes}
 use Rattle.relation.specs.Relation.{closes_in, turned}
 use Rattle.relation.specs.Words.{operators_by}
 use Rattle.relation.specs.Relating.{closes_words, yields_words}
@@ -22,8 +21,7 @@ use Rattle.sheet.specs.Loading.{ReadsSheet}
 use Rattle.sheet.proofs.Ordered.{Ordered, order_numbered, operators_read, closes_read, yields_read}
 use Rattle.sheet.proofs.Loading.{known, refusal_told}
 use Rattle.record.specs.Outcome.{answer_of}
-use Rattle.witness.specs.Shapes.{Tells}
-use Rattle.witness.specs.Explaining.{most_explained, explained, Explains}
+use Rattle.witness.specs.Explaining.{explained, Explains}
 use Rattle.witness.proofs.SameWitness.{witness_same}
 
 -- refused before anything is told
@@ -47,32 +45,25 @@ module _ (n : ℕ) (bytes t u out : List ℕ) {word m : ℕ} (count : m ≡ n) (
       (yields_read n bytes order) (closes_read n bytes order)
       ∙ ap (λ ops. witness ops (L (rules_in n bytes)) (R (rules_in n bytes))) (ap (operators_by n) (reads.word_is refl) ∙ operators_read n bytes order)
 
-  module _ (text : List ℕ) {size : ℕ} (tells : Tells (witness (operators_by m word) (turned (closes_in u)) (closes_in t)) text size) where
-    told_is : witness_bytes (witness (operators_by m word) (turned (closes_in u)) (closes_in t)) ≡ explained n bytes
+  module _ {text told : List ℕ} (tells : text ≡ witness_bytes (witness (operators_by m word) (turned (closes_in u)) (closes_in t))) (shows : told ≡ text) where
+    told_is : told ≡ explained n bytes
     unfolding explained
-    told_is = ap witness_bytes witness_is
+    told_is = shows ∙ tells ∙ ap witness_bytes witness_is
 
-    size_is : size ≡ length (explained n bytes)
-    size_is = tells.measured ∙ ap length told_is
-
-    pub explain_short : length out < size → Explains n bytes out out (record { number = short; length = 0 })
+    pub explain_short : length out < length told → Explains n bytes out out (record { number = short; length = 0 })
     explain_short h =
         record {
-          numbered = sym (first_short (order_checks n bytes) (length (explained n bytes)) (length out) (sym reads.number) (order_numbered n bytes) (omega (arith, size_is)));
+          numbered =
+              sym (first_short (order_checks n bytes) (length (explained n bytes)) (length out) (sym reads.number) (order_numbered n bytes) (omega (arith, ap length told_is)));
           measured = refl;
           output = refl;
         }
 
-    pub explain_done : {after : List ℕ} → size ≤ length out → after ≡ take size text ++ drop (length (take size text)) out
-        → Explains n bytes out after (record { number = accepted; length = size })
+    pub explain_done : {after : List ℕ} → length told ≤ length out → after ≡ told ++ drop (length told) out → Explains n bytes out after (record { number = accepted; length = length told })
     explain_done enough copied =
         record {
-          numbered = sym (first_roomy (order_checks n bytes) (length (explained n bytes)) (length out) (sym reads.number) (order_numbered n bytes) (omega (arith, size_is)));
-          measured = size_is;
-          output = copied ∙ ap (λ d. d ++ drop (length d) out) (tells.written ∙ told_is);
+          numbered =
+              sym (first_roomy (order_checks n bytes) (length (explained n bytes)) (length out) (sym reads.number) (order_numbered n bytes) (omega (arith, ap length told_is)));
+          measured = ap length told_is;
+          output = copied ∙ ap (λ d. d ++ drop (length d) out) told_is;
         }
-
-pub text_holds : (w : Witness) (text : List ℕ) {size : ℕ} → Tells w text size → length text ≡ most_explained → size ≤ length text
-text_holds w text tells h = omega (arith, tells.inside)
-
-pub ruleset explain_ways = (explain_order, text_holds, explain_short, explain_done, rules)

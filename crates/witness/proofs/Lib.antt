@@ -1,9 +1,9 @@
 pub mod LowestBit
 pub mod FaultWays
 pub mod ShapeWays
-pub mod TellWays
 pub mod SameWitness
-pub mod ExplainWays
 pub mod ListWays
 pub mod Brief
 pub mod Promised
+pub mod TellWays
+pub mod ExplainWays

@@ -5,13 +5,16 @@ use Prim.Native.Nat.{ℕ, zero, suc, ◌/◌, ◌%◌, ◌<◌, ◌≤◌}
 use native.Mathlib.Nat.{mod-lt, zero-lt-suc}
 use native.Mathlib.Omega.{arith}
 use borrow.Author.Rules.{rules}
+use borrow.Author.Tests.{lt-ltb, le-ltb}
 use mir.Val.{Fits}
 use mir.Syntax.{w64}
 use lib.Count.{under, count_trailing_zeros, trailing_le}
 use lib.Dec.{eqb}
+use Rattle.std.specs.Prelude.{Some, None}
 use Rattle.expression.specs.Limits.{most_operators}
 use Rattle.disambiguation.specs.Below.{first_below}
 use Rattle.disambiguation.proofs.FirstBelow.{IsFirst, first_only}
+use Rattle.relation.specs.Below.{if_below}
 use Rattle.relation.specs.Relation.{bit_of}
 use Rattle.relation.proofs.Bits.{bit_lowest, bit_above}
 
@@ -40,14 +43,16 @@ module _ (n x : ℕ) (few : n ≤ most_operators) where
   zeros_fit = record { fits = omega (arith, trailing_le 32 x) }
 
   -- below n it is the first there
-  pub lowest_below : count_trailing_zeros 32 x < n → count_trailing_zeros 32 x ≡ first_below n (bit_of x)
+  pub lowest_below : count_trailing_zeros 32 x < n → Some (count_trailing_zeros 32 x) ≡ if_below n (first_below n (bit_of x))
+  unfolding if_below
   lowest_below h =
       let f = lowest 32 x in
-      sym (first_only n (bit_of x) (count_trailing_zeros 32 x) (record { inside = omega arith; before = f.before; holds = λ _. f.holds (omega arith) }))
+      sym (rw (first_only n (bit_of x) (count_trailing_zeros 32 x) (record { inside = omega arith; before = f.before; holds = λ _. f.holds (omega arith) }), lt-ltb (count_trailing_zeros 32 x) n h))
 
   -- and else there is none
-  pub none_lower : n ≤ count_trailing_zeros 32 x → n ≡ first_below n (bit_of x)
+  pub none_lower : n ≤ count_trailing_zeros 32 x → None ≡ if_below n (first_below n (bit_of x))
+  unfolding if_below
   none_lower h =
-      sym (first_only n (bit_of x) n (record { inside = omega arith; before = λ a l. (lowest 32 x).before a (omega arith); holds = λ l. absurd (omega arith) }))
+      sym (rw (first_only n (bit_of x) n (record { inside = omega arith; before = λ a l. (lowest 32 x).before a (omega arith); holds = λ l. absurd (omega arith) }), le-ltb n n (omega arith)))
 
 pub ruleset first_in_ways = (zeros_fit, lowest_below, none_lower, rules)

@@ -1,16 +1,20 @@
--- Faults of pairs, and sets of operators as words. Assumes nothing.
-use Rattle.std.specs.Prelude.{ℕ, Bool, not, ◌&&◌, ◌||◌, cond}
-use Rattle.expression.specs.Token.{Operators}
-use Rattle.disambiguation.specs.Witness.{both_exclude, none_excludes}
-use Rattle.relation.specs.Relation.{bit_of}
+-- The faults of pairs of operators, by a sheet's relations. Assumes nothing.
+use Rattle.std.specs.Prelude.{ℕ, Bool}
+use Rattle.disambiguation.specs.Below.{some_below}
+use Rattle.disambiguation.specs.Witness.{both_exclude, none_excludes, uneven_pair}
+use Rattle.relation.specs.Relations.{ops, closing, yielding}
+use Rattle.relation.specs.declared.relations.Relations.{Relations}
 
--- the fault of a pair: each excludes the other (dead), or neither does
-abbrev pub fault_of : Bool → Operators → (ℕ → ℕ → Bool) → (ℕ → ℕ → Bool) → ℕ → ℕ → Bool
-fault_of dead ops L R a b = cond dead (both_exclude ops L R a b) (none_excludes ops L R a b)
+-- each excludes the other, neither does, and the two are not level
+abbrev pub dead_pair : Relations → ℕ → ℕ → Bool
+dead_pair r = both_exclude (ops r) (yielding r) (closing r)
 
--- what is in one set and not in the other, and what is in none of three
-unfoldable pub only_in : ℕ → ℕ → ℕ → Bool
-only_in x y c = bit_of x c && not (bit_of y c)
+abbrev pub double_pair : Relations → ℕ → ℕ → Bool
+double_pair r = none_excludes (ops r) (yielding r) (closing r)
 
-unfoldable pub in_none : ℕ → ℕ → ℕ → ℕ → Bool
-in_none x y z c = not ((bit_of x c || bit_of y c) || bit_of z c)
+abbrev pub uneven_in : Relations → ℕ → ℕ → Bool
+uneven_in r = uneven_pair (ops r) (closing r)
+
+-- some operator makes such a pair with a
+abbrev pub makes : Relations → (ℕ → ℕ → Bool) → ℕ → Bool
+makes r test a = some_below r.count.n (test a)

@@ -1,93 +1,90 @@
 // Why a sheet is refused: the first row, of two operators or of three, that has no conflict-free tree, or two, and then both trees.
 #![tactic(auto)]
 
-ghost use Rattle.std.specs.Prelude.{◌≡◌, ◌≤◌, length};
-ghost use Rattle.expression.specs.Limits.{most_operators};
-ghost use Rattle.disambiguation.specs.Witness.{of_triples, witness};
-ghost use Rattle.relation.specs.Relation.{closes_in, turned};
-ghost use Rattle.relation.specs.Words.{operators_by};
+ghost use Rattle.std.specs.Prelude.{◌≡◌, ◌<◌, slice_index};
+ghost use Rattle.disambiguation.specs.Witness.{of_triples, witness, witness_bytes};
+ghost use Rattle.relation.specs.Relation.{bit_of};
+ghost use Rattle.relation.specs.Relations.{ops, closing, yielding};
 ghost use Rattle.record.specs.Outcome.{answer_of};
-ghost use Rattle.witness.specs.Shapes.{Tells};
-ghost use Rattle.witness.specs.Explaining.{most_explained, Explains};
+ghost use Rattle.witness.specs.Explaining.{Explains};
 
 use expression::bytes;
 use expression::refusal::Refusal;
-use limits::MOST_EXPLAINED;
 use record::Answer;
-use relation::words;
-use sheet::layout::SHEET_WORDS;
+use relation::relations::Relations;
+use relation::{scan, words};
+use shapes::{Pair, Triple};
+use text::Text;
 
 mod faults;
 pub mod limits;
 pub mod lists;
 mod shapes;
+mod text;
 
-// Puts what triples show at the front of the text; its length.
-#[tactic(auto, using(crate::proofs::TellWays::triple_ways))]
-fn tell_triple(n: usize, prefixes: u32, closes: &[u32; SHEET_WORDS], text: &mut [u8]) -> usize
-    requires { (n ≤ most_operators) × (length text.old ≡ most_explained) }
-    ensures { Tells (of_triples (operators_by n prefixes) (closes_in closes.now)) text.new result }
+// The row of a and b.
+fn pair(relations: &Relations, a: usize, b: usize) -> Pair
+    requires { (a < relations.now.count.n) × (b < relations.now.count.n) }
+    ensures { (result.prefix ≡ bit_of relations.now.prefixes a) × (result.a ≡ a) × (result.b ≡ b) }
 {
-    let a = faults::first_uneven(n, prefixes, closes);
-    if n <= a {
-        return shapes::sound(text);
+    Pair {
+        prefix: words::has(relations.prefixes, a),
+        a: a as u8,
+        b: b as u8,
     }
-    let b = faults::first_middle(n, prefixes, closes, a);
-    let c = faults::first_third(n, prefixes, closes, a, b);
-    let prefix = words::has(prefixes, a);
-    shapes::two_of_three(
-        prefix,
-        words::has(closes[a], b),
-        a as u8,
-        b as u8,
-        c as u8,
-        text,
-    )
 }
 
-// Puts the witness of the relations at the front of the text; its length.
-fn tell(
-    n: usize,
-    prefixes: u32,
-    closes: &[u32; SHEET_WORDS],
-    yields: &[u32; SHEET_WORDS],
-    text: &mut [u8],
-) -> usize
-    requires { (n ≤ most_operators) × (length text.old ≡ most_explained) }
-    ensures { Tells (witness (operators_by n prefixes) (turned (closes_in yields.now)) (closes_in closes.now)) text.new result }
+// The row of a, b and c.
+fn triple(relations: &Relations, a: usize, b: usize, c: usize) -> Triple
+    requires { (a < relations.now.count.n) × (b < relations.now.count.n) × (c < relations.now.count.n) }
+    ensures { (result.prefix ≡ bit_of relations.now.prefixes a) × (result.closes ≡ bit_of (slice_index relations.now.closes a) b)
+        × (result.a ≡ a) × (result.b ≡ b) × (result.c ≡ c) }
 {
-    let dead = faults::first_left(true, n, prefixes, closes, yields);
-    if dead < n {
-        let b = faults::first_right(true, n, prefixes, closes, yields, dead);
-        return shapes::none_of(words::has(prefixes, dead), dead as u8, b as u8, text);
+    Triple {
+        prefix: words::has(relations.prefixes, a),
+        closes: words::has(relations.closes[a], b),
+        a: a as u8,
+        b: b as u8,
+        c: c as u8,
     }
-    let double = faults::first_left(false, n, prefixes, closes, yields);
-    if double < n {
-        let b = faults::first_right(false, n, prefixes, closes, yields, double);
-        return shapes::two_of(words::has(prefixes, double), double as u8, b as u8, text);
+}
+
+// What triples show.
+fn tell_triple(relations: &Relations) -> Text
+    ensures { result ≡ witness_bytes (of_triples (ops relations.now) (closing relations.now)) }
+{
+    match scan::first(relations.count.n, |a| faults::uneven_right(relations, a)) {
+        None => shapes::sound(),
+        Some((a, (b, c))) => triple(relations, a, b, c).two_trees(),
     }
-    tell_triple(n, prefixes, closes, text)
+}
+
+// The witness of the relations.
+fn tell(relations: &Relations) -> Text
+    ensures { result ≡ witness_bytes (witness (ops relations.now) (yielding relations.now) (closing relations.now)) }
+{
+    let n = relations.count.n;
+    if let Some((a, b)) = scan::first(n, |a| faults::dead_right(relations, a)) {
+        return pair(relations, a, b).no_tree();
+    }
+    if let Some((a, b)) = scan::first(n, |a| faults::double_right(relations, a)) {
+        return pair(relations, a, b).two_trees();
+    }
+    tell_triple(relations)
 }
 
 // The sheet of n operators with their kinds and the rules: the verdict, and what shows it. After a refusal `out` is as it was.
-#[tactic(auto, using(crate::proofs::ExplainWays::explain_ways))]
 pub fn explain(n: u32, bytes: &[u8], out: &mut [u8]) -> Result<usize, Refusal>
     ensures { Explains n bytes.now out.old out.new (answer_of result) }
 {
     let relations = sheet::read(n, bytes)?;
-    let mut text = [0u8; MOST_EXPLAINED];
-    let length = tell(
-        relations.count.n,
-        relations.prefixes,
-        &relations.closes,
-        &relations.yields,
-        &mut text,
-    );
-    if out.len() < length {
+    let text = tell(&relations);
+    let told = text.bytes();
+    if out.len() < told.len() {
         return Err(Refusal::Short);
     }
-    bytes::copy(&text[..length], out);
-    Ok(length)
+    bytes::copy(told, out);
+    Ok(told.len())
 }
 
 // The same, as a number and a length.

@@ -32,12 +32,7 @@ fn explain_joined(
 
 // Why the sheet of n operators is refused. Of the rules the bytes come, three a rule; what is left over is none.
 #[tactic(auto, using(crate::proofs::ListWays::explain_list_ways))]
-pub fn explain_list(
-    n: u32,
-    kinds: &[u8],
-    rules: &[u8],
-    out: &mut [u8],
-) -> Result<usize, Refusal>
+pub fn explain_list(n: u32, kinds: &[u8], rules: &[u8], out: &mut [u8]) -> Result<usize, Refusal>
     ensures { ExplainsList n kinds.now (rules_of rules.now) out.old out.new (answer_of result) }
 {
     let count = rules.len() / limits::BYTES_OF_RULE;

@@ -7,8 +7,10 @@ pub returns-in_err-relations : goal.returns-in_err-relations
 returns-in_err-relations c =
     let p = err_from_is_err_and c.from_residual.result c.from_residual.ensures.1 in rw (p.1, p.2) (explain_order _ _ _ _ c.in_err-relations.ensures)
 
-pub returns-then-out-length : goal.returns-then-out-length
-returns-then-out-length c = explain_short _ _ _ _ _ c.in_ok-relations.ensures.0 c.in_ok-relations.ensures.1 _ c.tell-length.ensures c.if-out-length.true
+pub returns-then-out-told : goal.returns-then-out-told
+returns-then-out-told c =
+    explain_short _ _ _ _ _ c.in_ok-relations.ensures.0 c.in_ok-relations.ensures.1 c.tell-text.ensures c.bytes-told.ensures c.if-out-told.true
 
 pub returns : goal.returns
-returns c = explain_done _ _ _ _ _ c.in_ok-relations.ensures.0 c.in_ok-relations.ensures.1 _ c.tell-length.ensures c.if-out-length.false c.copy.ensures
+returns c =
+    explain_done _ _ _ _ _ c.in_ok-relations.ensures.0 c.in_ok-relations.ensures.1 c.tell-text.ensures c.bytes-told.ensures c.if-out-told.false c.copy.ensures

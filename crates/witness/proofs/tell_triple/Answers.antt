@@ -1,12 +1,19 @@
--- `witness::tell_triple` meets its contract. Assumes nothing.
+-- The answers of `witness::tell_triple`. Assumes nothing.
 use Rattle.std.proofs.Common.{rules}
-use Rattle.witness.proofs.TellWays.{sound_told, uneven_told}
+use Rattle.witness.specs.Faults.{makes, uneven_in}
+use Rattle.witness.proofs.TellWays.{pair_some, sound_told, uneven_told}
 use Rattle.witness.proofs.tell_triple.Goals as goal
 
-pub returns-then-n-a : goal.returns-then-n-a
-returns-then-n-a c = search (sound_told c.args.n c.args.prefixes c.args.closes.now, rules)
+pub returns-in-None : goal.returns-in-None
+returns-in-None c =
+    sound_told _ _ _ (c.in-None.ensures.first (makes c.args.relations.now (uneven_in c.args.relations.now))
+    (λ a r l k. search (rules, pair_some)))
+    (search rules)
 
-pub returns : goal.returns
-returns c =
-    uneven_told c.args.n c.args.prefixes c.args.closes.now _ c.first_uneven-a.ensures c.requires.0 c.if-n-a.false c.first_middle-b.ensures c.first_third-c.ensures
-    c.has-prefix.ensures c.has.ensures c.two_of_three.ensures
+pub returns-in-Some : goal.returns-in-Some
+returns-in-Some c =
+    uneven_told c.args.relations.now.count.n c.args.relations.now.prefixes c.args.relations.now.closes {a = c.in-Some.a} {b = c.in-Some.b} {c = c.in-Some.c}
+    (search rules) (search rules) (search rules)
+    (c.in-Some.ensures.first (makes c.args.relations.now (uneven_in c.args.relations.now))
+    (λ a r l k. search (rules, pair_some)))
+    (search rules) (search rules) c.triple.ensures.0 c.triple.ensures.1 (rw (c.triple.ensures.2, c.triple.ensures.3, c.triple.ensures.4) at c.two_trees.ensures)
