@@ -22,7 +22,6 @@ use Rattle.expression.proofs.Lengths.{record_length}
 use Rattle.expression.proofs.Numbers.{first_refused, first_short, first_roomy, record_numbered, record_accepted, repair_number_lem}
 use Rattle.sheet.specs.Layout.{operators_of}
 use Rattle.sheet.specs.Relation.{closes_in}
-use Rattle.record.specs.Front.{base}
 use Rattle.record.specs.TreeAt.{TreeAt}
 use Rattle.record.specs.Counts.{excluded_left}
 use Rattle.record.specs.declared.Answer.{Answer}
@@ -31,7 +30,7 @@ use Rattle.parser.specs.Answers.{AnswersRepair}
 use Rattle.parser.proofs.BuildLaws.{BuiltTree, built_tree}
 use Rattle.parser.proofs.RepairWays.{Accepted, accepted_record}
 use Rattle.brackets.specs.Shortest.{shortened, shortest_of, shortest_number, AnswersShortest}
-use Rattle.brackets.specs.Edges.{Marked, Fills}
+use Rattle.brackets.specs.Edges.{base, Marked, Fills}
 use Rattle.brackets.specs.Walk.{right_side, row_under, StandsWithRoom, Shortens}
 use Rattle.brackets.proofs.Fewest.{enclosed_shortens}
 use Rattle.brackets.proofs.OperandRows.{plain_row}

@@ -14,7 +14,6 @@ use Rattle.expression.specs.Token.{opening}
 use Rattle.expression.specs.Tree.{Tree, binary}
 use Rattle.expression.proofs.Tests.{at_most_one}
 use Rattle.sheet.specs.Layout.{operators_of}
-use Rattle.record.specs.Front.{base}
 use Rattle.record.specs.Node.{node_at}
 use Rattle.record.specs.TreeAt.{TreeAt}
 use Rattle.record.specs.declared.Node.{Node}
@@ -22,12 +21,13 @@ use Rattle.record.specs.declared.Node.TheVariants as node
 use Rattle.record.proofs.Trees.{top_node, an_operator}
 use Rattle.record.proofs.Standing.{onward}
 use Rattle.brackets.specs.Shortest.{enclosed_in}
-use Rattle.brackets.specs.Edges.{edge_shows, as_right, Stands, seer_past, MarksEdges}
+use Rattle.brackets.specs.Edges.{base, edge_shows, as_right, Stands, seer_past, MarksEdges}
 use Rattle.brackets.proofs.OneTree.{operands_at}
 use Rattle.brackets.proofs.RightEdges.{as_right_plain, edge_past}
-use Rattle.brackets.proofs.MarkingEdges.{inside}
+use Rattle.brackets.proofs.MarkingEdges.{inside, mark_ways}
+use Rattle.std.specs.Prelude.{Some}
 
-module _ (sheet bytes : List ℕ) (from above seer : ℕ) (h : Stands sheet bytes from) {x : Node} (found : x ≡ node_at (operators_of sheet) bytes from) {o : ℕ} (is : x ≡ node.Operator o) where
+module _ (sheet bytes : List ℕ) (from above seer : ℕ) (h : Stands sheet bytes from) {x : Node} (found : Some x ≡ node_at (operators_of sheet) bytes from) {o : ℕ} (is : x ≡ node.Operator o) where
   pub left_stands : Stands sheet bytes (from + 1)
   left_stands =
       let (l, r, mid, e, y, z) = an_operator (operators_of sheet) bytes from found is h.tree h.stands in
@@ -88,7 +88,7 @@ module _ (sheet bytes : List ℕ) (from above seer : ℕ) (h : Stands sheet byte
           let same : at ≡ from = omega arith in
           let k' : TreeAt (operators_of sheet) bytes from (binary c l u) end = rw same at k in
           let (mid, y, z) = operands_at (operators_of sheet) bytes from c l u k' in
-          let q : node.Operator o ≡ node.Operator c = sym is ∙ found ∙ top_node (operators_of sheet) bytes from (binary c l u) k' in
+          let q : Some (node.Operator o) ≡ Some (node.Operator c) = ap Some (sym is) ∙ found ∙ top_node (operators_of sheet) bytes from (binary c l u) k' in
           let p : o ≡ c = cc in
           ap (λ i. get_or last i 0) same ∙ here_kept ∙ shown_left l mid y ∙ ap (λ b. one_if (edge_shows sheet b (enclosed_in sheet l))) p
 
@@ -102,3 +102,5 @@ module _ (sheet bytes : List ℕ) (from above seer : ℕ) (h : Stands sheet byte
           }
 
 pub ruleset infix_ways = (left_stands, mark_fits, mark_inside, right_falls, right_stands, marks_long, an_infix)
+
+pub ruleset ways = (infix_ways, mark_ways)

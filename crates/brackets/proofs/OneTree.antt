@@ -13,7 +13,7 @@ module _ (ops : Operators) (bytes : List ℕ) where
   pub operands_at : (from o : ℕ) (l r : Tree) {to : ℕ} → TreeAt ops bytes from (binary o l r) to
       → (mid : ℕ) × TreeAt ops bytes (from + 1) l mid × TreeAt ops bytes mid r to
   operands_at from o l r {to} x =
-      let (k, m, mid, e, y, z) = an_operator ops bytes from refl (top_node ops bytes from (binary o l r) x) (binary o l r) x in
+      let (k, m, mid, e, y, z) = an_operator ops bytes from (sym (top_node ops bytes from (binary o l r) x)) refl (binary o l r) x in
       let p : k ≡ l = cc in
       let q : m ≡ r = cc in
       let left : TreeAt ops bytes (from + 1) l mid = rw p at y in
@@ -22,19 +22,19 @@ module _ (ops : Operators) (bytes : List ℕ) where
 
   pub one_tree_lem : (from : ℕ) (t u : Tree) (to end : ℕ) → TreeAt ops bytes from t to → TreeAt ops bytes from u end → (t ≡ u) × (to ≡ end)
   one_tree_lem from (reading a) u to end x y =
-      let (e, f) = a_reading ops bytes from refl (top_node ops bytes from (reading a) x) u y in
+      let (e, f) = a_reading ops bytes from (sym (top_node ops bytes from (reading a) x)) refl u y in
       (sym e, omega (arith, f, x.ends))
   one_tree_lem from (bracket t) u to end x y =
-      let (v, e, z) = a_bracket ops bytes from refl (top_node ops bytes from (bracket t) x) u y in
+      let (v, e, z) = a_bracket ops bytes from (sym (top_node ops bytes from (bracket t) x)) refl u y in
       let (p, q) = one_tree_lem (from + 1) t v to end (in_bracket ops bytes from t to x) z in
       (ap bracket p ∙ sym e, q)
   one_tree_lem from (binary o l r) u to end x y =
       let (mid, a, b) = operands_at from o l r x in
-      let (k, m, mid', e, c, d) = an_operator ops bytes from refl (top_node ops bytes from (binary o l r) x) u y in
+      let (k, m, mid', e, c, d) = an_operator ops bytes from (sym (top_node ops bytes from (binary o l r) x)) refl u y in
       let (p, q) = one_tree_lem (from + 1) l k mid mid' a c in
       let (s, t) = one_tree_lem mid r m to end b (rw (sym q) at d) in
       (ap₂ (binary o) p s ∙ sym e, t)
   one_tree_lem from (prefix p t) u to end x y =
-      let (v, e, z) = a_prefix ops bytes from refl (top_node ops bytes from (prefix p t) x) u y in
+      let (v, e, z) = a_prefix ops bytes from (sym (top_node ops bytes from (prefix p t) x)) refl u y in
       let (q, s) = one_tree_lem (from + 1) t v to end (in_prefix ops bytes from p t to x) z in
       (ap (prefix p) q ∙ sym e, s)

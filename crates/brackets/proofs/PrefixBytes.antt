@@ -12,23 +12,19 @@ use Rattle.expression.specs.Lists.{one_if, any_holds}
 use Rattle.expression.specs.Token.{Infix, Prefix, opening, class}
 use Rattle.expression.specs.Tree.{Tree, reading, bracket, binary, prefix, record_of, Over}
 use Rattle.expression.proofs.Classes.{prefix_byte}
-use Rattle.expression.proofs.Looking.{looked_none, looked_more, looked_all}
 use Rattle.expression.proofs.Tests.{both_false, any_append}
 use Rattle.disambiguation.specs.Edges.{prefixes, on_top}
 use Rattle.sheet.specs.Layout.{operators_of, prefix_in, some_prefix}
 use Rattle.sheet.specs.Relation.{closes_in}
 use Rattle.sheet.proofs.Laws.{class_in, none_prefix}
 use Rattle.record.specs.TreeAt.{TreeAt}
-use Rattle.record.specs.Counts.{sees_edge}
 use Rattle.record.proofs.Trees.{in_bracket}
 use Rattle.brackets.specs.Enclosed.{around}
 use Rattle.brackets.specs.Shortest.{enclosed_in}
-use Rattle.brackets.specs.Edges.{edge_shows, Marked}
+use Rattle.brackets.specs.Edges.{sees_edge, edge_shows, Marked}
 use Rattle.brackets.proofs.OneTree.{operands_at, one_tree_lem}
 
--- ---- any_prefix, has_prefix
-pub ruleset any_prefix_ways = (looked_none, looked_more, looked_all, rules)
-
+-- ---- has_prefix
 -- a sheet without a prefix operator
 pub none_at_all : (sheet bytes : List ℕ) {b : Bool} → b ≡ some_prefix sheet → not b ≡ true → false ≡ any_holds (prefix_in sheet) bytes
 none_at_all sheet bytes {b} tested e = sym (go bytes)

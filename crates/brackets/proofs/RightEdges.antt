@@ -11,12 +11,10 @@ use Rattle.expression.specs.Token.{opening}
 use Rattle.expression.specs.Tree.{Tree, binary}
 use Rattle.disambiguation.specs.Edges.{prefixes, on_top}
 use Rattle.sheet.specs.Relation.{closes_in}
-use Rattle.record.specs.Counts.{excluded_left, sees_edge}
-use Rattle.record.proofs.Counting.{unseen_edge}
+use Rattle.record.specs.Counts.{excluded_left}
 use Rattle.brackets.specs.Enclosed.{around}
 use Rattle.brackets.specs.Shortest.{enclosed_in}
-use Rattle.brackets.specs.Edges.{edge_shows, as_right, seer_past}
-use Rattle.brackets.proofs.Enclosing.{counted_none}
+use Rattle.brackets.specs.Edges.{sees_edge, edge_shows, as_right, seer_past}
 
 -- a bracket closes before nothing
 closes_none : (sheet xs : List ℕ) → any_holds (closes_in sheet opening) xs ≡ false
@@ -27,7 +25,8 @@ closes_none sheet (x ∷ xs) = closes_none sheet xs
 module _ (sheet : List ℕ) where
   -- no operator sees an edge
   none_sees : (xs : List ℕ) → any_holds (sees_edge sheet opening) xs ≡ false
-  none_sees xs = counted_none (sees_edge sheet opening) xs (unseen_edge sheet xs)
+  none_sees [] = refl
+  none_sees (x ∷ xs) = none_sees xs
 
   -- only an operator does
   pub seer_below : (seer : ℕ) (xs : List ℕ) → any_holds (sees_edge sheet seer) xs ≡ true → seer < most_operators

@@ -1,5 +1,6 @@
 -- What the ways through `shows` give, and those through `write_operand` that open a bracket. Assumes nothing.
-use Prim.Native.Nat.{ℕ, ◌+◌, ◌-◌, ◌*◌, ◌/◌, ◌%◌, ◌≤◌, ◌<◌}
+use Prim.Native.Nat.{ℕ, suc, ◌+◌, ◌-◌, ◌*◌, ◌/◌, ◌%◌, ◌≤◌, ◌<◌}
+use native.Mathlib.Numerals.{add-one}
 use native.Mathlib.Omega.{arith}
 use mathlib.Core.Path.{◌≡◌, refl, ap, sym, ◌∙◌}
 use mathlib.Core.Bool.{Bool, true, false}
@@ -15,26 +16,31 @@ use Rattle.expression.specs.Lists.{one_if}
 use Rattle.expression.specs.Limits.{most_operators, most_tokens, most_record_bytes}
 use Rattle.expression.specs.Token.{opening, closing}
 use Rattle.expression.specs.Tree.{Tree}
+use Rattle.expression.proofs.Stores.{sets_append}
 use Rattle.disambiguation.specs.Edges.{prefixes}
 use Rattle.disambiguation.proofs.BelowLaws.{and_true}
 use Rattle.sheet.specs.Layout.{operators_of}
 use Rattle.sheet.specs.Relation.{closes_in}
 use Rattle.sheet.proofs.Laws.{closes_below}
-use Rattle.record.specs.Front.{base}
 use Rattle.record.specs.Node.{node_at}
 use Rattle.record.specs.TreeAt.{TreeAt}
-use Rattle.record.specs.Counts.{excluded_left, sees_edge}
+use Rattle.record.specs.Counts.{excluded_left}
 use Rattle.record.specs.declared.Node.{Node}
 use Rattle.record.specs.declared.Node.TheVariants as node
 use Rattle.record.proofs.Trees.{an_operator}
 use Rattle.record.proofs.Standing.{onward}
-use Rattle.record.proofs.Writing.{set_bracket}
 use Rattle.brackets.specs.Shortest.{enclosed_in}
-use Rattle.brackets.specs.Edges.{Marked}
+use Rattle.brackets.specs.Edges.{sees_edge, base, Marked}
 use Rattle.brackets.specs.Walk.{shown_side, right_side, is_right, shows, shown, row_under, side_of, StandsWithRoom, Shortens}
 use Rattle.brackets.proofs.OneTree.{one_tree_lem}
 use Rattle.brackets.proofs.RightEdges.{seer_below}
 use Rattle.brackets.proofs.OperandRows.{wrapped_row, top_shown, edge_is, edge_shown}
+use Rattle.std.specs.Prelude.{Some}
+
+-- a row between brackets is stored
+set_bracket : (d v : List ℕ) (i : ℕ) → set (sets (set d i opening) (i + 1) v) (i + 1 + length v) closing ≡ sets d i (opening ∷ v ++ (closing ∷ []))
+set_bracket d v i =
+    ap (λ j. set (sets (set d i opening) j v) (j + length v) closing) (add-one i) ∙ sets_append (set d i opening) (suc i) v (closing ∷ [])
 
 wrapped_length : (row : List ℕ) → length (opening ∷ row ++ (closing ∷ [])) ≡ length row + 2
 wrapped_length row = omega (arith, length-append row (closing ∷ []))
@@ -96,7 +102,7 @@ module _ (sheet bytes marks : List ℕ) (from above side at : ℕ) (h : StandsWi
       }
 
   -- or by the operator on top
-  pub by_top : {x : Node} {o : ℕ} {b : Bool} → x ≡ node_at (operators_of sheet) bytes from → x ≡ node.Operator o → b ≡ shows sheet above (is_right side) o → b ≡ true → Opens sheet bytes from above side
+  pub by_top : {x : Node} {o : ℕ} {b : Bool} → Some x ≡ node_at (operators_of sheet) bytes from → x ≡ node.Operator o → b ≡ shows sheet above (is_right side) o → b ≡ true → Opens sheet bytes from above side
   by_top {x} {o} found is tested yes-shown =
       record {
         under = shown_below sheet above (is_right side) o (sym tested ∙ yes-shown);

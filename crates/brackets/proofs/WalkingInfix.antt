@@ -1,5 +1,6 @@
 -- What the ways through `write_operand` give for an operator that shows no conflict with the one above: its operands, and itself between them. Assumes nothing.
 use Prim.Native.Nat.{ℕ, suc, ◌+◌, ◌/◌, ◌%◌, ◌≤◌, ◌<◌}
+use native.Mathlib.Numerals.{add-one}
 use native.Mathlib.Omega.{arith}
 use mathlib.Core.Path.{◌≡◌, refl, ap, sym, ◌∙◌}
 use mathlib.Core.Bool.{Bool, true, false}
@@ -16,21 +17,26 @@ use Rattle.expression.specs.Token.{first_reading, Operators}
 use Rattle.expression.specs.Tree.{Tree, binary}
 use Rattle.expression.proofs.Classes.{infix_byte, by_class}
 use Rattle.expression.proofs.Tests.{at_most_one}
+use Rattle.expression.proofs.Stores.{sets_append}
 use Rattle.sheet.specs.Layout.{operators_of}
-use Rattle.record.specs.Front.{base}
 use Rattle.record.specs.Node.{node_of, node_at}
 use Rattle.record.specs.TreeAt.{TreeAt}
 use Rattle.record.specs.declared.Node.{Node}
 use Rattle.record.specs.declared.Node.TheVariants as node
-use Rattle.record.proofs.Nodes.{past, within_node, reading}
+use Rattle.record.proofs.Nodes.{past, within_node, a_reading_byte}
 use Rattle.record.proofs.Trees.{a_reading, an_operator}
 use Rattle.record.proofs.Standing.{onward}
-use Rattle.record.proofs.Writing.{set_operator}
 use Rattle.brackets.specs.Shortest.{enclosed_in}
-use Rattle.brackets.specs.Edges.{edge_shows}
+use Rattle.brackets.specs.Edges.{base, edge_shows}
 use Rattle.brackets.specs.Walk.{leaf_byte, shown_side, right_side, is_right, shows, row_under, side_of, StandsWithRoom, Shortens}
 use Rattle.brackets.proofs.OperandRows.{mark_left, leaf_row, infix_row}
-use Rattle.brackets.proofs.Walking.{due, inside, sided_as, marked_within}
+use Rattle.brackets.proofs.Walking.{due, inside, sided_as, marked_within, bracket_ways}
+use Rattle.brackets.proofs.WalkingNodes.{node_ways}
+use Rattle.std.specs.Prelude.{Option, None, Some}
+
+-- two rows are stored with an operator between them
+set_operator : (d v w : List ℕ) (i o : ℕ) → sets (set (sets d i v) (i + length v) o) (i + length v + 1) w ≡ sets d i (v ++ o ∷ w)
+set_operator d v w i o = ap (λ j. sets (set (sets d i v) (i + length v) o) j w) (add-one (i + length v)) ∙ sets_append d i v (o ∷ w)
 
 -- ---- leaf_at
 module _ (ops : Operators) (bytes : List ℕ) (at : ℕ) where
@@ -43,18 +49,18 @@ module _ (ops : Operators) (bytes : List ℕ) (at : ℕ) where
       ∙ sym (ap leaf_byte (within_node ops bytes at h))
 
   pub leaf_byte_lem : ((k : ℕ) → Fits w8 (get_or bytes k 0)) → at < length bytes → first_reading ≤ get_or bytes at 0 → get_or bytes at 0 ≡ leaf_byte (node_at ops bytes at)
-  leaf_byte_lem f h l = ap leaf_byte (reading ops bytes at f h l)
+  leaf_byte_lem f h l = ap leaf_byte (a_reading_byte ops (get_or bytes at 0) (f at) l ∙ sym (within_node ops bytes at h))
 
 pub ruleset leaf_at_ways = (leaf_past, no_leaf, leaf_byte_lem, rules)
 
-a_leaf : (x : Node) {a : ℕ} → a ≡ leaf_byte x → (a ≡ 0 → ⊥) → x ≡ node.Reading a
-a_leaf (node.Reading b) e some = ap node.Reading (sym e)
-a_leaf node.Bracket e some = absurd (some e)
-a_leaf (node.Operator o) e some = absurd (some e)
-a_leaf (node.Prefix p) e some = absurd (some e)
-a_leaf node.Other e some = absurd (some e)
+a_leaf : (x : Option Node) {a : ℕ} → a ≡ leaf_byte x → (a ≡ 0 → ⊥) → Some (node.Reading a) ≡ x
+a_leaf (Some (node.Reading b)) e some = ap (λ c. Some (node.Reading c)) e
+a_leaf (Some node.Bracket) e some = absurd (some e)
+a_leaf (Some (node.Operator o)) e some = absurd (some e)
+a_leaf (Some (node.Prefix p)) e some = absurd (some e)
+a_leaf None e some = absurd (some e)
 
-module _ (sheet bytes marks : List ℕ) (from above side at : ℕ) (h : StandsWithRoom sheet bytes marks from above side at) {x : Node} (found : x ≡ node_at (operators_of sheet) bytes from) {o : ℕ}
+module _ (sheet bytes marks : List ℕ) (from above side at : ℕ) (h : StandsWithRoom sheet bytes marks from above side at) {x : Node} (found : Some x ≡ node_at (operators_of sheet) bytes from) {o : ℕ}
     (is : x ≡ node.Operator o) (unshown : side ≡ shown_side → ⊥) {b : Bool} (tested : b ≡ shows sheet above (is_right side) o) (not_shown : b ≡ false) where
   record Operands (t : Tree) (to : ℕ) : Type 0 where
     left : Tree
@@ -121,7 +127,7 @@ module _ (sheet bytes marks : List ℕ) (from above side at : ℕ) (h : StandsWi
     reads : (t : Tree) {to : ℕ} → TreeAt (operators_of sheet) bytes from t to → Reads t to
     reads t {to} k =
         let n = operands t k in
-        let (e, f) = a_reading (operators_of sheet) bytes (from + 1) refl (a_leaf (node_at (operators_of sheet) bytes (from + 1)) next some) n.left n.left_at in
+        let (e, f) = a_reading (operators_of sheet) bytes (from + 1) (a_leaf (node_at (operators_of sheet) bytes (from + 1)) next some) refl n.left n.left_at in
         let two : n.mid ≡ from + 2 = f ∙ omega arith in
         let w : row_under sheet above (is_right side) t ≡ (a ∷ []) ++ o ∷ row_under sheet o true n.right_one =
         n.row ∙ ap (λ l. l ++ o ∷ row_under sheet o true n.right_one) (ap (row_under sheet o false) e ∙ leaf_row sheet o false a) in
@@ -212,3 +218,5 @@ module _ (sheet bytes marks : List ℕ) (from above side at : ℕ) (h : StandsWi
         }
 
 pub ruleset infix_ways = (leaf_first, leaf_second, leaf_stands, leaf_falls, a_leaf_infix, left_falls, left_stands, seam_room, right_falls, right_stands, an_infix)
+
+pub ruleset ways = (bracket_ways, node_ways, infix_ways, rules)

@@ -10,23 +10,22 @@ use lib.ListN.{length, set}
 use lib.Seq.{sets}
 use mir.Syntax.{w64}
 use mir.Val.{Fits}
-use Rattle.expression.specs.Refusal.{no_tree}
 use Rattle.expression.specs.Limits.{most_operators, most_tokens}
 use Rattle.expression.specs.Tree.{Tree}
 use Rattle.expression.proofs.Tests.{at_most_one}
 use Rattle.sheet.specs.Layout.{operators_of}
-use Rattle.record.specs.Front.{base}
 use Rattle.record.specs.Node.{node_at}
 use Rattle.record.specs.TreeAt.{TreeAt}
 use Rattle.record.specs.declared.Node.{Node}
 use Rattle.record.specs.declared.Node.TheVariants as node
-use Rattle.record.proofs.Nodes.{NoReading, NoBracket, NoOperator, NoPrefix, is_other_lem}
-use Rattle.record.proofs.Trees.{a_reading, a_bracket, a_prefix, no_tree_lem}
+use Rattle.record.proofs.Trees.{a_reading, a_bracket, a_prefix}
 use Rattle.brackets.specs.Walk.{shown_side, right_side, is_right, row_under, side_of, StandsWithRoom, Shortens}
 use Rattle.brackets.proofs.OperandRows.{leaf_row, prefix_row}
 use Rattle.brackets.proofs.Walking.{marked_within, due, inside, sided_as}
+use Rattle.brackets.specs.Edges.{base}
+use Rattle.std.specs.Prelude.{Some}
 
-module _ (sheet bytes marks : List ℕ) (from above side at : ℕ) (h : StandsWithRoom sheet bytes marks from above side at) {x : Node} (found : x ≡ node_at (operators_of sheet) bytes from) where
+module _ (sheet bytes marks : List ℕ) (from above side at : ℕ) (h : StandsWithRoom sheet bytes marks from above side at) {x : Node} (found : Some x ≡ node_at (operators_of sheet) bytes from) where
   -- a reading
   pub leaf_room : {a : ℕ} → x ≡ node.Reading a → at < most_tokens
   leaf_room {a} is =
@@ -110,10 +109,6 @@ module _ (sheet bytes marks : List ℕ) (from above side at : ℕ) (h : StandsWi
               (a, b ∙ omega (arith, ap length row), c ∙ ap (λ j. sets (set before at p) j (row_under sheet p true u)) (add-one at) ∙ ap (sets before at) (sym row));
         }
 
-  -- no node: no tree
-  pub other : {before : List ℕ} → NoReading x → NoBracket x → NoPrefix x → NoOperator x → Shortens sheet bytes from above side before at before no_tree
-  other p q s r = no_tree_lem (operators_of sheet) bytes from found (is_other_lem x p q s r) h.tree h.stands
-
 pub ruleset node_ways = (
   answer_fits,
   leaf_room,
@@ -126,5 +121,4 @@ pub ruleset node_ways = (
   prefix_falls,
   prefix_stands,
   a_prefixed,
-  other,
 )

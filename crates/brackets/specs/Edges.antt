@@ -1,17 +1,24 @@
 -- The marks of a record: which left operands show a conflict by a prefix operator on their right edge. Assumes nothing.
-use Rattle.std.specs.Prelude.{ℕ, ◌/◌, ◌%◌, ◌≤◌, ◌<◌, ◌≡◌, Bool, cond, List, length, get_or}
+use Rattle.std.specs.Prelude.{ℕ, ◌+◌, ◌/◌, ◌%◌, ◌≤◌, ◌<◌, ◌≡◌, Bool, ◌&&◌, cond, List, ltb, length, get_or}
 use Rattle.expression.specs.Lists.{one_if, any_holds}
-use Rattle.expression.specs.Limits.{most_record_bytes}
+use Rattle.expression.specs.Limits.{most_operators, most_tokens, most_record_bytes}
 use Rattle.expression.specs.Token.{opening}
 use Rattle.expression.specs.Tree.{Tree, binary}
 use Rattle.disambiguation.specs.Edges.{prefixes}
 use Rattle.sheet.specs.Layout.{operators_of}
 use Rattle.sheet.specs.Relation.{closes_in}
-use Rattle.record.specs.Front.{base}
 use Rattle.record.specs.TreeAt.{TreeAt}
-use Rattle.record.specs.Counts.{excluded_left, sees_edge}
+use Rattle.record.specs.Counts.{excluded_left}
 use Rattle.brackets.specs.Enclosed.{right_of}
 use Rattle.brackets.specs.Shortest.{enclosed_in}
+
+-- A walk answers two places, or a place and a mark, in one word: the first times this base, and the second, which is below it.
+abbrev pub base : ℕ
+base = 1 + most_tokens
+
+-- The infix operator right of a tree that sees its right edge, if there is one: else a byte that is no operator is given. It excludes operator p there.
+abbrev pub sees_edge : List ℕ → ℕ → ℕ → Bool
+sees_edge sheet seer p = ltb seer most_operators && excluded_left sheet seer p
 
 module _ (sheet : List ℕ) where
   -- The infix operator right of a tree, the seer, excludes a prefix operator on the tree's right edge. A byte that is no operator is given where there is no seer.

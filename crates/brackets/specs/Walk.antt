@@ -1,5 +1,5 @@
 -- What the walk over a record writes: the row of an operand with just the brackets that it needs. Assumes nothing.
-use Rattle.std.specs.Prelude.{ℕ, ◌+◌, ◌/◌, ◌%◌, ◌≤◌, ◌≡◌, Bool, true, false, cond, List, eqb, length}
+use Rattle.std.specs.Prelude.{ℕ, ◌+◌, ◌/◌, ◌%◌, ◌≤◌, ◌≡◌, Bool, true, false, cond, Option, Some, None, List, eqb, length}
 use Rattle.std.proofs.lemmas.List.Edits.{sets}
 use Rattle.expression.specs.Lists.{one_if, any_holds}
 use Rattle.expression.specs.Limits.{most_tokens, most_record_bytes}
@@ -7,14 +7,12 @@ use Rattle.expression.specs.Tree.{Tree, yield}
 use Rattle.disambiguation.specs.Edges.{shown_as_left_operand, shown_as_right_operand}
 use Rattle.sheet.specs.Layout.{operators_of}
 use Rattle.sheet.specs.Relation.{closes_in}
-use Rattle.record.specs.Front.{base}
 use Rattle.record.specs.TreeAt.{TreeAt}
 use Rattle.record.specs.declared.Node.{Node}
 use Rattle.record.specs.declared.Node.TheVariants as node
-use Rattle.record.specs.Counts.{sees_edge}
 use Rattle.brackets.specs.Enclosed.{around}
 use Rattle.brackets.specs.Shortest.{enclosed_in}
-use Rattle.brackets.specs.Edges.{edge_shows, Marked}
+use Rattle.brackets.specs.Edges.{base, sees_edge, edge_shows, Marked}
 
 -- The side of a left operand is its mark: this one where its right edge shows a conflict with the operator above it, else 0.
 abbrev pub shown_side : ℕ
@@ -27,13 +25,13 @@ right_side = 2
 abbrev pub is_right : ℕ → Bool
 is_right side = eqb side right_side
 
--- a reading's byte; 0 for any other node
-abbrev pub leaf_byte : Node → ℕ
-leaf_byte (node.Reading a) = a
-leaf_byte node.Bracket = 0
-leaf_byte (node.Operator o) = 0
-leaf_byte (node.Prefix p) = 0
-leaf_byte node.Other = 0
+-- a reading's byte; 0 for any other node, and where there is none
+abbrev pub leaf_byte : Option Node → ℕ
+leaf_byte (Some (node.Reading a)) = a
+leaf_byte (Some node.Bracket) = 0
+leaf_byte (Some (node.Operator o)) = 0
+leaf_byte (Some (node.Prefix p)) = 0
+leaf_byte None = 0
 
 module _ (sheet : List ℕ) where
   -- An operand stands on the left or on the right of an operator, or has none above it, as in brackets and at the top: then a byte that is no operator is given.

@@ -1,48 +1,49 @@
 // The marks of a record: which left operands show a conflict by a prefix operator on their right edge.
-ghost use Rattle.std.specs.Prelude.{◌≡◌, length, replicate};
+ghost use Rattle.std.specs.Prelude.{◌≡◌, Some, length, replicate};
 ghost use Rattle.expression.specs.Limits.{most_record_bytes};
 ghost use Rattle.expression.specs.Lists.{any_holds};
 ghost use Rattle.sheet.specs.Layout.{operators_of, prefix_in};
 ghost use Rattle.record.specs.Node.{node_at};
-ghost use Rattle.brackets.specs.Edges.{seer_past, Marked, Stands, Fills, MarksEdges};
+ghost use Rattle.brackets.specs.Edges.{sees_edge, seer_past, Marked, Stands, Fills, MarksEdges};
 
-use expression::limits::MOST_RECORD_BYTES;
-use expression::token;
-use record::walks::{BASE, NO_TREE};
-use record::{Node, conflicts};
+use crate::words::BASE;
+use expression::limits::{MOST_OPERATORS, MOST_RECORD_BYTES};
+use expression::{bytes, token};
+use record::Node;
 use sheet::Sheet;
 
-// Some byte is a prefix operator. The loop has no branch, so that bytes can be tested side by side.
-fn any_prefix(sheet: &Sheet, bytes: &[u8]) -> bool
-    ensures { result ≡ any_holds (prefix_in sheet.now) bytes.now }
-{
-    let mut found = false;
-    let mut at = 0;
-    while at < bytes.len() {
-        found = found | sheet.is_prefix(bytes[at]);
-        at += 1;
-    }
-    found
-}
-
-// The same, with no look at the bytes under a sheet that has no prefix operator.
+// Some byte is a prefix operator; with no look at the bytes under a sheet that has none.
+#[tactic(auto, using(crate::proofs::PrefixBytes::has_prefix_ways))]
 pub fn has_prefix(sheet: &Sheet, bytes: &[u8]) -> bool
     ensures { result ≡ any_holds (prefix_in sheet.now) bytes.now }
 {
     if !sheet.some_prefix() {
         return false;
     }
-    any_prefix(sheet, bytes)
+    bytes::any(bytes, |c| sheet.is_prefix(c))
 }
 
-// The node at a place.
+// The node at a place where a tree stands.
 pub fn top_at(sheet: &Sheet, whole: &[u8; MOST_RECORD_BYTES], at: usize) -> Node
-    ensures { result ≡ node_at (operators_of sheet.now) whole.now at }
+    requires { Stands sheet.now whole.now at }
+    ensures { Some result ≡ node_at (operators_of sheet.now) whole.now at }
 {
-    record::node_at(sheet, &whole[..], at)
+    record::node_at(sheet, &whole[..], at).unwrap()
+}
+
+// The operator that sees the edge excludes operator p there. A byte that is no operator sees none.
+#[tactic(auto, using(crate::proofs::MarkingEdges::sees_edge_ways))]
+pub fn sees_edge(sheet: &Sheet, seer: u8, p: u8) -> bool
+    ensures { result ≡ sees_edge sheet.now seer p }
+{
+    if MOST_OPERATORS <= seer {
+        return false;
+    }
+    !sheet.closes_before(p, seer)
 }
 
 // Who sees the right edge of operator o's tree, which stands under the operator above: none where it is bracketed there.
+#[tactic(auto, using(crate::proofs::MarkingEdges::seer_past_ways))]
 fn seer_past(sheet: &Sheet, above: u8, o: u8, seer: u8) -> u8
     ensures { result ≡ seer_past sheet.now above o seer }
 {
@@ -55,6 +56,7 @@ fn seer_past(sheet: &Sheet, above: u8, o: u8, seer: u8) -> u8
 // Marks the tree at the place: at each of its infix operators 1 where the left operand shows it a conflict on its right edge, else 0.
 // The answer is the place after the tree times the base, and 1 where the tree, as the right or only operand of the operator above,
 // shows the seer such a conflict, else 0. A byte that is no operator is given where there is none above, or no seer.
+#[tactic(auto, using(crate::proofs::MarkingInfix::ways))]
 pub fn mark_edges(
     sheet: &Sheet,
     whole: &[u8; MOST_RECORD_BYTES],
@@ -67,31 +69,28 @@ pub fn mark_edges(
     requires marks_len { length marks.old ≡ most_record_bytes }
     ensures { MarksEdges sheet.now whole.now at above seer marks.old marks.new result }
 {
-    let node = top_at(sheet, whole, at);
-    if let Node::Reading(_) = node {
-        return (at + 1) * BASE;
-    }
-    if let Node::Bracket = node {
-        return mark_edges(sheet, whole, at + 1, above, seer, marks);
-    }
-    if let Node::Prefix(p) = node {
-        let inner = mark_edges(sheet, whole, at + 1, p, seer, marks);
-        if conflicts::sees_edge(sheet, seer, p) {
-            return inner / BASE * BASE + 1;
+    match top_at(sheet, whole, at) {
+        Node::Reading(_) => (at + 1) * BASE,
+        Node::Bracket => mark_edges(sheet, whole, at + 1, above, seer, marks),
+        Node::Prefix(p) => {
+            let inner = mark_edges(sheet, whole, at + 1, p, seer, marks);
+            if sees_edge(sheet, seer, p) {
+                return inner / BASE * BASE + 1;
+            }
+            inner
         }
-        return inner;
+        Node::Operator(o) => {
+            let left = mark_edges(sheet, whole, at + 1, token::OPENING, o, marks);
+            marks[at] = (left % BASE) as u8;
+            let next = seer_past(sheet, above, o, seer);
+            mark_edges(sheet, whole, left / BASE, o, next, marks)
+        }
     }
-    let Node::Operator(o) = node else {
-        return NO_TREE;
-    };
-    let left = mark_edges(sheet, whole, at + 1, token::OPENING, o, marks);
-    marks[at] = (left % BASE) as u8;
-    let next = seer_past(sheet, above, o, seer);
-    mark_edges(sheet, whole, left / BASE, o, next, marks)
 }
 
 // The marks of a record, which is the first `size` bytes. They are all 0 at first, and stay so, without a walk, where the record
 // has no prefix operator.
+#[tactic(auto, using(crate::proofs::MarkedRecord::mark_record_ways))]
 pub fn mark_record(
     sheet: &Sheet,
     whole: &[u8; MOST_RECORD_BYTES],

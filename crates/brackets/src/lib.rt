@@ -5,11 +5,12 @@ ghost use Rattle.brackets.specs.Shortest.{AnswersShortest};
 
 use expression::{bytes, limits, refusal, token};
 use record::Answer;
-use record::walks::BASE;
 use sheet::Sheet;
+use words::BASE;
 
 mod edges;
 mod walk;
+mod words;
 
 // The shortest row that means the same as the record's, at the front of `out`. After a refusal `out` is as it was.
 pub fn shortest_row(sheet: &Sheet, bytes: &[u8], out: &mut [u8]) -> Answer

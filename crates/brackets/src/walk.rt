@@ -4,11 +4,11 @@ ghost use Rattle.sheet.specs.Layout.{operators_of};
 ghost use Rattle.record.specs.Node.{node_at};
 ghost use Rattle.brackets.specs.Walk.{leaf_byte, shows, StandsWithRoom, Shortens};
 
-use crate::edges::top_at;
+use crate::edges::{sees_edge, top_at};
+use crate::words::{BASE, set_two};
 use expression::limits::{MOST_RECORD_BYTES, MOST_TOKENS};
 use expression::token;
-use record::walks::{BASE, NO_TREE, set_two};
-use record::{Node, conflicts};
+use record::Node;
 use sheet::Sheet;
 
 // The side of a left operand is its mark: this one where its right edge shows a conflict with the operator above it, else 0.
@@ -39,12 +39,13 @@ fn shows(sheet: &Sheet, above: u8, right: bool, o: u8) -> bool
     if right {
         return sheet.closes_before(above, o);
     }
-    conflicts::sees_edge(sheet, above, o)
+    sees_edge(sheet, above, o)
 }
 
 // The row goes to `out` from the place `to` on, each token once: an operand that shows a conflict with the operator above goes in
 // brackets, and no other does. The marks are those that `edges` makes. The answer is the place after the tree in the record times
 // the base, and that after its row. A reading on the left, as in most trees, takes no call.
+#[tactic(auto, using(crate::proofs::WalkingInfix::ways))]
 pub fn write_operand(
     sheet: &Sheet,
     whole: &[u8; MOST_RECORD_BYTES],
@@ -64,36 +65,43 @@ pub fn write_operand(
         out[inner % BASE] = token::CLOSING;
         return inner + 1;
     }
-    let node = top_at(sheet, whole, at);
-    if let Node::Reading(a) = node {
-        out[to] = a;
-        return (at + 1) * BASE + (to + 1);
+    match top_at(sheet, whole, at) {
+        Node::Reading(a) => {
+            out[to] = a;
+            (at + 1) * BASE + (to + 1)
+        }
+        Node::Bracket => write_operand(sheet, whole, marks, at + 1, above, side, out, to),
+        Node::Prefix(p) => {
+            out[to] = p;
+            write_operand(sheet, whole, marks, at + 1, p, RIGHT, out, to + 1)
+        }
+        Node::Operator(o) => {
+            if shows(sheet, above, side == RIGHT, o) {
+                out[to] = token::OPENING;
+                let inner = write_operand(
+                    sheet,
+                    whole,
+                    marks,
+                    at,
+                    token::OPENING,
+                    RIGHT,
+                    out,
+                    to + 1,
+                );
+                out[inner % BASE] = token::CLOSING;
+                return inner + 1;
+            }
+            let a = leaf_at(sheet, whole, at + 1);
+            if a != 0 {
+                let past = at + 2;
+                let next = to + 1;
+                set_two(out, to, next, a, o);
+                return write_operand(sheet, whole, marks, past, o, RIGHT, out, next + 1);
+            }
+            let left = write_operand(sheet, whole, marks, at + 1, o, marks[at], out, to);
+            let seam = left % BASE;
+            out[seam] = o;
+            write_operand(sheet, whole, marks, left / BASE, o, RIGHT, out, seam + 1)
+        }
     }
-    if let Node::Bracket = node {
-        return write_operand(sheet, whole, marks, at + 1, above, side, out, to);
-    }
-    if let Node::Prefix(p) = node {
-        out[to] = p;
-        return write_operand(sheet, whole, marks, at + 1, p, RIGHT, out, to + 1);
-    }
-    let Node::Operator(o) = node else {
-        return NO_TREE;
-    };
-    if shows(sheet, above, side == RIGHT, o) {
-        out[to] = token::OPENING;
-        let inner = write_operand(sheet, whole, marks, at, token::OPENING, RIGHT, out, to + 1);
-        out[inner % BASE] = token::CLOSING;
-        return inner + 1;
-    }
-    let a = leaf_at(sheet, whole, at + 1);
-    if a != 0 {
-        let past = at + 2;
-        let next = to + 1;
-        set_two(out, to, next, a, o);
-        return write_operand(sheet, whole, marks, past, o, RIGHT, out, next + 1);
-    }
-    let left = write_operand(sheet, whole, marks, at + 1, o, marks[at], out, to);
-    let seam = left % BASE;
-    out[seam] = o;
-    write_operand(sheet, whole, marks, left / BASE, o, RIGHT, out, seam + 1)
 }

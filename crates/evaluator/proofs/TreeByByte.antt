@@ -77,7 +77,7 @@ module _ (ops : Operators) (bytes : List ℕ) (from : ℕ) where
     is_infix_lem k (reading a) x m = no_leaf a x
     is_infix_lem k (bracket u) x m = absurd (n (first_byte (bracket u) x))
     is_infix_lem k (binary o l r) x m =
-        let (u, v, mid, e, a, b) = an_operator ops bytes from refl (top_node ops bytes from (binary o l r) x) (binary o l r) x in
+        let (u, v, mid, e, a, b) = an_operator ops bytes from (sym (top_node ops bytes from (binary o l r) x)) refl (binary o l r) x in
         (u, v, mid, e ∙ ap (λ p. binary p u v) (sym (first_byte (binary o l r) x)), a, b)
     is_infix_lem k (prefix p u) x m =
         absurd (true≢false (sym (ap is_missing (ap prefix_meant (number_of (prefix p u) x) ∙ k)) ∙ (operand_meant lent p u m).0))

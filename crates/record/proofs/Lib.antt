@@ -3,12 +3,12 @@ pub mod Holding
 pub mod Trees
 pub mod Standing
 pub mod Reaching
+pub mod Writing
+pub mod Counting
 pub mod Checking
 pub mod ListedTrees
-pub mod Numbering
-pub mod Writing
 pub mod Accepted
+pub mod Numbering
 pub mod Yielding
-pub mod OperandPlaces
-pub mod Counting
 pub mod Judging
+pub mod OperandPlaces

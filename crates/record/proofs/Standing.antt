@@ -2,12 +2,13 @@
 use Prim.Native.Nat.{ℕ, ◌+◌, ◌-◌, ◌≤◌, ◌<◌}
 use native.Mathlib.Numerals.{add-one}
 use native.Mathlib.Omega.{arith}
+use Rattle.std.specs.Prelude.{Some}
 use mathlib.Core.Path.{◌≡◌, refl, ap, sym, ◌∙◌}
 use mathlib.Core.Option.{some}
 use mathlib.Core.List.{List, ◌∷◌, ◌++◌, append_assoc, append-nil}
 use lib.ListN.{length, get_or, take, drop, length-take, length-append, take-append-drop}
 use lib.Seq.{drop-cons, drop-length, drop-append-le, take_at}
-use Rattle.expression.specs.Token.{Class, Infix, Prefix, Opening, Closing, Reading, Meaningless, opening, Operators, class}
+use Rattle.expression.specs.Token.{opening, Operators, class}
 use Rattle.expression.specs.Tree.{Tree, reading, bracket, binary, prefix, record_of}
 use Rattle.expression.specs.Decode.{tree_of}
 use Rattle.expression.proofs.Classes.{brackets}
@@ -17,54 +18,21 @@ use Rattle.record.specs.Node.{node_of, node_at}
 use Rattle.record.specs.TreeAt.{TreeAt}
 use Rattle.record.specs.declared.Node.{Node}
 use Rattle.record.specs.declared.Node.TheVariants as node
-use Rattle.record.proofs.Nodes.{within_as, within_node}
+use Rattle.record.proofs.Nodes.{within_as, within_node, of_reading, of_bracket, of_operator, of_prefix}
 use Rattle.record.proofs.Holding.{front_short}
 use Rattle.record.proofs.Trees.{record_positive, ends_within, an_operator}
 
--- the class and the byte of a node
-of_reading : (k : Class) (c : ℕ) {a : ℕ} → node_of k c ≡ node.Reading a → (k ≡ Reading) × (c ≡ a)
-of_reading Infix c e = let z : ◌≡◌ {A = ℕ} 0 1 = cc in absurd (omega arith)
-of_reading Prefix c e = let z : ◌≡◌ {A = ℕ} 0 1 = cc in absurd (omega arith)
-of_reading Opening c e = let z : ◌≡◌ {A = ℕ} 0 1 = cc in absurd (omega arith)
-of_reading Closing c e = let z : ◌≡◌ {A = ℕ} 0 1 = cc in absurd (omega arith)
-of_reading Reading c e = (refl, cc)
-of_reading Meaningless c e = let z : ◌≡◌ {A = ℕ} 0 1 = cc in absurd (omega arith)
-
-of_bracket : (k : Class) (c : ℕ) → node_of k c ≡ node.Bracket → k ≡ Opening
-of_bracket Infix c e = let z : ◌≡◌ {A = ℕ} 0 1 = cc in absurd (omega arith)
-of_bracket Prefix c e = let z : ◌≡◌ {A = ℕ} 0 1 = cc in absurd (omega arith)
-of_bracket Opening c e = refl
-of_bracket Closing c e = let z : ◌≡◌ {A = ℕ} 0 1 = cc in absurd (omega arith)
-of_bracket Reading c e = let z : ◌≡◌ {A = ℕ} 0 1 = cc in absurd (omega arith)
-of_bracket Meaningless c e = let z : ◌≡◌ {A = ℕ} 0 1 = cc in absurd (omega arith)
-
-of_operator : (k : Class) (c : ℕ) {o : ℕ} → node_of k c ≡ node.Operator o → (k ≡ Infix) × (c ≡ o)
-of_operator Infix c e = (refl, cc)
-of_operator Prefix c e = let z : ◌≡◌ {A = ℕ} 0 1 = cc in absurd (omega arith)
-of_operator Opening c e = let z : ◌≡◌ {A = ℕ} 0 1 = cc in absurd (omega arith)
-of_operator Closing c e = let z : ◌≡◌ {A = ℕ} 0 1 = cc in absurd (omega arith)
-of_operator Reading c e = let z : ◌≡◌ {A = ℕ} 0 1 = cc in absurd (omega arith)
-of_operator Meaningless c e = let z : ◌≡◌ {A = ℕ} 0 1 = cc in absurd (omega arith)
-
-of_prefix : (k : Class) (c : ℕ) {p : ℕ} → node_of k c ≡ node.Prefix p → (k ≡ Prefix) × (c ≡ p)
-of_prefix Infix c e = let z : ◌≡◌ {A = ℕ} 0 1 = cc in absurd (omega arith)
-of_prefix Prefix c e = (refl, cc)
-of_prefix Opening c e = let z : ◌≡◌ {A = ℕ} 0 1 = cc in absurd (omega arith)
-of_prefix Closing c e = let z : ◌≡◌ {A = ℕ} 0 1 = cc in absurd (omega arith)
-of_prefix Reading c e = let z : ◌≡◌ {A = ℕ} 0 1 = cc in absurd (omega arith)
-of_prefix Meaningless c e = let z : ◌≡◌ {A = ℕ} 0 1 = cc in absurd (omega arith)
-
 -- The tree that a node and the trees behind it make.
-module _ (ops : Operators) (bytes : List ℕ) (from : ℕ) {x : Node} (found : x ≡ node_at ops bytes from) where
-  byte_node : {y : Node} → from < length bytes → x ≡ y → node_of (class ops (get_or bytes from 0)) (get_or bytes from 0) ≡ y
-  byte_node d is = sym (within_node ops bytes from d) ∙ sym found ∙ is
+module _ (ops : Operators) (bytes : List ℕ) (from : ℕ) {x : Node} (found : Some x ≡ node_at ops bytes from) where
+  byte_node : {y : Node} → from < length bytes → x ≡ y → node_of (class ops (get_or bytes from 0)) (get_or bytes from 0) ≡ Some y
+  byte_node d is = sym (within_node ops bytes from d) ∙ sym found ∙ ap Some is
 
   here : from < length bytes → drop from bytes ≡ get_or bytes from 0 ∷ drop (from + 1) bytes
   here d = drop-cons bytes from 0 d ∙ ap (λ i. get_or bytes from 0 ∷ drop i bytes) (sym (add-one from))
 
   pub leaf_at : {a : ℕ} → x ≡ node.Reading a → TreeAt ops bytes from (reading a) (from + 1)
   leaf_at is =
-      let d = within_as ops bytes from found is refl in
+      let d = within_as ops bytes from found in
       let (k, e) = of_reading (class ops (get_or bytes from 0)) (get_or bytes from 0) (byte_node d is) in
       record {
         over = ap (class ops) (sym e) ∙ k;
@@ -74,7 +42,7 @@ module _ (ops : Operators) (bytes : List ℕ) (from : ℕ) {x : Node} (found : x
 
   pub bracket_at : x ≡ node.Bracket → (u : Tree) {to : ℕ} → TreeAt ops bytes (from + 1) u to → TreeAt ops bytes from (bracket u) to
   bracket_at is u {to} h =
-      let d = within_as ops bytes from found is refl in
+      let d = within_as ops bytes from found in
       let e = (brackets ops).opening_only (get_or bytes from 0) (of_bracket (class ops (get_or bytes from 0)) (get_or bytes from 0) (byte_node d is)) in
       record {
         over = h.over;
@@ -84,7 +52,7 @@ module _ (ops : Operators) (bytes : List ℕ) (from : ℕ) {x : Node} (found : x
 
   pub prefix_at_lem : {p : ℕ} → x ≡ node.Prefix p → (u : Tree) {to : ℕ} → TreeAt ops bytes (from + 1) u to → TreeAt ops bytes from (prefix p u) to
   prefix_at_lem {p} is u {to} h =
-      let d = within_as ops bytes from found is refl in
+      let d = within_as ops bytes from found in
       let (k, e) = of_prefix (class ops (get_or bytes from 0)) (get_or bytes from 0) (byte_node d is) in
       record {
         over = (ap (class ops) (sym e) ∙ k, h.over);
@@ -95,7 +63,7 @@ module _ (ops : Operators) (bytes : List ℕ) (from : ℕ) {x : Node} (found : x
   pub operator_at : {o : ℕ} → x ≡ node.Operator o → (l r : Tree) {mid to : ℕ} → TreeAt ops bytes (from + 1) l mid → TreeAt ops bytes mid r to
       → TreeAt ops bytes from (binary o l r) to
   operator_at {o} is l r {mid} {to} h g =
-      let d = within_as ops bytes from found is refl in
+      let d = within_as ops bytes from found in
       let (k, e) = of_operator (class ops (get_or bytes from 0)) (get_or bytes from 0) (byte_node d is) in
       record {
         over = (ap (class ops) (sym e) ∙ k, h.over, g.over);
@@ -157,7 +125,7 @@ in_front ops whole size other from t to x h =
     with_less ops (take other whole) (drop other whole) from t to (rw (sym (take-append-drop other whole)) at all) (omega (arith, length-take other whole))
 
 -- The operands of an operator: the left one leaves a byte.
-module _ (ops : Operators) (size : ℕ) (whole : List ℕ) (from : ℕ) {x : Node} (found : x ≡ node_at ops (front size whole) from) {o : ℕ} (is : x ≡ node.Operator o) where
+module _ (ops : Operators) (size : ℕ) (whole : List ℕ) (from : ℕ) {x : Node} (found : Some x ≡ node_at ops (front size whole) from) {o : ℕ} (is : x ≡ node.Operator o) where
   pub operands_in : (t : Tree) {to : ℕ} → TreeAt ops (front size whole) from t to
       → (l : Tree) × (r : Tree) × (mid : ℕ) × (t ≡ binary o l r) × TreeAt ops (front (size - 1) whole) (from + 1) l mid × TreeAt ops (front size whole) mid r to
   operands_in t {to} k =

@@ -2,6 +2,7 @@
 use Prim.Native.Nat.{ℕ, ◌+◌, ◌≤◌, ◌<◌}
 use native.Mathlib.Nat.{add-zero}
 use native.Mathlib.Omega.{arith}
+use Rattle.std.specs.Prelude.{Some, None}
 use mathlib.Core.Path.{◌≡◌, refl, ap, sym, ◌∙◌}
 use mathlib.Core.Option.{some}
 use mathlib.Core.List.{List, ◌∷◌, ◌++◌, append_assoc, append-nil}
@@ -12,13 +13,11 @@ use Rattle.expression.specs.Tree.{Tree, reading, bracket, binary, prefix, record
 use Rattle.expression.specs.Decode.{tree_of}
 use Rattle.expression.proofs.Classes.{brackets}
 use Rattle.expression.proofs.RecordsAndTrees.{record_tree_of}
-use Rattle.record.specs.Front.{front}
 use Rattle.record.specs.Node.{node_of, node_at}
 use Rattle.record.specs.TreeAt.{TreeAt}
 use Rattle.record.specs.declared.Node.{Node}
 use Rattle.record.specs.declared.Node.TheVariants as node
-use Rattle.record.proofs.Nodes.{past, within_node}
-use Rattle.record.proofs.Holding.{front_short}
+use Rattle.record.proofs.Nodes.{within_node}
 
 -- the node on top of a tree
 abbrev pub top_of : Tree → Node
@@ -56,7 +55,7 @@ module _ (ops : Operators) (bytes : List ℕ) where
     tail_after : (b : ℕ) (rest : List ℕ) → drop from bytes ≡ b ∷ rest → drop (from + 1) bytes ≡ rest
     tail_after b rest h = sym (drop-drop 1 from bytes) ∙ ap (drop 1) h
 
-    pub top_node : (t : Tree) {to : ℕ} → TreeAt ops bytes from t to → node_at ops bytes from ≡ top_of t
+    pub top_node : (t : Tree) {to : ℕ} → TreeAt ops bytes from t to → node_at ops bytes from ≡ Some (top_of t)
     top_node (reading a) x = head_node a _ x.stands ∙ ap (λ k. node_of k a) x.over
     top_node (bracket t) x = head_node opening _ x.stands ∙ ap (λ k. node_of k opening) (brackets ops).opens
     top_node (binary o l r) x = head_node o _ x.stands ∙ ap (λ k. node_of k o) x.over.0
@@ -102,35 +101,35 @@ module _ (ops : Operators) (bytes : List ℕ) where
       right_at = record { over = x.over.2; ends = omega (arith, x.ends, length-append (record_of l) (record_of r)); stands = at_seam }
 
 -- What stands at a place, by the node there.
-module _ (ops : Operators) (bytes : List ℕ) (from : ℕ) {x : Node} (found : x ≡ node_at ops bytes from) where
+module _ (ops : Operators) (bytes : List ℕ) (from : ℕ) {x : Node} (found : Some x ≡ node_at ops bytes from) where
   top_is : {y : Node} (t : Tree) {to : ℕ} → TreeAt ops bytes from t to → x ≡ y → top_of t ≡ y
-  top_is t h e = sym (top_node ops bytes from t h) ∙ sym found ∙ e
+  top_is t h e = let z : Some (top_of t) ≡ Some x = sym (top_node ops bytes from t h) ∙ sym found in cc
 
   pub a_reading : {a : ℕ} → x ≡ node.Reading a → (t : Tree) {to : ℕ} → TreeAt ops bytes from t to → (t ≡ reading a) × (to ≡ from + 1)
   a_reading {a} e t {to} h = go t h (top_is t h e)
     where
       go : (t : Tree) → TreeAt ops bytes from t to → top_of t ≡ node.Reading a → (t ≡ reading a) × (to ≡ from + 1)
       go (reading b) h q = let z : b ≡ a = cc in (ap reading z, h.ends)
-      go (bracket t) h q = let z : ◌≡◌ {A = ℕ} 0 1 = cc in absurd (omega arith)
-      go (binary o l r) h q = let z : ◌≡◌ {A = ℕ} 0 1 = cc in absurd (omega arith)
-      go (prefix p u) h q = let z : ◌≡◌ {A = ℕ} 0 1 = cc in absurd (omega arith)
+      go (bracket t) h q = cc
+      go (binary o l r) h q = cc
+      go (prefix p u) h q = cc
 
   pub a_bracket : x ≡ node.Bracket → (t : Tree) {to : ℕ} → TreeAt ops bytes from t to → (u : Tree) × (t ≡ bracket u) × TreeAt ops bytes (from + 1) u to
   a_bracket e t {to} h = go t h (top_is t h e)
     where
       go : (t : Tree) → TreeAt ops bytes from t to → top_of t ≡ node.Bracket → (u : Tree) × (t ≡ bracket u) × TreeAt ops bytes (from + 1) u to
-      go (reading b) h q = let z : ◌≡◌ {A = ℕ} 0 1 = cc in absurd (omega arith)
+      go (reading b) h q = cc
       go (bracket u) h q = (u, refl, in_bracket ops bytes from u to h)
-      go (binary o l r) h q = let z : ◌≡◌ {A = ℕ} 0 1 = cc in absurd (omega arith)
-      go (prefix p u) h q = let z : ◌≡◌ {A = ℕ} 0 1 = cc in absurd (omega arith)
+      go (binary o l r) h q = cc
+      go (prefix p u) h q = cc
 
   pub a_prefix : {p : ℕ} → x ≡ node.Prefix p → (t : Tree) {to : ℕ} → TreeAt ops bytes from t to → (u : Tree) × (t ≡ prefix p u) × TreeAt ops bytes (from + 1) u to
   a_prefix {p} e t {to} h = go t h (top_is t h e)
     where
       go : (t : Tree) → TreeAt ops bytes from t to → top_of t ≡ node.Prefix p → (u : Tree) × (t ≡ prefix p u) × TreeAt ops bytes (from + 1) u to
-      go (reading b) h q = let z : ◌≡◌ {A = ℕ} 0 1 = cc in absurd (omega arith)
-      go (bracket u) h q = let z : ◌≡◌ {A = ℕ} 0 1 = cc in absurd (omega arith)
-      go (binary o l r) h q = let z : ◌≡◌ {A = ℕ} 0 1 = cc in absurd (omega arith)
+      go (reading b) h q = cc
+      go (bracket u) h q = cc
+      go (binary o l r) h q = cc
       go (prefix o u) h q = let z : o ≡ p = cc in (u, ap (λ v. prefix v u) z, in_prefix ops bytes from o u to h)
 
   pub an_operator : {o : ℕ} → x ≡ node.Operator o → (t : Tree) {to : ℕ} → TreeAt ops bytes from t to
@@ -139,22 +138,13 @@ module _ (ops : Operators) (bytes : List ℕ) (from : ℕ) {x : Node} (found : x
     where
       go : (t : Tree) → TreeAt ops bytes from t to → top_of t ≡ node.Operator o
           → (l : Tree) × (r : Tree) × (mid : ℕ) × (t ≡ binary o l r) × TreeAt ops bytes (from + 1) l mid × TreeAt ops bytes mid r to
-      go (reading b) h q = let z : ◌≡◌ {A = ℕ} 0 1 = cc in absurd (omega arith)
-      go (bracket u) h q = let z : ◌≡◌ {A = ℕ} 0 1 = cc in absurd (omega arith)
+      go (reading b) h q = cc
+      go (bracket u) h q = cc
       go (binary p l r) h q =
           let z : p ≡ o = cc in
           (l, r, seam ops bytes from p l r to h, ap (λ p. binary p l r) z, left_at ops bytes from p l r to h, right_at ops bytes from p l r to h)
-      go (prefix p u) h q = let z : ◌≡◌ {A = ℕ} 0 1 = cc in absurd (omega arith)
+      go (prefix p u) h q = cc
 
-  pub no_tree_lem : {A : Type 0} → x ≡ node.Other → (t : Tree) {to : ℕ} → TreeAt ops bytes from t to → A
-  no_tree_lem {A} e t h = go t (top_is t h e)
-    where
-      go : (t : Tree) → top_of t ≡ node.Other → A
-      go (reading b) q = let z : ◌≡◌ {A = ℕ} 0 1 = cc in absurd (omega arith)
-      go (bracket u) q = let z : ◌≡◌ {A = ℕ} 0 1 = cc in absurd (omega arith)
-      go (binary p l r) q = let z : ◌≡◌ {A = ℕ} 0 1 = cc in absurd (omega arith)
-      go (prefix p u) q = let z : ◌≡◌ {A = ℕ} 0 1 = cc in absurd (omega arith)
-
--- past the end of the record no tree stands
-pub none_past : (ops : Operators) (size : ℕ) (whole : List ℕ) (from : ℕ) → size ≤ from → (t : Tree) {to : ℕ} → TreeAt ops (front size whole) from t to → ⊥
-none_past ops size whole from h t x = no_tree_lem ops (front size whole) from (past ops (front size whole) from (omega (arith, front_short size whole))) refl t x
+-- where no node is, no tree stands
+pub no_tree_lem : {A : Type 0} (ops : Operators) (bytes : List ℕ) (from : ℕ) → None ≡ node_at ops bytes from → (t : Tree) {to : ℕ} → TreeAt ops bytes from t to → A
+no_tree_lem ops bytes from e t h = let z : None ≡ Some (top_of t) = e ∙ top_node ops bytes from t h in cc

@@ -2,10 +2,10 @@ pub mod Node
 pub mod Front
 pub mod TreeAt
 pub mod Reach
-pub mod Checks
-pub mod Listing
 pub mod Rows
 pub mod Counts
+pub mod Checks
+pub mod Listing
 pub mod Outcome
 pub mod Answers
 pub mod Operands

@@ -1,8 +1,13 @@
 -- The place of an operand in its record. Assumes nothing.
-use Rattle.std.specs.Prelude.{ℕ, ◌-◌, ◌<◌, ◌≤◌, ◌≡◌, Bool, true, false, List, length, take, drop}
+use Rattle.std.specs.Prelude.{ℕ, ◌-◌, ◌<◌, ◌≤◌, ◌≡◌, Bool, true, false, Option, Some, None, List, length, take, drop}
 use Rattle.expression.specs.Token.{Operators}
 use Rattle.expression.specs.Operand.{operand_part}
 use Rattle.record.specs.declared.operands.Part.{Part}
+
+-- the part between two places; the empty one where there is none
+abbrev pub part_of : Option (ℕ × ℕ) → Part
+part_of (Some p) = record { from = p.0; to = p.1 }
+part_of None = record { from = 0; to = 0 }
 
 -- The part p of the record is the operand; it is empty where there is none.
 pub record OperandAt (ops : Operators) (right : Bool) (bytes : List ℕ) (p : Part) : Type 0 where

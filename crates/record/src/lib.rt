@@ -5,14 +5,18 @@ ghost use Rattle.std.specs.Prelude.{◌≡◌};
 ghost use Rattle.expression.specs.Checks.{record_number};
 ghost use Rattle.expression.specs.Operand.{operand_part};
 ghost use Rattle.sheet.specs.Layout.{operators_of};
-ghost use Rattle.record.specs.Node.{node_at};
+ghost use Rattle.record.specs.Node.{node_of, node_at};
+ghost use Rattle.expression.specs.Token.{class};
+ghost use Rattle.expression.specs.Outcome.{number_in};
 ghost use Rattle.record.specs.Answers.{Yields, judgement};
 ghost use Rattle.record.specs.Outcome.{answer_of, judgement_of};
-ghost use Rattle.expression.specs.Outcome.{number_in};
 
+use conflicts::Around;
 use expression::refusal::{self, Refusal};
 use expression::{bytes, limits, token};
 use sheet::Sheet;
+use tokens::Tokens;
+use walks::Record;
 
 mod checks;
 pub mod conflicts;
@@ -20,59 +24,56 @@ mod ends;
 mod listing;
 pub mod operands;
 mod rows;
+pub mod tokens;
 pub mod walks;
 
-// What stands at a place of a record; an Operator is infix. Other: no byte, or one that begins no tree under the sheet's operators.
-#[derive(Drop)]
+// What stands at a place of a record; an Operator is infix.
+#[derive(Clone, Copy, Debug, PartialEq, Eq)]
 pub enum Node {
     Reading(u8),
     Bracket,
     Operator(u8),
     Prefix(u8),
-    Other,
 }
 
-// The node at a place, under the sheet's operators.
-pub fn node_at(sheet: &Sheet, bytes: &[u8], at: usize) -> Node
-    ensures { result ≡ node_at (operators_of sheet.now) bytes.now at }
+// The node of a byte, under the sheet's operators; none where it begins no tree.
+#[tactic(auto, using(crate::proofs::Nodes::node_of_ways))]
+pub fn node_of(sheet: &Sheet, byte: u8) -> Option<Node>
+    ensures { result ≡ node_of (class (operators_of sheet.now) byte) byte }
 {
-    if bytes.len() <= at {
-        return Node::Other;
-    }
-    let byte = bytes[at];
     if byte < token::OPENING {
         if sheet.operator_count() <= byte {
-            return Node::Other;
+            return None;
         }
         if sheet.is_prefix(byte) {
-            return Node::Prefix(byte);
+            return Some(Node::Prefix(byte));
         }
-        return Node::Operator(byte);
+        return Some(Node::Operator(byte));
     }
-    if byte == token::OPENING {
-        return Node::Bracket;
+    match byte {
+        token::OPENING => Some(Node::Bracket),
+        token::FIRST_READING.. => Some(Node::Reading(byte)),
+        _ => None,
     }
-    if byte < token::FIRST_READING {
-        return Node::Other;
-    }
-    Node::Reading(byte)
+}
+
+// The node at a place; none past the end, too.
+pub fn node_at(sheet: &Sheet, bytes: &[u8], at: usize) -> Option<Node>
+    ensures { result ≡ node_at (operators_of sheet.now) bytes.now at }
+{
+    node_of(sheet, *bytes.get(at)?)
 }
 
 // A record under the sheet's operators: 1 for its bytes, 3, 7, 1 for its row.
-#[tactic(auto, using(crate::proofs::Numbering::record_number_ways))]
+#[tactic(auto, using(crate::proofs::Numbering::check_record_ways))]
 pub fn check_record(sheet: &Sheet, bytes: &[u8]) -> Result<(), Refusal>
     ensures { number_in result ≡ record_number (operators_of sheet.now) bytes.now }
 {
-    if limits::MOST_RECORD_BYTES < bytes.len() {
-        return Err(Refusal::Oversize);
+    let record = Record::new(sheet, bytes)?;
+    if !record.is_one_tree() {
+        return Err(record.flaw());
     }
-    if checks::has_stranger(sheet, bytes) {
-        return Err(Refusal::Stranger);
-    }
-    if listing::trees_listed(sheet, bytes) != listing::ONE_TREE {
-        return Err(Refusal::NoTree);
-    }
-    if limits::MOST_TOKENS < checks::row_length(bytes) {
+    if limits::MOST_TOKENS < record.row_length() {
         return Err(Refusal::Oversize);
     }
     Ok(())
@@ -110,35 +111,17 @@ impl From<Result<usize, Refusal>> for Answer {
 pub fn yield_row(sheet: &Sheet, bytes: &[u8], out: &mut [u8]) -> Result<usize, Refusal>
     ensures { Yields (operators_of sheet.now) bytes.now out.old out.new (answer_of result) }
 {
-    if limits::MOST_RECORD_BYTES < bytes.len() {
-        return Err(Refusal::Oversize);
+    let record = Record::new(sheet, bytes)?;
+    let mut row = Tokens::new();
+    if record.write_row(bytes.len(), 0, &mut row) != Some(bytes.len()) {
+        return Err(record.flaw());
     }
-    if checks::has_stranger(sheet, bytes) {
-        return Err(Refusal::Stranger);
-    }
-    // With more tokens than a row has, 7 or 1.
-    let tokens = checks::row_length(bytes);
-    if limits::MOST_TOKENS < tokens {
-        if listing::trees_listed(sheet, bytes) != listing::ONE_TREE {
-            return Err(Refusal::NoTree);
-        }
-        return Err(Refusal::Oversize);
-    }
-    let mut whole = [0u8; limits::MOST_RECORD_BYTES];
-    bytes::copy(bytes, &mut whole);
-    let mut row = [0u8; limits::MOST_TOKENS];
-    let written = rows::write_row(sheet, &whole, bytes.len(), 0, &mut row, 0);
-    if written == walks::NO_TREE {
-        return Err(Refusal::NoTree);
-    }
-    if written / walks::BASE != bytes.len() {
-        return Err(Refusal::NoTree);
-    }
-    if out.len() < tokens {
+    let tokens = row.as_slice();
+    if out.len() < tokens.len() {
         return Err(Refusal::Short);
     }
-    bytes::copy(&row[0..tokens], out);
-    Ok(tokens)
+    bytes::copy(tokens, out);
+    Ok(tokens.len())
 }
 
 // The same for callers that take the number; for the time of the move.
@@ -173,34 +156,15 @@ impl From<Result<u8, Refusal>> for Judgement {
 pub fn judge(sheet: &Sheet, bytes: &[u8]) -> Result<u8, Refusal>
     ensures { judgement_of result ≡ judgement sheet.now bytes.now }
 {
-    if limits::MOST_RECORD_BYTES < bytes.len() {
+    let record = Record::new(sheet, bytes)?;
+    let mut count = 0;
+    if record.count_at(bytes.len(), 0, Around::NOTHING, &mut count) != Some(bytes.len()) {
+        return Err(record.flaw());
+    }
+    if limits::MOST_TOKENS < record.row_length() {
         return Err(Refusal::Oversize);
     }
-    if checks::has_stranger(sheet, bytes) {
-        return Err(Refusal::Stranger);
-    }
-    let mut whole = [0u8; limits::MOST_RECORD_BYTES];
-    bytes::copy(bytes, &mut whole);
-    let tally = conflicts::count_at(
-        sheet,
-        &whole,
-        bytes.len(),
-        0,
-        token::OPENING,
-        token::OPENING,
-        0,
-    );
-    if tally == walks::NO_TREE {
-        return Err(Refusal::NoTree);
-    }
-    if tally / walks::BASE != bytes.len() {
-        return Err(Refusal::NoTree);
-    }
-    let tokens = checks::row_length(bytes);
-    if limits::MOST_TOKENS < tokens {
-        return Err(Refusal::Oversize);
-    }
-    Ok((tally % walks::BASE) as u8)
+    Ok(count)
 }
 
 // The same for callers that take the number; for the time of the move.
@@ -210,12 +174,12 @@ pub fn judge_numbered(sheet: &Sheet, bytes: &[u8]) -> Judgement
     judge(sheet, bytes).into()
 }
 
-// The record of the left or of the right operand of the top node: that part of `bytes`. Its number is `record_number`.
+// The record of the left or of the right operand of the top node: that part of `bytes`. Its number is that of `check_record`.
 pub fn operand<'a, 'b>(sheet: &'a Sheet, bytes: &'b [u8], right: bool) -> &'b [u8]
     ensures { result.now ≡ operand_part (operators_of sheet.now) right bytes.now }
 {
-    let part = operands::operand_part(sheet, bytes, right);
-    let from = part.from;
-    let to = part.to;
-    &bytes[from..to]
+    match operands::operand_place(sheet, bytes, right) {
+        Some((from, to)) => &bytes[from..to],
+        None => &bytes[0..0],
+    }
 }

@@ -1,61 +1,55 @@
 // How many trees bytes list one after the other, counted from their end: the bytes are read where they lie.
-ghost use Rattle.std.specs.Prelude.{◌≡◌, ◌≤◌, length};
+ghost use Rattle.std.specs.Prelude.{◌≡◌, ◌<◌, ◌↔◌, IsTrue};
 ghost use Rattle.expression.specs.Limits.{most_record_bytes};
 ghost use Rattle.expression.specs.Token.{class};
 ghost use Rattle.sheet.specs.Layout.{operators_of};
-ghost use Rattle.record.specs.Listing.{with_byte, listed_in};
+ghost use Rattle.record.specs.Listing.{with_byte, listed_in, one_tree};
 
-use expression::token;
+use crate::walks::Record;
+use crate::{Node, node_of};
 use sheet::Sheet;
 
-// What bytes with exactly one tree give.
-pub const ONE_TREE: usize = 2;
-
-// One more than the count of trees, with one byte more before them; 0 where the bytes list no trees.
-fn with_byte(sheet: &Sheet, listed: usize, byte: u8) -> usize
-    requires { listed ≤ most_record_bytes }
+// So many trees with one byte more before them; none where they list no trees then.
+fn with_byte(sheet: &Sheet, listed: usize, byte: u8) -> Option<usize>
+    requires { listed < most_record_bytes }
     ensures { result ≡ with_byte (class (operators_of sheet.now) byte) listed }
 {
-    if token::FIRST_READING <= byte {
-        if listed == 0 {
-            return 0;
-        }
-        return listed + 1;
-    }
-    if byte < token::OPENING {
-        if sheet.operator_count() <= byte {
-            return 0;
-        }
-        if sheet.is_prefix(byte) {
-            if listed < 2 {
-                return 0;
+    match node_of(sheet, byte)? {
+        Node::Reading(_) => Some(listed + 1),
+        Node::Bracket | Node::Prefix(_) => {
+            if listed < 1 {
+                return None;
             }
-            return listed;
+            Some(listed)
         }
-        if listed < 3 {
-            return 0;
+        Node::Operator(_) => {
+            if listed < 2 {
+                return None;
+            }
+            Some(listed - 1)
         }
-        return listed - 1;
     }
-    if byte != token::OPENING {
-        return 0;
-    }
-    if listed < 2 {
-        return 0;
-    }
-    listed
 }
 
-// One more than the count of trees that the bytes list under the sheet's operators; 0 where they list none.
-pub fn trees_listed(sheet: &Sheet, bytes: &[u8]) -> usize
-    requires { length bytes.now ≤ most_record_bytes }
-    ensures { result ≡ listed_in (operators_of sheet.now) bytes.now }
-{
-    let mut listed = 1;
-    let mut at = bytes.len();
-    while 0 < at {
-        at -= 1;
-        listed = with_byte(sheet, listed, bytes[at]);
+impl Record<'_> {
+    // The count of trees that the bytes list; none where they list no trees.
+    #[tactic(auto, using(crate::proofs::ListedTrees::trees_listed_ways))]
+    pub fn trees_listed(&self) -> Option<usize>
+        ensures { result ≡ listed_in (operators_of self.now.sheet.now) self.now.bytes.now }
+    {
+        let mut listed = 0;
+        let mut rest = self.bytes;
+        while let [front @ .., byte] = rest {
+            listed = with_byte(self.sheet, listed, *byte)?;
+            rest = front;
+        }
+        Some(listed)
     }
-    listed
+
+    // The bytes list exactly one tree.
+    pub fn is_one_tree(&self) -> bool
+        ensures { IsTrue result ↔ (listed_in (operators_of self.now.sheet.now) self.now.bytes.now ≡ one_tree) }
+    {
+        matches!(self.trees_listed(), Some(1))
+    }
 }

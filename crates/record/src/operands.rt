@@ -1,11 +1,11 @@
 // Where the operands of a record's top node stand.
 ghost use Rattle.std.specs.Prelude.{◌≡◌};
 ghost use Rattle.sheet.specs.Layout.{operators_of};
-ghost use Rattle.record.specs.Operands.{OperandAt};
+ghost use Rattle.record.specs.Operands.{OperandAt, part_of};
 
-use crate::walks::{BASE, NO_TREE, node_in};
-use crate::{Node, checks, ends};
-use expression::{bytes, limits};
+use crate::Node;
+use crate::walks::Record;
+use expression::limits;
 use sheet::Sheet;
 
 // A part of a record, from a place up to another.
@@ -16,62 +16,60 @@ pub struct Part {
     pub to: usize,
 }
 
-// The empty part.
-fn nowhere() -> Part
-    ensures { result ≡ record { from = 0; to = 0 } }
-{
-    Part { from: 0, to: 0 }
+impl From<Option<(usize, usize)>> for Part {
+    ghost from_gives = { λ place part. part ≡ part_of place };
+
+    fn from(place: Option<(usize, usize)>) -> Part {
+        let (from, to) = place.unwrap_or((0, 0));
+        Part { from, to }
+    }
 }
 
-// The place of the left or of the right operand. A node's only tree counts as its left; nowhere where there is none, and where
-// the record is refused: each operand is walked to its end once, and a stranger is no tree.
+impl Record<'_> {
+    // From where to where the left or the right operand stands. A node's only tree counts as its left; none where there is none, and
+    // where the record is refused: each operand is walked to its end once, and a stranger is no tree.
+    #[tactic(auto, using(crate::proofs::OperandPlaces::operand_ways))]
+    pub fn operand(&self, right: bool) -> Option<(usize, usize)>
+        ensures { OperandAt (operators_of self.now.sheet.now) right self.now.bytes.now (part_of result) }
+    {
+        if limits::MOST_TOKENS < self.row_length() {
+            return None;
+        }
+        let size = self.bytes.len();
+        match self.node(size, 0)? {
+            Node::Reading(_) => None,
+            Node::Bracket | Node::Prefix(_) => {
+                if right {
+                    return None;
+                }
+                if self.end_at(size, 1)? != size {
+                    return None;
+                }
+                Some((1, size))
+            }
+            Node::Operator(_) => {
+                let mid = self.end_at(size - 1, 1)?;
+                let end = self.end_at(size, mid)?;
+                if end != size {
+                    return None;
+                }
+                Some(if right { (mid, size) } else { (1, mid) })
+            }
+        }
+    }
+}
+
+// The place of an operand in a record; none where there is none, too, where the bytes are too many.
+#[tactic(auto, using(crate::proofs::OperandPlaces::operand_place_ways))]
+pub fn operand_place(sheet: &Sheet, bytes: &[u8], right: bool) -> Option<(usize, usize)>
+    ensures { OperandAt (operators_of sheet.now) right bytes.now (part_of result) }
+{
+    Record::new(sheet, bytes).ok()?.operand(right)
+}
+
+// The same for callers that take a part; for the time of the move.
 pub fn operand_part(sheet: &Sheet, bytes: &[u8], right: bool) -> Part
     ensures { OperandAt (operators_of sheet.now) right bytes.now result }
 {
-    if limits::MOST_RECORD_BYTES < bytes.len() {
-        return nowhere();
-    }
-    if limits::MOST_TOKENS < checks::row_length(bytes) {
-        return nowhere();
-    }
-    let mut whole = [0u8; limits::MOST_RECORD_BYTES];
-    bytes::copy(bytes, &mut whole);
-    let size = bytes.len();
-    let node = node_in(sheet, &whole, size, 0);
-    if let Node::Bracket = node {
-        if right {
-            return nowhere();
-        }
-        if ends::end_at(sheet, &whole, size, 1) != size * BASE {
-            return nowhere();
-        }
-        return Part { from: 1, to: size };
-    }
-    if let Node::Prefix(_) = node {
-        if right {
-            return nowhere();
-        }
-        if ends::end_at(sheet, &whole, size, 1) != size * BASE {
-            return nowhere();
-        }
-        return Part { from: 1, to: size };
-    }
-    let Node::Operator(_) = node else {
-        return nowhere();
-    };
-    let left = ends::end_at(sheet, &whole, size - 1, 1);
-    if left == NO_TREE {
-        return nowhere();
-    }
-    let mid = left / BASE;
-    if ends::end_at(sheet, &whole, size, mid) != size * BASE {
-        return nowhere();
-    }
-    if right {
-        return Part {
-            from: mid,
-            to: size,
-        };
-    }
-    Part { from: 1, to: mid }
+    operand_place(sheet, bytes, right).into()
 }
