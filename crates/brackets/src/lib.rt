@@ -1,9 +1,11 @@
 // Which brackets a row needs: the shortest row that means the same as a record's row.
 #![tactic(auto)]
 
+ghost use Rattle.record.specs.Outcome.{answer_of};
 ghost use Rattle.brackets.specs.Shortest.{AnswersShortest};
 
-use expression::{bytes, limits, refusal, token};
+use expression::refusal::Refusal;
+use expression::{bytes, limits, token};
 use record::Answer;
 use sheet::Sheet;
 use words::BASE;
@@ -12,20 +14,13 @@ mod edges;
 mod walk;
 mod words;
 
-// The shortest row that means the same as the record's, at the front of `out`. After a refusal `out` is as it was.
-pub fn shortest_row(sheet: &Sheet, bytes: &[u8], out: &mut [u8]) -> Answer
-    ensures { AnswersShortest sheet.now bytes.now out.old out.new result }
+// The shortest row that means the same as the record's, at the front of `out`, and its length. After a refusal `out` is as it was.
+#[tactic(auto, using(crate::proofs::Answering::shortest_ways))]
+pub fn shortest_row(sheet: &Sheet, bytes: &[u8], out: &mut [u8]) -> Result<usize, Refusal>
+    ensures { AnswersShortest sheet.now bytes.now out.old out.new (answer_of result) }
 {
     let mut whole = [0u8; limits::MOST_RECORD_BYTES];
-    let repaired = parser::repair_record_numbered(sheet, bytes, &mut whole);
-    let number = repaired.number;
-    if number != refusal::ACCEPTED {
-        return Answer {
-            number: number,
-            length: 0,
-        };
-    }
-    let size = repaired.length;
+    let size = parser::repair_record(sheet, bytes, &mut whole)?;
     let mut marks = [0u8; limits::MOST_RECORD_BYTES];
     edges::mark_record(sheet, &whole, size, &mut marks);
     let mut row = [0u8; limits::MOST_TOKENS];
@@ -41,14 +36,15 @@ pub fn shortest_row(sheet: &Sheet, bytes: &[u8], out: &mut [u8]) -> Answer
     );
     let length = written % BASE;
     if out.len() < length {
-        return Answer {
-            number: refusal::SHORT,
-            length: 0,
-        };
+        return Err(Refusal::Short);
     }
     bytes::copy(&row[0..length], out);
-    Answer {
-        number: refusal::ACCEPTED,
-        length: length,
-    }
+    Ok(length)
+}
+
+// The same for callers that take the number; for the time of the move.
+pub fn shortest_row_numbered(sheet: &Sheet, bytes: &[u8], out: &mut [u8]) -> Answer
+    ensures { AnswersShortest sheet.now bytes.now out.old out.new result }
+{
+    shortest_row(sheet, bytes, out).into()
 }

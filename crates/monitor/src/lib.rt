@@ -197,7 +197,7 @@ pub fn yield_row(sheet: &Sheet, bytes: &[u8], out: &mut [u8]) -> Answer
 pub fn shortest_row(sheet: &Sheet, bytes: &[u8], out: &mut [u8]) -> Answer
     ensures { AnswersUnder sheet.now (shortest_row bytes.now out.old) result out.new }
 {
-    brackets::shortest_row(sheet, bytes, out)
+    brackets::shortest_row_numbered(sheet, bytes, out)
 }
 
 // The number of an operand call.
