@@ -2,11 +2,10 @@
 use mathlib.Core.Path.{◌≡◌, refl, sym, ap, ◌∙◌}
 use mathlib.Core.Bool.{Bool, true, false, ◌&&◌, true≢false}
 use mathlib.Core.List.{List}
-use Prim.Native.Nat.{ℕ, ◌+◌, ◌-◌, ◌<◌, ◌≤◌}
+use Prim.Native.Nat.{ℕ, ◌-◌, ◌<◌, ◌≤◌}
 use native.Mathlib.Omega.{arith}
 use lib.Dec.{ltb}
-use lib.ListN.{length, get_or, set, length-set}
-use lib.Seq.{take-suc-set}
+use lib.ListN.{length, get_or}
 use borrow.Author.Tests.{lt-ltb, le-ltb}
 use borrow.Author.Rules.{rules}
 use Rattle.expression.specs.Limits.{most_operators, most_tokens}
@@ -14,7 +13,7 @@ use Rattle.expression.specs.Token.{opening, Operators}
 use Rattle.disambiguation.specs.LeftToRight.{after, ahead, operator_of, Stack, bottom, opened, waiting, remains}
 use Rattle.disambiguation.proofs.BelowLaws.{and_true}
 use Rattle.parser.specs.Notes.{byte_in, back_in}
-use Rattle.parser.specs.Reading.{closed_by, ends, Waits, SomeWait, Closes, Held, IsHeld, Adds}
+use Rattle.parser.specs.Reading.{closed_by, ends, Waits, SomeWait, Closes}
 use Rattle.parser.proofs.Closing.{length_waiting, length_led, waits_length, top_note}
 
 -- ---- close_waiting
@@ -108,15 +107,3 @@ module _ (ops : Operators) (closes : ℕ → ℕ → Bool) (c : ℕ) (words : Li
         }
 
 pub ruleset close_ways = (closing_starts, before_inside, back_inside, closing_more, closing_stops, closing_ends, rules)
-
--- ---- push
-pub adds : (w first : ℕ) (h : Held) → IsHeld h → h.count < most_tokens → first ≤ h.count → Adds w first h (record { words = set h.words h.count w; count = h.count + 1; first = first })
-adds w first h k room before =
-    record {
-      added = take-suc-set h.words h.count w (omega (arith, k.full));
-      counted = refl;
-      first_is = refl;
-      held = record { ordered = omega arith; inside = omega arith; full = length-set h.words h.count w ∙ k.full };
-    }
-
-pub ruleset push_ways = (adds, rules)

@@ -1,16 +1,15 @@
 -- What each way through the readers of expressions and operands gives, from what is known on it. Assumes nothing.
-use mathlib.Core.Path.{◌≡◌, refl, sym, ap, ◌∙◌}
+use mathlib.Core.Path.{◌≡◌, sym, ap, ◌∙◌}
 use mathlib.Core.List.{List}
 use Prim.Native.Nat.{ℕ, suc, ◌+◌, ◌<◌, ◌≤◌}
 use native.Mathlib.Omega.{arith}
 use mir.Val.{Fits}
 use mir.Syntax.{w8}
 use lib.ListN.{length, get_or, drop}
-use borrow.Author.Rules.{rules}
-use Rattle.std.specs.Prelude.{Option, None, Some}
+use Rattle.std.specs.Prelude.{None, Some}
 use Rattle.expression.specs.Token.{first_reading, Operators, class}
 use Rattle.expression.specs.RowTest.{due, done, where_due, where_done, complete, scan}
-use Rattle.parser.specs.Rows.{token_at, Passes, Continues, Refuses, Ends, ReadsOperand, ReadsExpression}
+use Rattle.parser.specs.Rows.{token_at, Passes, Continues, Refuses, Ends, ReadsOperand}
 use Rattle.parser.specs.declared.row.Token.{Token}
 use Rattle.parser.specs.declared.row.Token.TheVariants.{Operator, Prefix, Opening, Closing, Reading}
 use Rattle.parser.proofs.TokenWays.{is_reading, is_token}
@@ -63,7 +62,7 @@ module _ (ops : Operators) (row : List ℕ) where
       operand_unclosed {next} h c = record { refused = λ d. ap complete (enters d ∙ h.passes.same (suc d)) ∙ open_ends ops row next h.stops c d }
 
   -- ---- pairs_end
-  led : {at from next : ℕ} → Continues ops row at from → Continues ops row from next → Continues ops row at next
+  pub led : {at from next : ℕ} → Continues ops row at from → Continues ops row from next → Continues ops row at next
   led l k = record { onward = omega (arith, l.onward, k.onward); inside = k.inside; same = λ d. l.same d ∙ k.same d }
 
   -- past a prefix operator
@@ -86,9 +85,6 @@ module _ (ops : Operators) (row : List ℕ) where
         same = λ d. p.same d ∙ scan_found ops row next k (done d) ∙ ap (λ x. scan (class ops) (where_done x d) (drop (next + 1) row)) k.class_is;
       }
 
-  pub continues_here : (at : ℕ) → at ≤ length row → Continues ops row at at
-  continues_here at h = record { onward = omega arith; inside = h; same = λ d. refl }
-
   pub pair_led : {at next : ℕ} → Continues ops row at next → Fits w8 (get_or row next 0) → next + 1 < length row → first_reading ≤ get_or row next 0
       → token_at ops row (next + 1) ≡ Some Operator → Continues ops row at (next + 2)
   pair_led {at} {next} l fits h reads e =
@@ -99,28 +95,8 @@ module _ (ops : Operators) (row : List ℕ) where
 
   -- ---- expression_end, from a place that the pairs lead on to
   module _ {at from : ℕ} (l : Continues ops row at from) where
-    pub expression_led : Refuses ops row from → Refuses ops row at
-    expression_led h = record { refused = λ d. ap complete (l.same d) ∙ h.refused d }
-
-    pub ends_led : {next : ℕ} → Ends ops row from next → Ends ops row at next
-    ends_led h =
-        record {
-          passes = record { onward = omega (arith, l.onward, h.passes.onward); inside = h.passes.inside; same = λ d. l.same d ∙ h.passes.same d };
-          stops = h.stops;
-        }
-
-    pub reads_led : (r : Option ℕ) → ReadsExpression ops row from r → ReadsExpression ops row at r
-    reads_led None h = expression_led h
-    reads_led (Some next) h = ends_led h
-
     pub prefix_led : token_at ops row from ≡ Some Prefix → Continues ops row at (from + 1)
     prefix_led e = led l (past_prefix from e)
 
-    module _ {next : ℕ} (p : Passes ops row from next) where
-      pub operator_led : token_at ops row next ≡ Some Operator → Continues ops row at (next + 1)
-      operator_led e = led l (past_operator from p e)
-
-      pub expression_stops : (token_at ops row next ≡ Some Operator → ⊥) → Ends ops row at next
-      expression_stops n = ends_led (record { passes = p; stops = n })
-
-pub ruleset pairs_ways = (continues_here, pair_led, rules)
+    pub operator_led : {next : ℕ} → Passes ops row from next → token_at ops row next ≡ Some Operator → Continues ops row at (next + 1)
+    operator_led p e = led l (past_operator from p e)

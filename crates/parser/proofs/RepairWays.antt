@@ -6,7 +6,6 @@ use native.Mathlib.Omega.{arith}
 use lib.ListN.{length, take, drop, length-append}
 use lib.Seq.{take_at, length-take-le}
 use borrow.Author.Tests.{ne_eqb}
-use borrow.Author.Rules.{rules}
 use Rattle.expression.specs.Limits.{most_tokens}
 use Rattle.expression.specs.Refusal.{accepted}
 use Rattle.expression.specs.Token.{Operators, class}
@@ -118,5 +117,3 @@ module _ (sheet bytes out row : List ℕ) {row' : List ℕ} {y : Answer} (room :
           measured = sym long;
           output = ap₂ ◌++◌ (same ∙ ap (built (operators_of sheet) (closes_in sheet)) laid) (ap (λ x. drop x out) ends);
         }
-
-pub ruleset repair_ways = (repair_refused, repair_short, repair_few, repair_room, repair_buildable, repair_part, repair_done, rules)

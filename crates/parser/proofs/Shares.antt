@@ -4,7 +4,6 @@ use mathlib.Core.Bool.{not}
 use Prim.Native.Nat.{ℕ, ◌≤◌}
 use lib.Dec.{eqb}
 use borrow.Author.Tests.{ne_eqb}
-use borrow.Author.Rules.{rules}
 use Rattle.expression.specs.Token.{closing}
 use Rattle.expression.proofs.Tests.{at_most_one}
 use Rattle.parser.specs.Reading.{share}
@@ -21,6 +20,3 @@ module _ (c : ℕ) where
   pub share_small : share c ≤ 1
   unfolding share
   share_small = at_most_one (not (eqb c closing))
-
--- ---- share_of
-pub ruleset share_ways = (share_none, share_byte, rules)

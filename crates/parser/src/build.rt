@@ -75,6 +75,7 @@ impl<'a> Notes<'a> {
         ensures { Closes (operators_of sheet.now) (closes_in sheet.now) c self.now.words self.now.first result }
     {
         let mut first = self.first;
+        // This goes back over whole operands, so it counts no index.
         while 0 < first {
             let before = first - 1;
             let nearest = self.note_at(before);
@@ -107,7 +108,9 @@ impl<'a> Notes<'a> {
 
     // An infix operator comes: what closes before it is its left operand. It waits.
     fn take_operator(&mut self, sheet: &Sheet, c: u8)
-        requires { (self.old.count < most_tokens) × (c < most_operators) × (prefix_in sheet.now c ≡ false) × Takeable (operators_of sheet.now) (closes_in sheet.now) c self.old }
+        requires room { self.old.count < most_tokens }
+        requires operator { (c < most_operators) × (prefix_in sheet.now c ≡ false) }
+        requires takeable { Takeable (operators_of sheet.now) (closes_in sheet.now) c self.old }
         ensures { Takes (operators_of sheet.now) (closes_in sheet.now) c self.old self.new }
     {
         let first = self.close_waiting(sheet, c);
@@ -139,7 +142,8 @@ impl<'a> Notes<'a> {
 
     // The tokens of a row, or of a beginning of one, are taken from the left. What waits at the end of a row closes there, which changes no note.
     fn of_row(sheet: &Sheet, row: &[u8], words: &'a mut [Note]) -> Self
-        requires { (length words.old ≡ most_tokens) × (length row.now ≤ most_tokens) × Beginning (operators_of sheet.now) (closes_in sheet.now) row.now }
+        requires full { length words.old ≡ most_tokens }
+        requires beginning { (length row.now ≤ most_tokens) × Beginning (operators_of sheet.now) (closes_in sheet.now) row.now }
         ensures { Reads (operators_of sheet.now) (closes_in sheet.now) row.now result }
     {
         let mut notes = Notes {

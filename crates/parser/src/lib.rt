@@ -34,6 +34,7 @@ pub fn row_number(sheet: &Sheet, tokens: &[u8]) -> u8
 }
 
 // The record of the row's tree, at the front of `out`, and its length. After a refusal `out` is as it was.
+#[tactic(auto, using(crate::proofs::AnswerWays::build_row_ways))]
 pub fn build_row(sheet: &Sheet, tokens: &[u8], out: &mut [u8]) -> Result<usize, Refusal>
     ensures { AnswersBuild sheet.now tokens.now out.old out.new (answer_of result) }
 {

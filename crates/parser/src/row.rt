@@ -24,7 +24,7 @@ pub enum Token {
 }
 
 // A row that is not too long and has no stranger, under a sheet's operators.
-#[derive(Drop)]
+#[derive(Clone, Copy)]
 pub struct Row<'a> {
     sheet: &'a Sheet,
     tokens: &'a [u8],
@@ -68,9 +68,11 @@ impl<'a> Row<'a> {
         requires { at ≤ length self.now.tokens.now }
         ensures { Continues (operators_of self.now.sheet.now) self.now.tokens.now at result }
     {
+        // A copy, so that the loop reads through no reference but the tokens'. It goes on by pairs.
+        let row = *self;
         let mut next = at;
-        while next + 1 < self.tokens.len() && token::FIRST_READING <= self.tokens[next] {
-            if self.token_at(next + 1) != Some(Token::Operator) {
+        while next + 1 < row.tokens.len() && token::FIRST_READING <= row.tokens[next] {
+            if row.token_at(next + 1) != Some(Token::Operator) {
                 return next;
             }
             next += 2;
@@ -78,24 +80,26 @@ impl<'a> Row<'a> {
         next
     }
 
-    // The place after the expression that starts at `at`: an operand, then any number of operator and operand. What follows a prefix
-    // operator is an expression too. The row goes on by its one reference, so that the call for what follows an operator is a jump.
+    // The place after the expression that starts at `at`: operands with an infix operator between each two. What follows a prefix operator
+    // is an expression too, so it goes on behind that as behind an infix one.
     #[cycle(readers)]
     fn expression_end(&self, at: usize) -> Option<usize>
         requires { at ≤ length self.now.tokens.now }
         ensures { ReadsExpression (operators_of self.now.sheet.now) self.now.tokens.now at result }
     {
-        let from = self.pairs_end(at);
-        let Some(next) = self.operand_end(from) else {
+        let mut next = at;
+        'parts: loop {
+            let from = self.pairs_end(next);
             if self.token_at(from) == Some(Token::Prefix) {
-                return self.expression_end(from + 1);
+                next = from + 1;
+                continue;
             }
-            return None;
-        };
-        if self.token_at(next) == Some(Token::Operator) {
-            return self.expression_end(next + 1);
+            let end = self.operand_end(from)?;
+            if self.token_at(end) != Some(Token::Operator) {
+                return Some(end);
+            }
+            next = end + 1;
         }
-        Some(next)
     }
 
     // The place after the operand that starts at `at`, but for a prefix operator: a reading, or an expression in brackets.

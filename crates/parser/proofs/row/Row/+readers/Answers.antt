@@ -1,31 +1,24 @@
 -- The answers of the readers of expressions and operands. Assumes nothing.
 use Rattle.std.proofs.Common.{rules, ◌≡◌, ◌∙◌, sym, Some, arith}
 use Rattle.parser.specs.declared.row.Token.TheVariants.{Operator, Prefix, Closing}
-use Rattle.parser.proofs.ReaderWays.{token_inside, here_is, none_read, other_read, operand_reading, inner_refused, operand_closed, operand_unclosed, reads_led, prefix_led, operator_led}
+use Rattle.parser.proofs.ReaderWays.{token_inside, here_is, none_read, other_read, operand_reading, inner_refused, operand_closed, operand_unclosed, led, prefix_led, operator_led}
 use Rattle.parser.proofs.row.Row.+readers.Goals as goal
 
-pub expression_end-expression_end-requires : goal.expression_end-expression_end-requires
-expression_end-expression_end-requires t c =
+pub expression_end-parts-smaller-then-eq : goal.expression_end-parts-smaller-then-eq
+expression_end-parts-smaller-then-eq t c =
     let prefix_token : c.token_at.result ≡ Some Prefix = search rules in
     let inside = token_inside _ _ _ (sym c.token_at.ensures ∙ prefix_token) in
     search rules
 
-pub expression_end-returns-then-eq : goal.expression_end-returns-then-eq
-expression_end-returns-then-eq t c =
+pub expression_end-parts-preserved-then-eq : goal.expression_end-parts-preserved-then-eq
+expression_end-parts-preserved-then-eq t c =
     let prefix_token : c.token_at.result ≡ Some Prefix = search rules in
-    reads_led _ _ (prefix_led _ _ c.pairs_end-from.ensures (sym c.token_at.ensures ∙ prefix_token)) c.expression_end.result c.expression_end.ensures
+    led _ _ c.parts.invariant (prefix_led _ _ c.pairs_end-from.ensures (sym c.token_at.ensures ∙ prefix_token))
 
-pub expression_end-expression_end-requires-then-eq-2 : goal.expression_end-expression_end-requires-then-eq-2
-expression_end-expression_end-requires-then-eq-2 t c =
-    let operator : c.token_at-2.result ≡ Some Operator = search rules in
-    let inside = token_inside _ _ _ (sym c.token_at-2.ensures ∙ operator) in
-    let p = c.in-Some.ensures in
-    search rules
-
-pub expression_end-returns-then-eq-2 : goal.expression_end-returns-then-eq-2
-expression_end-returns-then-eq-2 t c =
-    let operator : c.token_at-2.result ≡ Some Operator = search rules in
-    reads_led _ _ (operator_led _ _ c.pairs_end-from.ensures c.in-Some.ensures (sym c.token_at-2.ensures ∙ operator)) c.expression_end-then-eq-2.result c.expression_end-then-eq-2.ensures
+pub expression_end-parts-preserved : goal.expression_end-parts-preserved
+expression_end-parts-preserved t c =
+    let operator : c.token_at-in-parts.result ≡ Some Operator = search rules in
+    led _ _ c.parts.invariant (operator_led _ _ c.pairs_end-from.ensures c.in_ok-end.ensures (sym c.token_at-in-parts.ensures ∙ operator))
 
 pub operand_end-returns-in_err-token_at : goal.operand_end-returns-in_err-token_at
 operand_end-returns-in_err-token_at t c = rw c.from_residual.ensures (none_read _ _ _ c.in_err-token_at.ensures)

@@ -7,4 +7,4 @@ use Rattle.parser.proofs.row.Row.pairs_end.Goals as goal
 pub loop-next-preserved : goal.loop-next-preserved
 loop-next-preserved c =
     let operator : c.token_at.result ≡ Some Operator = search rules in
-    pair_led _ _ c.loop-next.invariant (search rules) c.loop-next-test.true c.if-self-next-ge-FIRST_READING.true (sym c.token_at.ensures ∙ operator)
+    pair_led _ _ c.loop-next.invariant (search rules) c.loop-next-test.true c.if-row-next-ge-FIRST_READING.true (sym c.token_at.ensures ∙ operator)
