@@ -10,7 +10,7 @@ ghost use Rattle.record.specs.Outcome.{answer_of};
 ghost use Rattle.parser.specs.Answers.{AnswersBuild, AnswersRepair};
 
 use expression::limits::MOST_TOKENS;
-use expression::refusal::{self, Refusal};
+use expression::refusal::Refusal;
 use record::Answer;
 use sheet::Sheet;
 
@@ -24,13 +24,6 @@ pub fn check_row(sheet: &Sheet, tokens: &[u8]) -> Result<(), Refusal>
     ensures { number_in result ≡ row_number (operators_of sheet.now) tokens.now }
 {
     row::check(sheet, tokens)
-}
-
-// Its number; for the time of the move.
-pub fn row_number(sheet: &Sheet, tokens: &[u8]) -> u8
-    ensures { result ≡ row_number (operators_of sheet.now) tokens.now }
-{
-    refusal::number(&check_row(sheet, tokens))
 }
 
 // The record of the row's tree, at the front of `out`, and its length. After a refusal `out` is as it was.
