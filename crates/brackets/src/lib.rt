@@ -8,6 +8,7 @@ use expression::refusal::Refusal;
 use expression::{bytes, limits, token};
 use record::Answer;
 use sheet::Sheet;
+use walk::Marked;
 use words::BASE;
 
 mod edges;
@@ -24,16 +25,12 @@ pub fn shortest_row(sheet: &Sheet, bytes: &[u8], out: &mut [u8]) -> Result<usize
     let mut marks = [0u8; limits::MOST_RECORD_BYTES];
     edges::mark_record(sheet, &whole, size, &mut marks);
     let mut row = [0u8; limits::MOST_TOKENS];
-    let written = walk::write_operand(
+    let marked = Marked {
         sheet,
-        &whole,
-        &marks,
-        0,
-        token::OPENING,
-        walk::RIGHT,
-        &mut row,
-        0,
-    );
+        whole: &whole,
+        marks: &marks,
+    };
+    let written = marked.write_operand(0, token::OPENING, walk::RIGHT, &mut row, 0);
     let length = written % BASE;
     if out.len() < length {
         return Err(Refusal::Short);

@@ -18,6 +18,7 @@ const SHOWN: u8 = 1;
 pub const RIGHT: u8 = 2;
 
 // The byte at a place if it is a reading, else 0. It tells less than the node, and is compiled into the walk.
+#[tactic(auto, using(crate::proofs::WalkingInfix::leaf_at_ways))]
 fn leaf_at(sheet: &Sheet, whole: &[u8; MOST_RECORD_BYTES], at: usize) -> u8
     ensures { result ≡ leaf_byte (node_at (operators_of sheet.now) whole.now at) }
 {
@@ -33,6 +34,7 @@ fn leaf_at(sheet: &Sheet, whole: &[u8; MOST_RECORD_BYTES], at: usize) -> u8
 }
 
 // An operand with operator o on top shows a conflict with the operator above it, on that side. A byte that is no operator shows none.
+#[tactic(auto, using(crate::proofs::Walking::shows_ways))]
 fn shows(sheet: &Sheet, above: u8, right: bool, o: u8) -> bool
     ensures { result ≡ shows sheet.now above right o }
 {
@@ -42,66 +44,64 @@ fn shows(sheet: &Sheet, above: u8, right: bool, o: u8) -> bool
     sees_edge(sheet, above, o)
 }
 
-// The row goes to `out` from the place `to` on, each token once: an operand that shows a conflict with the operator above goes in
-// brackets, and no other does. The marks are those that `edges` makes. The answer is the place after the tree in the record times
-// the base, and that after its row. A reading on the left, as in most trees, takes no call.
-#[tactic(auto, using(crate::proofs::WalkingInfix::ways))]
-pub fn write_operand(
-    sheet: &Sheet,
-    whole: &[u8; MOST_RECORD_BYTES],
-    marks: &[u8; MOST_RECORD_BYTES],
-    at: usize,
-    above: u8,
-    side: u8,
-    out: &mut [u8; MOST_TOKENS],
-    to: usize,
-) -> usize
-    requires { StandsWithRoom sheet.now whole.now marks.now at above side to }
-    ensures { Shortens sheet.now whole.now at above side out.old to out.new result }
-{
-    if side == SHOWN {
-        out[to] = token::OPENING;
-        let inner = write_operand(sheet, whole, marks, at, token::OPENING, RIGHT, out, to + 1);
-        out[inner % BASE] = token::CLOSING;
-        return inner + 1;
-    }
-    match top_at(sheet, whole, at) {
-        Node::Reading(a) => {
-            out[to] = a;
-            (at + 1) * BASE + (to + 1)
+// A record of a tree, at the front of as many bytes as a record has at most, and the marks that `edges` makes for it.
+#[derive(Clone, Copy)]
+pub struct Marked<'a> {
+    pub sheet: &'a Sheet,
+    pub whole: &'a [u8; MOST_RECORD_BYTES],
+    pub marks: &'a [u8; MOST_RECORD_BYTES],
+}
+
+impl Marked<'_> {
+    // The row goes to `out` from the place `to` on, each token once: an operand that shows a conflict with the operator above goes
+    // in brackets, and no other does. The answer is the place after the tree in the record times the base, and that after its row.
+    // A reading on the left, as in most trees, takes no call.
+    #[tactic(auto, using(crate::proofs::WalkingInfix::ways))]
+    pub fn write_operand(
+        &self,
+        at: usize,
+        above: u8,
+        side: u8,
+        out: &mut [u8; MOST_TOKENS],
+        to: usize,
+    ) -> usize
+        requires { StandsWithRoom self.now.sheet.now self.now.whole.now self.now.marks.now at above side to }
+        ensures { Shortens self.now.sheet.now self.now.whole.now at above side out.old to out.new result }
+    {
+        if side == SHOWN {
+            out[to] = token::OPENING;
+            let inner = self.write_operand(at, token::OPENING, RIGHT, out, to + 1);
+            out[inner % BASE] = token::CLOSING;
+            return inner + 1;
         }
-        Node::Bracket => write_operand(sheet, whole, marks, at + 1, above, side, out, to),
-        Node::Prefix(p) => {
-            out[to] = p;
-            write_operand(sheet, whole, marks, at + 1, p, RIGHT, out, to + 1)
-        }
-        Node::Operator(o) => {
-            if shows(sheet, above, side == RIGHT, o) {
-                out[to] = token::OPENING;
-                let inner = write_operand(
-                    sheet,
-                    whole,
-                    marks,
-                    at,
-                    token::OPENING,
-                    RIGHT,
-                    out,
-                    to + 1,
-                );
-                out[inner % BASE] = token::CLOSING;
-                return inner + 1;
+        match top_at(self.sheet, self.whole, at) {
+            Node::Reading(a) => {
+                out[to] = a;
+                (at + 1) * BASE + (to + 1)
             }
-            let a = leaf_at(sheet, whole, at + 1);
-            if a != 0 {
-                let past = at + 2;
-                let next = to + 1;
-                set_two(out, to, next, a, o);
-                return write_operand(sheet, whole, marks, past, o, RIGHT, out, next + 1);
+            Node::Bracket => self.write_operand(at + 1, above, side, out, to),
+            Node::Prefix(p) => {
+                out[to] = p;
+                self.write_operand(at + 1, p, RIGHT, out, to + 1)
             }
-            let left = write_operand(sheet, whole, marks, at + 1, o, marks[at], out, to);
-            let seam = left % BASE;
-            out[seam] = o;
-            write_operand(sheet, whole, marks, left / BASE, o, RIGHT, out, seam + 1)
+            Node::Operator(o) => {
+                if shows(self.sheet, above, side == RIGHT, o) {
+                    out[to] = token::OPENING;
+                    let inner = self.write_operand(at, token::OPENING, RIGHT, out, to + 1);
+                    out[inner % BASE] = token::CLOSING;
+                    return inner + 1;
+                }
+                let a = leaf_at(self.sheet, self.whole, at + 1);
+                if a != 0 {
+                    let next = to + 1;
+                    set_two(out, to, next, a, o);
+                    return self.write_operand(at + 2, o, RIGHT, out, next + 1);
+                }
+                let left = self.write_operand(at + 1, o, self.marks[at], out, to);
+                let seam = left % BASE;
+                out[seam] = o;
+                self.write_operand(left / BASE, o, RIGHT, out, seam + 1)
+            }
         }
     }
 }

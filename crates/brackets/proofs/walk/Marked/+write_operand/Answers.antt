@@ -1,6 +1,8 @@
 -- What the ways through `write_operand` give. Assumes nothing.
-use Rattle.brackets.proofs.WalkingInfix.{ways}
-use Rattle.brackets.proofs.walk.+write_operand.Goals as goal
+use Rattle.brackets.proofs.Walking.{inside}
+use Rattle.brackets.proofs.WalkingNodes.{inner_stands, prefix_stands}
+use Rattle.brackets.proofs.WalkingInfix.{leaf_stands, left_stands, ways}
+use Rattle.brackets.proofs.walk.Marked.+write_operand.Goals as goal
 
 pub write_operand-inner-requires : goal.write_operand-inner-requires
 write_operand-inner-requires t c = search ways
@@ -49,3 +51,25 @@ returns-in-Prefix t c = search ways
 
 pub returns-else-a-ne0 : goal.returns-else-a-ne0
 returns-else-a-ne0 t c = search ways
+
+pub write_operand-requires : goal.write_operand-requires
+write_operand-requires t c = (search ways, inner_stands _ _ _ _ _ _ _ c.requires c.top_at.ensures c.in-Bracket.is)
+
+pub write_operand-requires-in-Prefix : goal.write_operand-requires-in-Prefix
+write_operand-requires-in-Prefix t c = (search ways, prefix_stands _ _ _ _ _ _ _ c.requires c.top_at.ensures c.if-side-eq-SHOWN.false c.in-Prefix.is)
+
+pub write_operand-requires-then-a-ne0 : goal.write_operand-requires-then-a-ne0
+write_operand-requires-then-a-ne0 t c = (
+  search ways,
+  leaf_stands _ _ _ _ _ _ _ c.requires c.top_at.ensures c.in-Operator.is c.if-side-eq-SHOWN.false c.shows.ensures c.if-shows.false c.leaf_at-a.ensures
+      c.if-a-ne0.true,
+)
+
+pub bounds-self-at : goal.bounds-self-at
+bounds-self-at t c = inside _ _ _ _ _ _ _ c.requires
+
+pub write_operand-left-requires : goal.write_operand-left-requires
+write_operand-left-requires t c = (
+  search ways,
+  left_stands _ _ _ _ _ _ _ c.requires c.top_at.ensures c.in-Operator.is c.if-side-eq-SHOWN.false c.shows.ensures c.if-shows.false,
+)
