@@ -1,4 +1,3 @@
-pub mod AnswerWays
 pub mod LinesWays
 pub mod TurnWays
 pub mod RunWays

@@ -1,5 +1,7 @@
 -- A run is a list of turns: what each takes in, lays ready to be written and leaves. Assumes nothing.
-use Rattle.std.specs.Prelude.{ℕ, ◌≤◌, ◌≡◌, Bool, true, false, List, [], ◌∷◌, ◌++◌, ltb, length, take, drop}
+use Rattle.std.specs.Prelude.{ℕ, ◌≡◌, Bool, true, false, List, [], ◌∷◌, ◌++◌, ltb, length, take}
+use Rattle.std.specs.declared.ops.ControlFlow.{ControlFlow}
+use Rattle.std.specs.declared.ops.ControlFlow.TheVariants.{Continue, Break}
 use Rattle.run.specs.Panel.{Panel}
 use Rattle.panel.specs.Lines.{with_ends, after_lines, replies, panel_at_end, last_reply}
 use Rattle.panel.specs.CallContracts.{most_kept, most_filled, Answers}
@@ -44,22 +46,30 @@ Takes p left failed laid left' later = (laid ≡ []) × (later ≡ p)
 Takes p left ended laid left' later = (laid ≡ last_reply p (take most_kept left)) × (later ≡ panel_at_end p (take most_kept left))
 Takes p left (gave bytes) laid left' later = Answers p (take most_kept left ++ bytes) laid left' later
 
--- A turn was made up to the write: what it laid ready fills the front of the output, and what it left stands in the buffer from `rest` up to `to`.
--- A read was made but where the turn before had filled the output.
-pub record Steps (p : Panel) (left : List ℕ) (full : Bool) (buf out : List ℕ) (rest to filled : ℕ) (go : Bool) (later : Panel) : Type 0 where
+-- A turn was made up to the write: what it laid ready is in the output, and what it left in the input. A read was made but where the turn before
+-- had filled the output.
+pub record Steps (p : Panel) (left : List ℕ) (full : Bool) (left' out : List ℕ) (go : Bool) (later : Panel) : Type 0 where
   pub event : Event
   pub kind : is_more event ≡ full
-  pub takes : Takes p left event (take filled out) (drop rest (take to buf)) later
+  pub takes : Takes p left event out left' later
   pub goes : go ≡ goes_on_after event
-  pub in_order : rest ≤ to
-  pub inside : to ≤ length buf
-  pub room : filled ≤ length out
+
+-- how many bytes were handed to the write call
+abbrev pub handed_in : ControlFlow ℕ ℕ → ℕ
+handed_in (Continue count) = count
+handed_in (Break count) = count
+
+-- whether a turn follows
+abbrev pub goes_in : ControlFlow ℕ ℕ → Bool
+goes_in (Continue count) = true
+goes_in (Break count) = false
 
 -- A turn was made: so many bytes as were laid ready were handed to the write call. The program goes on only if they were written.
-pub record Turns (p : Panel) (left : List ℕ) (full : Bool) (buf out : List ℕ) (rest to handed : ℕ) (go : Bool) (later : Panel) : Type 0 where
+pub record Turns (p : Panel) (left : List ℕ) (full : Bool) (left' out : List ℕ) (r : ControlFlow ℕ ℕ) (later : Panel) : Type 0 where
   pub goes_on : Bool
-  pub steps : Steps p left full buf out rest to handed goes_on later
-  pub goes : go ≡ true → goes_on ≡ true
+  pub steps : Steps p left full left' out goes_on later
+  pub handed : handed_in r ≡ length out
+  pub goes : goes_in r ≡ true → goes_on ≡ true
 
 -- ---- a run
 -- a turn: what it took in, what it laid ready, what it left, and the panel after it
@@ -102,27 +112,25 @@ unfoldable pub all_laid : List Turn → List ℕ
 all_laid [] = []
 all_laid (t ∷ turns) = all_laid turns ++ t.laid
 
--- Turns were made, one after the other, and what the last one laid ready and left is in the output and the buffer. (That what the reads gave is
--- the input is the read call's.)
-pub record Made (p : Panel) (buf out : List ℕ) (rest to handed : ℕ) (go : Bool) (later : Panel) : Type 0 where
+-- Turns were made, one after the other, and what the last one laid ready and left is in the output and the input; so many bytes were handed to
+-- the write call. (That what the reads gave is the input is the read call's.)
+pub record Made (p : Panel) (left out : List ℕ) (handed : ℕ) (go : Bool) (later : Panel) : Type 0 where
   pub turns : List Turn
   pub in_turn : InTurn p turns
-  pub laid : take handed out ≡ laid_last turns
-  pub left : drop rest (take to buf) ≡ left_after turns
+  pub laid : out ≡ laid_last turns
+  pub left_is : left ≡ left_after turns
   pub stands : later ≡ panel_after p turns
   pub goes : go ≡ true → goes_after turns ≡ true
-  pub in_order : rest ≤ to
-  pub inside : to ≤ length buf
-  pub room : handed ≤ length out
+  pub all : handed ≡ length out
 
 -- A proved loop has to end: more turns are not made.
 abbrev pub most_turns : ℕ
 most_turns = 18446744073709551615
 
 -- A run: turns were made until the input ended, a read failed or a write did.
-pub record Runs (p : Panel) (buf out : List ℕ) (rest to handed : ℕ) (go : Bool) (later : Panel) : Type 0 where
-  pub made : Made p buf out rest to handed go later
-  pub until : go ≡ true → length made.turns ≡ most_turns
+pub record Runs (p : Panel) (left out : List ℕ) (r : ControlFlow ℕ ℕ) (later : Panel) : Type 0 where
+  pub made : Made p left out (handed_in r) (goes_in r) later
+  pub until : goes_in r ≡ true → length made.turns ≡ most_turns
 
 -- What was laid ready over turns, and the panel after them, are those of these lines and a last one without line end.
 pub record Answered (p : Panel) (turns : List Turn) (lines : List (List ℕ)) (last : List ℕ) : Type 0 where

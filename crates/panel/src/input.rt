@@ -1,45 +1,82 @@
-// The buffer that is read into: what is kept of the bytes that are not answered, and a read behind it.
-ghost use Rattle.std.specs.Prelude.{◌≡◌, ◌≤◌, length, take, drop};
-ghost use Rattle.panel.specs.CallContracts.{most_kept, buffer_bytes, Keeps, Fetches};
+// The bytes that are read and not answered yet, in the buffer that they are read into.
+ghost use Rattle.std.specs.Prelude.{◌≡◌, [], ◌≤◌, length, drop};
+ghost use Rattle.panel.specs.CallContracts.{Fetches};
 
-use crate::limits::{BLOCK, MOST_KEPT};
+use crate::limits::{BLOCK, BUFFER_BYTES, MOST_KEPT};
+use std::io;
 use std::io::{Read, Stdin};
+use std::marker::Model;
 
-// A read: where what it gave ends, and whether it failed.
+// They stand from `rest` up to `to`.
 #[derive(Drop)]
-pub struct Fetched {
-    pub to: usize,
-    pub failed: bool,
+pub struct Input {
+    bytes: [u8; BUFFER_BYTES],
+    rest: usize,
+    to: usize,
 }
 
-// The bytes that are not answered, or of a line over the limit the first characters, go to the front of the buffer; how many that are.
-pub fn keep_rest(buf: &mut [u8], rest: usize, to: usize) -> usize
-    requires { (rest ≤ to) × (to ≤ length buf.old) }
-    ensures { Keeps (drop rest (take to buf.old)) buf.new result }
-{
-    if MOST_KEPT < to - rest {
-        line_io::move_to_front(buf, rest, rest + MOST_KEPT);
-        return MOST_KEPT;
+impl Model for Input {
+    ghost use Rattle.std.specs.Prelude.{List, ℕ, ◌≤◌, take, drop};
+    ghost use Rattle.panel.specs.Sizes.{buffer_bytes};
+
+    ghost Value = { List ℕ };
+
+    ghost view = { λ input. drop input.rest (take input.to input.bytes) };
+
+    ghost invariant = { λ input. (input.rest ≤ input.to) × (input.to ≤ buffer_bytes) };
+}
+
+impl Input {
+    pub fn new() -> Self
+        ensures { result ≡ [] }
+    {
+        Input {
+            bytes: [0; BUFFER_BYTES],
+            rest: 0,
+            to: 0,
+        }
     }
-    line_io::move_to_front(buf, rest, to);
-    to - rest
-}
 
-// One read, behind the unfinished line. At the end of the input what is read ends where it began.
-#[tactic(auto, using(crate::proofs::TurnWays::fetch_ways))]
-pub fn read_block(mut stdin: Stdin, buf: &mut [u8], kept: usize) -> Fetched
-    requires { (kept ≤ most_kept) × (length buf.old ≡ buffer_bytes) }
-    ensures { Fetches buf.old kept buf.new result.to }
-{
-    let to = kept + BLOCK;
-    match stdin.read(&mut buf[kept..to]) {
-        Ok(count) => Fetched {
-            to: kept + count,
-            failed: false,
-        },
-        Err(_) => Fetched {
-            to: kept,
-            failed: true,
-        },
+    pub fn as_slice(&self) -> &[u8]
+        ensures { result.now ≡ self.now }
+    {
+        let all = &self.bytes[..];
+        &all[self.rest..self.to]
+    }
+
+    pub fn clear(&mut self)
+        ensures { self.new ≡ [] }
+    {
+        self.rest = 0;
+        self.to = 0;
+    }
+
+    // The first bytes are answered.
+    pub fn skip(&mut self, count: usize)
+        requires { count ≤ length self.old }
+        ensures { self.new ≡ drop count self.old }
+    {
+        self.rest += count;
+    }
+
+    // One read, behind the unfinished line; of a line over the limit the first characters are kept. How many bytes it gave: none at
+    // the end of the input.
+    pub fn read(&mut self, mut stdin: Stdin) -> io::Result<usize>
+        ensures { Fetches self.old self.new result }
+    {
+        let to = self.to.min(self.rest + MOST_KEPT);
+        let kept = to - self.rest;
+        let all = &mut self.bytes[..];
+        line_io::move_to_front(all, self.rest, to);
+        self.rest = 0;
+        self.to = kept;
+        let end = kept + BLOCK;
+        match stdin.read(&mut all[kept..end]) {
+            Ok(count) => {
+                self.to = kept + count;
+                Ok(count)
+            }
+            Err(error) => Err(error),
+        }
     }
 }
