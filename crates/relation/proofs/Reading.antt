@@ -77,7 +77,8 @@ module _ (n : ℕ) (bytes t u left t₁ u₁ t₂ u₂ : List ℕ) (l : Remainin
       l.strange ∙ ap (any_holds (strange_rule n)) (rules_more m left h e)
       ∙ ap (λ (p : Bool). p || any_holds (strange_rule n) (rules_of (take m (drop 3 left)))) (sym taken.strange)
 
-  pub remaining_more : {m : ℕ} → m ≡ length left - 3 → Takes n (rule (get_or left 0 0) (get_or left 1 0) (get_or left 2 0)) t₁ u₁ t₂ u₂ false → Remaining n bytes t u (take m (drop 3 left)) t₂ u₂
+  pub remaining_more : {m : ℕ} → m ≡ length left - 3 → Takes n (rule (get_or left 0 0) (get_or left 1 0) (get_or left 2 0)) t₁ u₁ t₂ u₂ false
+      → Remaining n bytes t u (take m (drop 3 left)) t₂ u₂
   unfolding marks_all
   remaining_more {m} e taken = record {
     strange = strange_more m e taken;

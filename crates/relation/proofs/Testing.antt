@@ -21,10 +21,12 @@ use Rattle.relation.proofs.WordTests.{closes_bit, safe_by_words, total_by_words,
 
 -- ---- is_safe and is_total: the test of one operator
 module _ {r : Bool} (n w : ℕ) (t u : List ℕ) (a : ℕ) (few : n ≤ most_operators) (small : Fits w32 w) (h : a < n) where
-  pub safe_here : {x : ℕ} → x ≡ without (get_or t a 0) w → r ≡ none_in_both n (bit_of x) (bit_of (get_or u a 0)) → r ≡ safe_for (operators_by n w) (turned (closes_in u)) (closes_in t) a
+  pub safe_here : {x : ℕ} → x ≡ without (get_or t a 0) w → r ≡ none_in_both n (bit_of x) (bit_of (get_or u a 0))
+      → r ≡ safe_for (operators_by n w) (turned (closes_in u)) (closes_in t) a
   safe_here q e = e ∙ ap (λ y. none_in_both n (bit_of y) (bit_of (get_or u a 0))) q ∙ safe_by_words n w few small.fits t u a h
 
-  pub total_here : r ≡ each_in_one n (bit_of (bit_or (get_or t a 0) w)) (bit_of (get_or u a 0)) → r ≡ total_for (operators_by n w) (turned (closes_in u)) (closes_in t) a
+  pub total_here : r ≡ each_in_one n (bit_of (bit_or (get_or t a 0) w)) (bit_of (get_or u a 0))
+      → r ≡ total_for (operators_by n w) (turned (closes_in u)) (closes_in t) a
   total_here e = e ∙ total_by_words n w few small.fits t u a h
 
 -- ---- pair_is_level

@@ -24,7 +24,8 @@ module _ (sheet : List ℕ) (c : ℕ) {n : ℕ} (count : n ≡ (operators_of she
 pub ruleset prefix_kind_ways = (no_such, such_told, rules)
 
 -- prefix or infix: the two kinds differ exactly if one is that of prefix operators and the other is not
-pub kinds_differ : (old new : List ℕ) (c : ℕ) {a b : Bool} → a ≡ eqb (kind_of (operators_of old) c) prefix_kind → b ≡ eqb (kind_of (operators_of new) c) prefix_kind
+pub kinds_differ : (old new : List ℕ) (c : ℕ) {a b : Bool} → a ≡ eqb (kind_of (operators_of old) c) prefix_kind
+    → b ≡ eqb (kind_of (operators_of new) c) prefix_kind
     → not (beq a b) ≡ not (eqb (kind_of (operators_of old) c) (kind_of (operators_of new) c))
 kinds_differ old new c {a} {b} in_old in_new =
     ap not (told a b ∙ ap₂ (λ x y. eqb (one_if x) (one_if y)) in_old in_new ∙ sym (kinds_agree old new c))

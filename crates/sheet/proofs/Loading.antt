@@ -175,11 +175,13 @@ module _ (n : ℕ) (bytes t u : List ℕ) {word : ℕ} (reads : ReadsSheet n byt
 refused : (before : List ℕ) (n : ℕ) (bytes : List ℕ) (e : Refusal) → number_of e ≡ sheet_number n bytes → Loads before n bytes (number_of e) before
 refused before n bytes e q = record { number = q; stands = rw (ne_eqb (sheet_number n bytes) accepted (λ z. refusal_told e (q ∙ z))) }
 
-pub load_order : (before : List ℕ) (n : ℕ) (bytes : List ℕ) (e : Refusal) → number_of e ≡ first (order_checks n bytes) → Loads before n bytes (number_of e) before
+pub load_order : (before : List ℕ) (n : ℕ) (bytes : List ℕ) (e : Refusal) → number_of e ≡ first (order_checks n bytes)
+    → Loads before n bytes (number_of e) before
 unfolding sheet_number
 load_order before n bytes e q =
     refused before n bytes e
-    (q ∙ sym (first_refused (order_checks n bytes) (rule_checks (operators_in n bytes) (L (rules_in n bytes)) (R (rules_in n bytes))) (λ z. refusal_told e (q ∙ z))))
+    (q ∙ sym (first_refused (order_checks n bytes) (rule_checks (operators_in n bytes) (L (rules_in n bytes)) (R (rules_in n bytes)))
+    (λ z. refusal_told e (q ∙ z))))
 
 module _ (before : List ℕ) (n : ℕ) (bytes t u : List ℕ) {word m : ℕ} (count : m ≡ n) (reads : ReadsSheet n bytes 0 word t u) where
   sheet_number_lem : {number : ℕ} → number ≡ rules_number (operators_by m word) (turned (closes_in u)) (closes_in t) → number ≡ sheet_number n bytes
@@ -188,12 +190,16 @@ module _ (before : List ℕ) (n : ℕ) (bytes t u : List ℕ) {word m : ℕ} (co
       number_is
       ∙ ap (λ k. rules_number (operators_by k word) (turned (closes_in u)) (closes_in t)) count
       ∙ ap₂ (λ (v x : List ℕ). rules_number (operators_by n word) (turned (closes_in v)) (closes_in x)) (reads.yields_is refl) (reads.closes_is refl)
-      ∙ number_same (operators_by n word) (turned (closes_in (yields_words n (rules_in n bytes)))) (L (rules_in n bytes)) (closes_in (closes_words n (rules_in n bytes))) (R (rules_in n bytes))
+      ∙ number_same (operators_by n word) (turned (closes_in (yields_words n (rules_in n bytes)))) (L (rules_in n bytes))
+      (closes_in (closes_words n (rules_in n bytes))) (R (rules_in n bytes))
       (yields_read n bytes (known n bytes t u reads)) (closes_read n bytes (known n bytes t u reads))
-      ∙ ap (λ ops. rules_number ops (L (rules_in n bytes)) (R (rules_in n bytes))) (ap (operators_by n) (reads.word_is refl) ∙ operators_read n bytes (known n bytes t u reads))
-      ∙ sym (first_append (order_checks n bytes) (rule_checks (operators_in n bytes) (L (rules_in n bytes)) (R (rules_in n bytes))) (in_order n bytes t u reads))
+      ∙ ap (λ ops. rules_number ops (L (rules_in n bytes)) (R (rules_in n bytes)))
+      (ap (operators_by n) (reads.word_is refl) ∙ operators_read n bytes (known n bytes t u reads))
+      ∙ sym (first_append (order_checks n bytes) (rule_checks (operators_in n bytes) (L (rules_in n bytes)) (R (rules_in n bytes)))
+      (in_order n bytes t u reads))
 
-  pub load_rules : (e : Refusal) → number_of e ≡ rules_number (operators_by m word) (turned (closes_in u)) (closes_in t) → Loads before n bytes (number_of e) before
+  pub load_rules : (e : Refusal) → number_of e ≡ rules_number (operators_by m word) (turned (closes_in u)) (closes_in t)
+      → Loads before n bytes (number_of e) before
   load_rules e q = refused before n bytes e (sheet_number_lem q)
 
   pub load_accepted : 0 ≡ rules_number (operators_by m word) (turned (closes_in u)) (closes_in t)

@@ -59,7 +59,8 @@ power_fits x small = record { fits = omega (arith, ones_few x small) }
 pub ruleset left_ways = (ones_fit, twice_fits, power_fits, rules)
 
 -- ---- powers_of_infix
-module _ (sheet : List ℕ) (a : ℕ) {l y : ℕ} {s : Bool} (left : l ≡ left_by y) (itself : s ≡ closes_in sheet a a) (small : Fits w32 y) (lies : SetOf (below (operators_of sheet) (closes_in sheet) a) y) where
+module _ (sheet : List ℕ) (a : ℕ) {l y : ℕ} {s : Bool} (left : l ≡ left_by y) (itself : s ≡ closes_in sheet a a) (small : Fits w32 y)
+    (lies : SetOf (below (operators_of sheet) (closes_in sheet) a) y) where
   both_powers : given_by l s ≡ given_in sheet a
   unfolding given_in right_power
   both_powers = ap₂ given_by (left ∙ left_by_set (operators_of sheet) (closes_in sheet) a y small lies) itself

@@ -41,7 +41,8 @@ module _ (n : ℕ) (bytes t u out : List ℕ) {word m : ℕ} (count : m ≡ n) (
   witness_is =
       ap (λ k. witness (operators_by k word) (turned (closes_in u)) (closes_in t)) count
       ∙ ap₂ (λ (v x : List ℕ). witness (operators_by n word) (turned (closes_in v)) (closes_in x)) (reads.yields_is refl) (reads.closes_is refl)
-      ∙ witness_same (operators_by n word) (turned (closes_in (yields_words n (rules_in n bytes)))) (L (rules_in n bytes)) (closes_in (closes_words n (rules_in n bytes))) (R (rules_in n bytes))
+      ∙ witness_same (operators_by n word) (turned (closes_in (yields_words n (rules_in n bytes)))) (L (rules_in n bytes))
+      (closes_in (closes_words n (rules_in n bytes))) (R (rules_in n bytes))
       (yields_read n bytes order) (closes_read n bytes order)
       ∙ ap (λ ops. witness ops (L (rules_in n bytes)) (R (rules_in n bytes))) (ap (operators_by n) (reads.word_is refl) ∙ operators_read n bytes order)
 
@@ -54,16 +55,19 @@ module _ (n : ℕ) (bytes t u out : List ℕ) {word m : ℕ} (count : m ≡ n) (
     explain_short h =
         record {
           numbered =
-              sym (first_short (order_checks n bytes) (length (explained n bytes)) (length out) (sym reads.number) (order_numbered n bytes) (omega (arith, ap length told_is)));
+              sym (first_short (order_checks n bytes) (length (explained n bytes)) (length out) (sym reads.number) (order_numbered n bytes)
+              (omega (arith, ap length told_is)));
           measured = refl;
           output = refl;
         }
 
-    pub explain_done : {after : List ℕ} → length told ≤ length out → after ≡ told ++ drop (length told) out → Explains n bytes out after (record { number = accepted; length = length told })
+    pub explain_done : {after : List ℕ} → length told ≤ length out → after ≡ told ++ drop (length told) out
+        → Explains n bytes out after (record { number = accepted; length = length told })
     explain_done enough copied =
         record {
           numbered =
-              sym (first_roomy (order_checks n bytes) (length (explained n bytes)) (length out) (sym reads.number) (order_numbered n bytes) (omega (arith, ap length told_is)));
+              sym (first_roomy (order_checks n bytes) (length (explained n bytes)) (length out) (sym reads.number) (order_numbered n bytes)
+              (omega (arith, ap length told_is)));
           measured = ap length told_is;
           output = copied ∙ ap (λ d. d ++ drop (length d) out) told_is;
         }

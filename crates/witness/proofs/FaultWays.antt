@@ -33,9 +33,11 @@ module _ (n w a : ℕ) (t u : List ℕ) {r : Option ℕ} (few : n ≤ most_opera
       f
       ∙ ap (if_below n)
       (first_same n _ _
-      (λ b l. bit_and_lem x (get_or u a 0) b ∙ ap₂ ◌&&◌ (ap (λ (v : ℕ). bit_of v b) e ∙ bits_without n w few small.fits t a b h l) (bits n w few small.fits u a b h l)))
+      (λ b l. bit_and_lem x (get_or u a 0) b ∙ ap₂ ◌&&◌ (ap (λ (v : ℕ). bit_of v b) e ∙ bits_without n w few small.fits t a b h l)
+      (bits n w few small.fits u a b h l)))
 
-  pub right_double : Fits w32 (get_or t a 0) → Fits w32 (get_or u a 0) → r ≡ if_below n (first_below n (bit_of ((2 ^ 32 - 1) - bit_or (bit_or (get_or t a 0) w) (get_or u a 0))))
+  pub right_double : Fits w32 (get_or t a 0) → Fits w32 (get_or u a 0)
+      → r ≡ if_below n (first_below n (bit_of ((2 ^ 32 - 1) - bit_or (bit_or (get_or t a 0) w) (get_or u a 0))))
       → r ≡ if_below n (first_right (operators_by n w) (none_excludes (operators_by n w) (turned (closes_in u)) (closes_in t)) a)
   right_double ft fu f = f ∙ ap (if_below n) (first_same n _ _ same)
     where
@@ -45,9 +47,11 @@ module _ (n w a : ℕ) (t u : List ℕ) {r : Option ℕ} (few : n ≤ most_opera
       turn false true q = refl
       turn false false q = refl
 
-      same : (b : ℕ) → b < n → bit_of ((2 ^ 32 - 1) - bit_or (bit_or (get_or t a 0) w) (get_or u a 0)) b ≡ (comes (operators_by n w) b && not (closes_in t a b || closes_in u a b))
+      same : (b : ℕ) → b < n → bit_of ((2 ^ 32 - 1) - bit_or (bit_or (get_or t a 0) w) (get_or u a 0)) b
+          ≡ (comes (operators_by n w) b && not (closes_in t a b || closes_in u a b))
       same b l =
-          bit_not 32 (bit_or (bit_or (get_or t a 0) w) (get_or u a 0)) b (or_lt 32 (bit_or (get_or t a 0) w) (get_or u a 0) (or_lt 32 (get_or t a 0) w ft.fits small.fits) fu.fits) (lt_of_lt_of_le l few)
+          bit_not 32 (bit_or (bit_or (get_or t a 0) w) (get_or u a 0)) b
+          (or_lt 32 (bit_or (get_or t a 0) w) (get_or u a 0) (or_lt 32 (get_or t a 0) w ft.fits small.fits) fu.fits) (lt_of_lt_of_le l few)
           ∙ ap not (bit_or_lem (bit_or (get_or t a 0) w) (get_or u a 0) b ∙ ap (λ p. p || bit_of (get_or u a 0) b) (bit_or_lem (get_or t a 0) w b))
           ∙ ap₂ (λ p q. not ((p || bit_of w b) || q)) (bits n w few small.fits t a b h l) (bits n w few small.fits u a b h l)
           ∙ turn (closes_in t a b) (bit_of w b) (closes_in u a b)
@@ -65,7 +69,8 @@ module _ (n w a b : ℕ) (t : List ℕ) {q : Bool} (few : n ≤ most_operators) 
   comes_is c z = comes_by n w b hb ∙ ap not (sym kind ∙ z)
 
   -- c is in the set exactly if the one closes before it, and the other does not
-  one_side_lem : {x y : ℕ} (a b : ℕ) → a < n → b < n → Fits w32 (get_or t b 0) → x ≡ without (get_or t a 0) w → y ≡ without x (get_or t b 0) → (c : ℕ) → c < n → bit_of y c ≡ one_side n w t a b c
+  one_side_lem : {x y : ℕ} (a b : ℕ) → a < n → b < n → Fits w32 (get_or t b 0) → x ≡ without (get_or t a 0) w → y ≡ without x (get_or t b 0) → (c : ℕ)
+      → c < n → bit_of y c ≡ one_side n w t a b c
   one_side_lem {x} {y} a b ha hb fits e s c l =
       ap (λ (v : ℕ). bit_of v c) s ∙ bit_without x (get_or t b 0) c fits.fits (lt_of_lt_of_le l few)
       ∙ ap₂ (λ i j. i && not j) (ap (λ (v : ℕ). bit_of v c) e ∙ bits_without n w few small.fits t a c ha l) (bits n w few small.fits t b c hb l)
@@ -73,7 +78,16 @@ module _ (n w a b : ℕ) (t : List ℕ) {q : Bool} (few : n ≤ most_operators) 
   pub third_prefix : q ≡ true → None ≡ if_below n (first_third (operators_by n w) (closes_in t) a b)
   unfolding if_below
   third_prefix z =
-      sym (rw (first_only n _ n (record { inside = omega arith; before = λ c l. ap (λ i. i && cond (closes_in t a b) (one_side n w t b a c) (one_side n w t a b c)) (comes_is true z); holds = λ l. absurd (omega arith) }), le-ltb n n (omega arith)))
+      sym (rw (
+        first_only n _ n (record {
+          inside = omega arith;
+          before = λ c l. ap
+              (λ i. i && cond (closes_in t a b) (one_side n w t b a c) (one_side n w t a b c)) (comes_is true z);
+          holds = λ l. absurd
+              (omega arith);
+        }),
+        le-ltb n n (omega arith),
+      ))
 
   module _ {p : Bool} (comer : q ≡ false) (is : p ≡ bit_of (get_or t a 0) b) where
     by_side : (c : Bool) → p ≡ c → (d : ℕ) → cond c (one_side n w t b a d) (one_side n w t a b d)

@@ -47,12 +47,24 @@ module _ (n x : ℕ) (few : n ≤ most_operators) where
   unfolding if_below
   lowest_below h =
       let f = lowest 32 x in
-      sym (rw (first_only n (bit_of x) (count_trailing_zeros 32 x) (record { inside = omega arith; before = f.before; holds = λ _. f.holds (omega arith) }), lt-ltb (count_trailing_zeros 32 x) n h))
+      sym (rw (
+        first_only n (bit_of x) (count_trailing_zeros 32 x)
+            (record { inside = omega arith; before = f.before; holds = λ _. f.holds (omega arith) }),
+        lt-ltb (count_trailing_zeros 32 x) n h,
+      ))
 
   -- and else there is none
   pub none_lower : n ≤ count_trailing_zeros 32 x → None ≡ if_below n (first_below n (bit_of x))
   unfolding if_below
   none_lower h =
-      sym (rw (first_only n (bit_of x) n (record { inside = omega arith; before = λ a l. (lowest 32 x).before a (omega arith); holds = λ l. absurd (omega arith) }), le-ltb n n (omega arith)))
+      sym (rw (
+        first_only n (bit_of x) n (record {
+          inside = omega arith;
+          before = λ a l. (lowest 32 x).before a (omega arith);
+          holds = λ l. absurd
+              (omega arith);
+        }),
+        le-ltb n n (omega arith),
+      ))
 
 pub ruleset first_in_ways = (zeros_fit, lowest_below, none_lower, rules)

@@ -71,7 +71,14 @@ fit_none p shape text = sym (append-nil text)
 
 module _ (p : Bool) (shape before : List ℕ) (at : ℕ) {text : List ℕ} (so_far : text ≡ before ++ fitted p (take at shape)) (more : at < length shape) where
   pub fits_inside : length before + length shape ≤ most_explained → length text < most_explained
-  fits_inside h = omega (arith, ap length so_far, length-append before (fitted p (take at shape)), fitted_few p (take at shape), length-take-le at shape (omega arith))
+  fits_inside h = omega (
+    arith,
+    ap length so_far,
+    length-append before (fitted p (take at shape)),
+    fitted_few p (take at shape),
+    length-take-le at shape
+        (omega arith),
+  )
 
   pub fit_more : {later : List ℕ} → later ≡ text ++ fitted p (get_or shape at 0 ∷ []) → later ≡ before ++ fitted p (take (at + 1) shape)
   fit_more e =
@@ -81,7 +88,8 @@ module _ (p : Bool) (shape before : List ℕ) (at : ℕ) {text : List ℕ} (so_f
       next : take (at + 1) shape ≡ take at shape ++ (get_or shape at 0 ∷ [])
       next = ap (λ m. take m shape) (add-one at) ∙ take-suc shape at 0 more
 
-pub fit_done : (p : Bool) (shape before : List ℕ) (at : ℕ) {text : List ℕ} → text ≡ before ++ fitted p (take at shape) → length shape ≤ at → text ≡ before ++ fitted p shape
+pub fit_done : (p : Bool) (shape before : List ℕ) (at : ℕ) {text : List ℕ} → text ≡ before ++ fitted p (take at shape) → length shape ≤ at
+    → text ≡ before ++ fitted p shape
 fit_done p shape before at e h = e ∙ ap (λ s. before ++ fitted p s) (take_all at shape h)
 
 pub ruleset fit_ways = (fit_none, fits_inside, fit_more, fit_done, rules)
@@ -118,7 +126,8 @@ module _ (a b : ℕ) (ha : a < most_operators) (hb : b < most_operators) where
   pub none_told : (p : Bool) → fitted p (dead ∷ 0x80 ∷ a ∷ 0x81 ∷ b ∷ 0x82 ∷ []) ≡ witness_bytes (no_tree (first_over_pair p a b))
   none_told p = row_of_two dead (omega arith) p
 
-  pub two_told : (p : Bool) → fitted p (double ∷ 0x80 ∷ a ∷ 0x81 ∷ b ∷ 0x82 ∷ []) ++ fitted p (a ∷ 0x80 ∷ b ∷ 0x81 ∷ 0x82 ∷ []) ++ fitted p (b ∷ a ∷ 0x80 ∷ 0x81 ∷ 0x82 ∷ [])
+  pub two_told : (p : Bool) → fitted p (double ∷ 0x80 ∷ a ∷ 0x81 ∷ b ∷ 0x82 ∷ []) ++ fitted p (a ∷ 0x80 ∷ b ∷ 0x81 ∷ 0x82 ∷ []) ++ fitted p
+      (b ∷ a ∷ 0x80 ∷ 0x81 ∷ 0x82 ∷ [])
       ≡ witness_bytes (two_trees (first_over_pair p a b) (last_over_pair p a b))
   two_told p = ap₂ ◌++◌ (ap₂ ◌++◌ (row_of_two double (omega arith) p) (first_of_two p)) (last_of_two p)
 
@@ -150,10 +159,12 @@ module _ (a b : ℕ) (ha : a < most_operators) (hb : b < most_operators) where
     last_yielding false = refl
     last_yielding true = rw (no_reading_lem a ha, stays a ha, no_reading_lem b hb, stays b hb, no_reading_lem c hc, stays c hc)
 
-    pub closing_told : (p : Bool) → fitted p (double ∷ 0x80 ∷ a ∷ 0x81 ∷ b ∷ 0x82 ∷ c ∷ 0x83 ∷ []) ++ fitted p (a ∷ 0x80 ∷ c ∷ b ∷ 0x81 ∷ 0x82 ∷ 0x83 ∷ []) ++ fitted p (c ∷ b ∷ a ∷ 0x80 ∷ 0x81 ∷ 0x82 ∷ 0x83 ∷ [])
+    pub closing_told : (p : Bool) → fitted p (double ∷ 0x80 ∷ a ∷ 0x81 ∷ b ∷ 0x82 ∷ c ∷ 0x83 ∷ []) ++ fitted p
+        (a ∷ 0x80 ∷ c ∷ b ∷ 0x81 ∷ 0x82 ∷ 0x83 ∷ []) ++ fitted p (c ∷ b ∷ a ∷ 0x80 ∷ 0x81 ∷ 0x82 ∷ 0x83 ∷ [])
         ≡ witness_bytes (two_trees (first_over_triple p a true b c) (last_over_triple p a true b c))
     closing_told p = ap₂ ◌++◌ (ap₂ ◌++◌ (row_of_three true p) (first_closing p)) (last_closing p)
 
-    pub yielding_told : (p : Bool) → fitted p (double ∷ 0x80 ∷ a ∷ 0x81 ∷ b ∷ 0x82 ∷ c ∷ 0x83 ∷ []) ++ fitted p (a ∷ 0x80 ∷ b ∷ 0x81 ∷ c ∷ 0x82 ∷ 0x83 ∷ []) ++ fitted p (c ∷ a ∷ 0x80 ∷ b ∷ 0x81 ∷ 0x82 ∷ 0x83 ∷ [])
+    pub yielding_told : (p : Bool) → fitted p (double ∷ 0x80 ∷ a ∷ 0x81 ∷ b ∷ 0x82 ∷ c ∷ 0x83 ∷ []) ++ fitted p
+        (a ∷ 0x80 ∷ b ∷ 0x81 ∷ c ∷ 0x82 ∷ 0x83 ∷ []) ++ fitted p (c ∷ a ∷ 0x80 ∷ b ∷ 0x81 ∷ 0x82 ∷ 0x83 ∷ [])
         ≡ witness_bytes (two_trees (first_over_triple p a false b c) (last_over_triple p a false b c))
     yielding_told p = ap₂ ◌++◌ (ap₂ ◌++◌ (row_of_three false p) (first_yielding p)) (last_yielding p)

@@ -21,7 +21,8 @@ use Rattle.relation.proofs.WordTests.{closes_bit}
 use Rattle.witness.proofs.FaultWays.{found_is}
 
 -- a search of a pair, or of a triple: it finds something exactly if there is one
-pub pair_some : (n c : ℕ) (r : Option (ℕ × ℕ)) (Q : ℕ × ℕ → Type 0) → MatchOption r (c ≡ n) (λ found. found.0 ≡ c) → IfSome r (λ found. (found.0 < n) × Q found) → is_some r ≡ ltb c n
+pub pair_some : (n c : ℕ) (r : Option (ℕ × ℕ)) (Q : ℕ × ℕ → Type 0) → MatchOption r (c ≡ n) (λ found. found.0 ≡ c)
+    → IfSome r (λ found. (found.0 < n) × Q found) → is_some r ≡ ltb c n
 pair_some n c None Q m s = sym (le-ltb c n (omega arith))
 pair_some n c (Some found) Q m s = let l : found.0 < n = s.0 in sym (lt-ltb c n (omega arith))
 
@@ -33,7 +34,8 @@ module _ (ops : Operators) (test : ℕ → ℕ → Bool) (shows : ℕ → ℕ �
       ∙ ap₂ shows (sym left) (ap (first_right ops test) (sym left) ∙ sym right)
 
   none_shown : first_left ops test ≡ ops.count → shown_by ops test shows other ≡ other
-  none_shown h = ap (λ x. cond x (shows (first_left ops test) (first_right ops test (first_left ops test))) other) (le-ltb (first_left ops test) ops.count (omega arith))
+  none_shown h = ap (λ x. cond x (shows (first_left ops test) (first_right ops test (first_left ops test))) other)
+      (le-ltb (first_left ops test) ops.count (omega arith))
 
 -- an operator has its bit among the prefix operators
 prefix_is : {p : Bool} (n w a : ℕ) → a < n → p ≡ bit_of w a → not (comes (operators_by n w) a) ≡ p
@@ -45,13 +47,18 @@ prefix_is n w a h e = ap not (comes_by n w a h) ∙ twice (bit_of w a) ∙ sym e
 
 -- ---- tell_triple
 module _ (n w : ℕ) (t : List ℕ) {text : List ℕ} where
-  pub sound_told : first_left (operators_by n w) (uneven_pair (operators_by n w) (closes_in t)) ≡ n → text ≡ witness_bytes sound → text ≡ witness_bytes (of_triples (operators_by n w) (closes_in t))
+  pub sound_told : first_left (operators_by n w) (uneven_pair (operators_by n w) (closes_in t)) ≡ n → text ≡ witness_bytes sound
+      → text ≡ witness_bytes (of_triples (operators_by n w) (closes_in t))
   unfolding of_triples
-  sound_told none e = e ∙ ap witness_bytes (sym (none_shown (operators_by n w) (uneven_pair (operators_by n w) (closes_in t)) (two_of_uneven (operators_by n w) (closes_in t)) sound none))
+  sound_told none e = e ∙ ap witness_bytes (sym (none_shown (operators_by n w) (uneven_pair (operators_by n w) (closes_in t))
+      (two_of_uneven (operators_by n w) (closes_in t)) sound none))
 
-  pub uneven_told : {a b c : ℕ} {p q : Bool} → n ≤ most_operators → a < n → b < n → a ≡ first_left (operators_by n w) (uneven_pair (operators_by n w) (closes_in t))
-      → b ≡ first_right (operators_by n w) (uneven_pair (operators_by n w) (closes_in t)) a → c ≡ first_third (operators_by n w) (closes_in t) a b → p ≡ bit_of w a → q ≡ bit_of (get_or t a 0) b
-      → text ≡ witness_bytes (two_trees (first_over_triple p a q b c) (last_over_triple p a q b c)) → text ≡ witness_bytes (of_triples (operators_by n w) (closes_in t))
+  pub uneven_told : {a b c : ℕ} {p q : Bool} → n ≤ most_operators → a < n → b < n
+      → a ≡ first_left (operators_by n w) (uneven_pair (operators_by n w) (closes_in t))
+      → b ≡ first_right (operators_by n w) (uneven_pair (operators_by n w) (closes_in t)) a → c ≡ first_third (operators_by n w) (closes_in t) a b
+      → p ≡ bit_of w a → q ≡ bit_of (get_or t a 0) b
+      → text ≡ witness_bytes (two_trees (first_over_triple p a q b c) (last_over_triple p a q b c))
+      → text ≡ witness_bytes (of_triples (operators_by n w) (closes_in t))
   unfolding of_triples
   uneven_told {a} {b} {c} few h l left right third e f told =
       told
@@ -72,7 +79,8 @@ module _ (n w : ℕ) (t u : List ℕ) where
   abbrev R : ℕ → ℕ → Bool
   R = closes_in t
 
-  pub dead_told : {text : List ℕ} {a b : ℕ} {p : Bool} → a < n → a ≡ first_left (operators_by n w) (both_exclude (operators_by n w) (turned (closes_in u)) (closes_in t))
+  pub dead_told : {text : List ℕ} {a b : ℕ} {p : Bool} → a < n
+      → a ≡ first_left (operators_by n w) (both_exclude (operators_by n w) (turned (closes_in u)) (closes_in t))
       → Some b ≡ if_below n (first_right (operators_by n w) (both_exclude (operators_by n w) (turned (closes_in u)) (closes_in t)) a) → p ≡ bit_of w a
       → text ≡ witness_bytes (no_tree (first_over_pair p a b)) → text ≡ witness_bytes (witness (operators_by n w) (turned (closes_in u)) (closes_in t))
   unfolding witness
@@ -83,9 +91,11 @@ module _ (n w : ℕ) (t u : List ℕ) where
       ∙ ap (λ x. no_tree (first_over_pair x a b)) (prefix_is n w a h e)))
 
   module _ (safe : first_left (operators_by n w) (both_exclude (operators_by n w) (turned (closes_in u)) (closes_in t)) ≡ n) where
-    pub double_told : {text : List ℕ} {a b : ℕ} {p : Bool} → a < n → a ≡ first_left (operators_by n w) (none_excludes (operators_by n w) (turned (closes_in u)) (closes_in t))
+    pub double_told : {text : List ℕ} {a b : ℕ} {p : Bool} → a < n
+        → a ≡ first_left (operators_by n w) (none_excludes (operators_by n w) (turned (closes_in u)) (closes_in t))
         → Some b ≡ if_below n (first_right (operators_by n w) (none_excludes (operators_by n w) (turned (closes_in u)) (closes_in t)) a) → p ≡ bit_of w a
-        → text ≡ witness_bytes (two_trees (first_over_pair p a b) (last_over_pair p a b)) → text ≡ witness_bytes (witness (operators_by n w) (turned (closes_in u)) (closes_in t))
+        → text ≡ witness_bytes (two_trees (first_over_pair p a b) (last_over_pair p a b))
+        → text ≡ witness_bytes (witness (operators_by n w) (turned (closes_in u)) (closes_in t))
     unfolding witness
     double_told {a} {b} h left right e told =
         told
@@ -95,7 +105,8 @@ module _ (n w : ℕ) (t u : List ℕ) where
         ∙ ap (λ x. two_trees (first_over_pair x a b) (last_over_pair x a b)) (prefix_is n w a h e)))
 
     pub triple_told : {text : List ℕ} → first_left (operators_by n w) (none_excludes (operators_by n w) (turned (closes_in u)) (closes_in t)) ≡ n
-        → text ≡ witness_bytes (of_triples (operators_by n w) (closes_in t)) → text ≡ witness_bytes (witness (operators_by n w) (turned (closes_in u)) (closes_in t))
+        → text ≡ witness_bytes (of_triples (operators_by n w) (closes_in t))
+        → text ≡ witness_bytes (witness (operators_by n w) (turned (closes_in u)) (closes_in t))
     unfolding witness
     triple_told total told =
         told

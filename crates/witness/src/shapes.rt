@@ -85,7 +85,8 @@ pub struct Triple {
 impl Triple {
     // It has two trees: a on top, and c on top. Either a closes before b, and b before c, or neither does.
     pub fn two_trees(self) -> Text
-        ensures { result ≡ witness_bytes (two_trees (first_over_triple self.prefix self.a self.closes self.b self.c) (last_over_triple self.prefix self.a self.closes self.b self.c)) }
+        ensures { result ≡ witness_bytes (two_trees (first_over_triple self.prefix self.a self.closes self.b self.c)
+            (last_over_triple self.prefix self.a self.closes self.b self.c)) }
     {
         let Triple {
             prefix,

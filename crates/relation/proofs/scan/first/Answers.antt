@@ -4,7 +4,8 @@ use Rattle.relation.proofs.Scanning.{first_here, first_none}
 use Rattle.relation.proofs.scan.first.Goals as goal
 
 pub returns-in-Some-clause-first : goal.returns-in-Some-clause-first
-returns-in-Some-clause-first g c = λ p returned. first_here p _ _ (omega arith) (c.loop-a.invariant p returned) (sym (returned _ _ (omega arith) c.in-Some.ensures))
+returns-in-Some-clause-first g c = λ p returned. first_here p _ _ (omega arith) (c.loop-a.invariant p returned)
+    (sym (returned _ _ (omega arith) c.in-Some.ensures))
 
 pub loop-a-preserved : goal.loop-a-preserved
 loop-a-preserved g c = λ p returned. below_more _ _ (c.loop-a.invariant p returned) (sym (returned _ _ (omega arith) c.in_default.ensures))
