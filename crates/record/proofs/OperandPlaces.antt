@@ -27,15 +27,11 @@ use Rattle.record.specs.Reach.{Reaches}
 use Rattle.record.specs.Operands.{OperandAt}
 use Rattle.record.specs.declared.Node.{Node}
 use Rattle.record.specs.declared.Node.TheVariants as node
-use Rattle.record.specs.declared.operands.Part.{Part}
 use Rattle.record.proofs.Holding.{front_all}
 use Rattle.record.proofs.Trees.{a_reading, a_bracket, a_prefix, ends_within, no_tree_lem}
 use Rattle.record.proofs.Standing.{read_back, bracket_at, prefix_at_lem, operands_in, widened, joined_in}
 use Rattle.record.proofs.Accepted.{Accepted, accepted_tree}
 use Rattle.record.proofs.Numbering.{read_number}
-
-abbrev nowhere : Part
-nowhere = record { from = 0; to = 0 }
 
 module _ (ops : Operators) (right : Bool) (bytes : List ℕ) where
   part_of_tree : (t : Tree) → record_number ops bytes ≡ accepted → tree_of (class ops) bytes ≡ some t → operand_part ops right bytes ≡ operand_record right t
