@@ -71,10 +71,10 @@ impl<'a> Row<'a> {
         // A copy, so that the loop reads through no reference but the tokens'. It goes on by pairs.
         let row = *self;
         let mut next = at;
-        while next + 1 < row.tokens.len() && token::FIRST_READING <= row.tokens[next] {
-            if row.token_at(next + 1) != Some(Token::Operator) {
-                return next;
-            }
+        while next + 1 < row.tokens.len()
+            && token::FIRST_READING <= row.tokens[next]
+            && row.token_at(next + 1) == Some(Token::Operator)
+        {
             next += 2;
         }
         next
