@@ -2,7 +2,7 @@
 use mathlib.Core.Path.{◌≡◌, refl, sym, ap, ap₂, subst, ◌∙◌}
 use mathlib.Core.Bool.{Bool, true, false, cond}
 use mathlib.Core.List.{List, [], ◌∷◌}
-use Prim.Native.Nat.{ℕ, ◌-◌, ◌<◌, ◌≤◌}
+use Prim.Native.Nat.{ℕ, ◌+◌, ◌-◌, ◌<◌, ◌≤◌}
 use native.Mathlib.Omega.{arith}
 use borrow.Author.Rules.{rules}
 use borrow.Author.Tests.{lt-ltb, le-ltb, eq-eqb, ne_eqb}
@@ -10,6 +10,11 @@ use lib.Dec.{eqb}
 use lib.ListN.{length, get_or, take, drop, length-take}
 use lib.Seq.{take_all, take-append_seam}
 use Rattle.expression.specs.Refusal.{accepted, first}
+use denote.Enum.Declared.{tag_of}
+use Rattle.expression.specs.contracts.refusal.Refusal.{the_type}
+use Rattle.expression.specs.Outcome.{number_of}
+use Rattle.expression.specs.declared.refusal.Refusal.{Refusal}
+use Rattle.expression.specs.declared.refusal.Refusal.TheVariants.{Oversize, Torn, Stranger, Dead, Double, NoRow, NoTree, Place, Empty, Short, InUse, Frame, NoMeaning, NoReading, NothingStaged, OtherRow, Conflict}
 use Rattle.expression.specs.Lent.{length_after}
 use Rattle.expression.proofs.Cond.{by_cond}
 use Rattle.disambiguation.specs.SheetChecks.{order_checks}
@@ -40,12 +45,12 @@ same_bytes {out = out} {after} {r} e s = subst (λ b. Says b out after r) (sym e
 -- ---- reply_to_sheet
 module _ (n : ℕ) (bytes : List ℕ) {before after : List ℕ} {t : Answer} (a : AnswersWith (order_checks n bytes) (explained n bytes) before after t) (h : length before ≡ most_explained) where
   -- the answer is the front of the lent array
-  answer_front : take (t.length - 0) after ≡ cond (eqb t.number accepted) (explained n bytes) []
+  answer_front : take t.length after ≡ cond (eqb t.number accepted) (explained n bytes) []
   answer_front = go (eqb t.number accepted) a.measured a.output
     where
-      go : (b : Bool) → t.length ≡ cond b (length (explained n bytes)) 0 → after ≡ cond b (with_front (explained n bytes) before) before → take (t.length - 0) after ≡ cond b (explained n bytes) []
-      go true m e = let all : t.length - 0 ≡ length (explained n bytes) = omega arith in ap₂ take all e ∙ take-append_seam (explained n bytes) (drop (length (explained n bytes)) before)
-      go false m e = let none : t.length - 0 ≡ 0 = omega arith in ap (λ m. take m after) none
+      go : (b : Bool) → t.length ≡ cond b (length (explained n bytes)) 0 → after ≡ cond b (with_front (explained n bytes) before) before → take t.length after ≡ cond b (explained n bytes) []
+      go true m e = ap₂ take m e ∙ take-append_seam (explained n bytes) (drop (length (explained n bytes)) before)
+      go false m e = ap (λ m. take m after) m
 
   answer_short : t.length ≤ most_explained
   answer_short =
@@ -55,16 +60,34 @@ module _ (n : ℕ) (bytes : List ℕ) {before after : List ℕ} {t : Answer} (a 
   pub answer_inside : length after ≡ length before → t.length ≤ length after
   answer_inside e = omega (arith, answer_short)
 
-  pub answer_fits : length (take (t.length - 0) after) ≤ 256
-  answer_fits = omega (arith, answer_short, length-take (t.length - 0) after)
+  pub answer_fits : length (take t.length after) ≤ 256
+  answer_fits = omega (arith, answer_short, length-take t.length after)
 
-  pub sheet_explained : {out written : List ℕ} {r : ℕ} → Writes t.number (take (t.length - 0) after) out written r → Says (sheet_bytes n bytes) out written r
+  pub sheet_explained : {out written : List ℕ} {r : ℕ} → Writes t.number (take t.length after) out written r → Says (sheet_bytes n bytes) out written r
   unfolding sheet_bytes
   sheet_explained w =
       let number : t.number ≡ first (order_checks n bytes) = a.numbered ∙ never_short n bytes (length before) (omega arith) in
-      says w (sheet_bytes n bytes) (ap₂ ◌∷◌ (sym number) (ap (λ m. cond (eqb m accepted) (explained n bytes) []) (sym number) ∙ sym answer_front)) (omega (arith, answer_short, length-take (t.length - 0) after))
+      says w (sheet_bytes n bytes) (ap₂ ◌∷◌ (sym number) (ap (λ m. cond (eqb m accepted) (explained n bytes) []) (sym number) ∙ sym answer_front)) (omega (arith, answer_short, length-take t.length after))
 
-pub ruleset sheet_ways = (answer_inside, answer_fits, sheet_explained, rules)
+-- the number of a refusal, as it is cast
+pub cast_is : (r : Refusal) → tag_of the_type r + 1 ≡ number_of r
+cast_is Oversize = refl
+cast_is Torn = refl
+cast_is Stranger = refl
+cast_is Dead = refl
+cast_is Double = refl
+cast_is NoRow = refl
+cast_is NoTree = refl
+cast_is Place = refl
+cast_is Empty = refl
+cast_is Short = refl
+cast_is InUse = refl
+cast_is Frame = refl
+cast_is NoMeaning = refl
+cast_is NoReading = refl
+cast_is NothingStaged = refl
+cast_is OtherRow = refl
+cast_is Conflict = refl
 
 -- ---- reply_to_frame
 short_frame_lem : (bytes : List ℕ) → length bytes < 2 → frame_bytes bytes ≡ 12 ∷ []

@@ -18,9 +18,10 @@ fn reply_to_sheet(n: u8, bytes: &[u8], out: &mut [u8]) -> usize
     ensures { Says (sheet_bytes n bytes.now) out.old out.new result }
 {
     let mut answer = [0u8; MOST_EXPLAINED];
-    let told = witness::explain_numbered(n as u32, bytes, &mut answer);
-    let until = told.length;
-    frame::write_reply(told.number, &answer[0..until], out)
+    match witness::explain(n as u32, bytes, &mut answer) {
+        Ok(length) => frame::write_reply(refusal::ACCEPTED, &answer[..length], out),
+        Err(refusal) => frame::write_number(refusal as u8, out),
+    }
 }
 
 // A frame: the kind, n and the bytes after it.
