@@ -50,7 +50,8 @@ module _ (sheet row bytes : List ℕ) where
 
   -- ---- check_beside: the record's row was written into a buffer with room for every row
   module _ (zeros : List ℕ) {own : List ℕ} (room : most_tokens ≤ length zeros) where
-    pub record_refused : (r : Refusal) → Yields ops bytes zeros own (record { number = number_of r; length = 0 }) → number_of r ≡ beside_number_in sheet row bytes
+    pub record_refused : (r : Refusal) → Yields ops bytes zeros own (record { number = number_of r; length = 0 })
+        → number_of r ≡ beside_number_in sheet row bytes
     unfolding record_number beside_number_in
     record_refused r yields =
         let is = number_is sheet bytes [] zeros room yields in

@@ -46,7 +46,8 @@ module _ (row : List ℕ) where
       record {
         counts =
             ap₂ ◌+◌ k.counts e
-            ∙ sym (ap (λ x. record_bytes (take x row)) (add-one i) ∙ ap record_bytes (take-suc row i 0 h) ∙ count_append (λ c. not (eqb c closing)) (take i row) (get_or row i 0 ∷ []) ∙ omega arith);
+            ∙ sym (ap (λ x. record_bytes (take x row)) (add-one i) ∙ ap record_bytes (take-suc row i 0 h)
+                ∙ count_append (λ c. not (eqb c closing)) (take i row) (get_or row i 0 ∷ []) ∙ omega arith);
         small = omega (arith, k.small, e, share_small (get_or row i 0));
         inside = omega arith;
       }
@@ -61,11 +62,13 @@ pub ruleset bytes_ways = (counted_none, counted_more, counted_fits, counted_all,
 
 -- ---- build_row
 module _ (sheet row out : List ℕ) where
-  pub build_refused : (r : Refusal) → number_of r ≡ row_number (operators_of sheet) row → AnswersBuild sheet row out out (record { number = number_of r; length = 0 })
+  pub build_refused : (r : Refusal) → number_of r ≡ row_number (operators_of sheet) row
+      → AnswersBuild sheet row out out (record { number = number_of r; length = 0 })
   unfolding row_number build_number
   build_refused r e =
       record {
-        numbered = e ∙ sym (first_refused (row_checks (operators_of sheet) row) (short_check (record_bytes row) (length out) ∷ []) (λ f. not_accepted r (e ∙ f)));
+        numbered = e ∙ sym (first_refused (row_checks (operators_of sheet) row) (short_check (record_bytes row) (length out) ∷ [])
+            (λ f. not_accepted r (e ∙ f)));
         measured = rw (ne_eqb (number_of r) accepted (not_accepted r));
         output = rw (ne_eqb (number_of r) accepted (not_accepted r));
       }
@@ -75,19 +78,23 @@ module _ (sheet row out : List ℕ) where
     unfolding row_number build_number
     build_short h =
         record {
-          numbered = sym (first_short (row_checks (operators_of sheet) row) (record_bytes row) (length out) (sym e) (row_numbered (operators_of sheet) row) (omega arith));
+          numbered = sym (first_short (row_checks (operators_of sheet) row) (record_bytes row) (length out) (sym e)
+              (row_numbered (operators_of sheet) row) (omega arith));
           measured = refl;
           output = refl;
         }
 
     -- the whole part is the record, and what lies past it is as before
-    pub build_done : {part : List ℕ} → m ≤ length out → part ≡ built (operators_of sheet) (closes_in sheet) row → AnswersBuild sheet row out (part ++ drop (m - 0) out) (record { number = accepted; length = m })
+    pub build_done : {part : List ℕ} → m ≤ length out → part ≡ built (operators_of sheet) (closes_in sheet) row
+        → AnswersBuild sheet row out (part ++ drop (m - 0) out) (record { number = accepted; length = m })
     unfolding row_number build_number
     build_done h same =
-        let long : length (built (operators_of sheet) (closes_in sheet) row) ≡ m = built_length_accepted (closes_in sheet) (operators_of sheet) row (sym e) ∙ sym b in
+        let long : length (built (operators_of sheet) (closes_in sheet) row) ≡ m = built_length_accepted (closes_in sheet) (operators_of sheet) row
+            (sym e) ∙ sym b in
         let ends : m - 0 ≡ length (built (operators_of sheet) (closes_in sheet) row) = omega (arith, long) in
         record {
-          numbered = sym (first_roomy (row_checks (operators_of sheet) row) (record_bytes row) (length out) (sym e) (row_numbered (operators_of sheet) row) (omega arith));
+          numbered = sym (first_roomy (row_checks (operators_of sheet) row) (record_bytes row) (length out) (sym e)
+              (row_numbered (operators_of sheet) row) (omega arith));
           measured = sym long;
           output = ap₂ ◌++◌ same (ap (λ x. drop x out) ends);
         }

@@ -59,7 +59,8 @@ module _ (ops : Operators) (closes : ℕ → ℕ → Bool) (row : List ℕ) wher
       }
 
   one_more : (i : ℕ) → i < length row → after ops closes (take (i + 1) row) ≡ next ops closes (get_or row i 0) (after ops closes (take i row))
-  one_more i h = ap (after ops closes) (ap (λ k. take k row) (add-one i) ∙ take-suc row i 0 h) ∙ run_append closes (class ops) (take i row) (get_or row i 0 ∷ []) (due bottom)
+  one_more i h = ap (after ops closes) (ap (λ k. take k row) (add-one i) ∙ take-suc row i 0 h)
+      ∙ run_append closes (class ops) (take i row) (get_or row i 0 ∷ []) (due bottom)
 
   -- the state after a token of a beginning is one from which the row's other tokens lead to a tree
   goes : (i : ℕ) → i < length row → Beginning ops closes row → Goes (next ops closes (get_or row i 0) (after ops closes (take i row)))
@@ -68,7 +69,8 @@ module _ (ops : Operators) (closes : ℕ → ℕ → Bool) (row : List ℕ) wher
       let split : row ++ b.rest ≡ take i row ++ (get_or row i 0 ∷ ahead) =
       ap (λ tokens. tokens ++ b.rest) (split_at row i 0 h) ∙ append_assoc (take i row) (get_or row i 0 ∷ drop (suc i) row) b.rest in
       goes_on ops closes (next ops closes (get_or row i 0) (after ops closes (take i row))) ahead b.tree
-      (sym (ap (λ tokens. finish (after ops closes tokens)) split ∙ ap finish (run_append closes (class ops) (take i row) (get_or row i 0 ∷ ahead) (due bottom)))
+      (sym (ap (λ tokens. finish (after ops closes tokens)) split
+          ∙ ap finish (run_append closes (class ops) (take i row) (get_or row i 0 ∷ ahead) (due bottom)))
       ∙ made_finishes ops closes (row ++ b.rest) b.tree b.makes)
 
   module _ {h : Held} {i : ℕ} (r : Reading h i) where

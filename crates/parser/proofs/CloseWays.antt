@@ -32,7 +32,8 @@ module _ (ops : Operators) (closes : ℕ → ℕ → Bool) (c : ℕ) (words : Li
     before_inside few h = omega (arith, k.some_wait.stands.inside)
 
     -- what closes is an operator, and what waits below it begins where its word says
-    module _ {word byte : ℕ} {b : Bool} (positive : 0 < first) (is_word : word ≡ get_or words (first - 1) 0) (is_byte : byte ≡ byte_in word) (told : b ≡ ends closes c byte) where
+    module _ {word byte : ℕ} {b : Bool} (positive : 0 < first) (is_word : word ≡ get_or words (first - 1) 0)
+        (is_byte : byte ≡ byte_in word) (told : b ≡ ends closes c byte) where
       is_byte_lem : byte ≡ byte_in (get_or words (first - 1) 0)
       is_byte_lem = rw is_word at is_byte
 
@@ -40,7 +41,8 @@ module _ (ops : Operators) (closes : ℕ → ℕ → Bool) (c : ℕ) (words : Li
       here = get_or words (first - 1) 0
 
       lower_stack : ends closes c byte ≡ true → (s : Stack) → Waits ops words first s
-          → (u : Stack) × Waits ops words (first - 1 - back_in here) u × (back_in here < first) × (remains (closed_by closes c) u ≡ remains (closed_by closes c) s)
+          → (u : Stack) × Waits ops words (first - 1 - back_in here) u × (back_in here < first) ×
+              (remains (closed_by closes c) u ≡ remains (closed_by closes c) s)
       unfolding ends
       lower_stack e bottom w = absurd (top_note ops words first positive bottom w)
       lower_stack e (opened s) w =
@@ -48,7 +50,8 @@ module _ (ops : Operators) (closes : ℕ → ℕ → Bool) (c : ℕ) (words : Li
           absurd (true≢false (sym (and_true (ltb byte most_operators) (closed_by closes c byte) e).0 ∙ le-ltb byte most_operators (omega arith)))
       lower_stack e (waiting f s) w =
           let (is, small, low, below) = top_note ops words first positive (waiting f s) w in
-          let closed : closed_by closes c (operator_of f) ≡ true = ap (closed_by closes c) (sym (is_byte_lem ∙ is)) ∙ (and_true (ltb byte most_operators) (closed_by closes c byte) e).1 in
+          let closed : closed_by closes c (operator_of f) ≡ true = ap (closed_by closes c) (sym (is_byte_lem ∙ is))
+              ∙ (and_true (ltb byte most_operators) (closed_by closes c byte) e).1 in
           (s, below, low, sym (rw closed refl))
 
       pub back_inside : {r : ℕ} → b ≡ true → r ≡ back_in word → r ≤ first - 1
@@ -78,7 +81,8 @@ module _ (ops : Operators) (closes : ℕ → ℕ → Bool) (c : ℕ) (words : Li
       stays e (opened s) w = refl
       stays e (waiting f s) w =
           let (is, small, low, below) = top_note ops words first positive (waiting f s) w in
-          let e' : (ltb (operator_of f) most_operators && closed_by closes c (operator_of f)) ≡ false = ap (λ x. ltb x most_operators && closed_by closes c x) (sym (is_byte_lem ∙ is)) ∙ e in
+          let e' : (ltb (operator_of f) most_operators && closed_by closes c (operator_of f)) ≡ false = ap
+              (λ x. ltb x most_operators && closed_by closes c x) (sym (is_byte_lem ∙ is)) ∙ e in
           let open_still : closed_by closes c (operator_of f) ≡ false = rw (lt-ltb (operator_of f) most_operators small) at e' in
           rw open_still refl
 

@@ -11,7 +11,8 @@ use Rattle.expression.specs.Limits.{most_operators}
 use Rattle.expression.specs.Token.{opening, Operators, class}
 use Rattle.expression.specs.Tree.{Tree, bracket, record_of, Over}
 use Rattle.expression.proofs.Classes.{infix_byte, prefix_byte}
-use Rattle.disambiguation.specs.LeftToRight.{Pending, after, ahead, operator_of, fill, Stack, bottom, opened, waiting, State, due, have, stuck, close, everything, whole, finish}
+use Rattle.disambiguation.specs.LeftToRight.{Pending, after, ahead, operator_of, fill, Stack, bottom, opened, waiting, State, due, have, stuck, close}
+use Rattle.disambiguation.specs.LeftToRight.{everything, whole, finish}
 use Rattle.disambiguation.proofs.LeftToRight.{close_keeps}
 use Rattle.parser.specs.Notes.{note, byte_in, back_in, notes_of, notes_below, notes_at}
 use Rattle.parser.specs.Reading.{OverBelow, Waits}
@@ -67,11 +68,13 @@ module _ (ops : Operators) (words : List ℕ) (first : ℕ) where
   Top w (waiting f s) = (byte_in w ≡ operator_of f) × (operator_of f < most_operators) × (back_in w < first) × Waits ops words (first - 1 - back_in w) s
 
   last_word : (xs : List ℕ) (w : ℕ) → take first words ≡ xs ++ w ∷ [] → first ≡ suc (length xs) → get_or words (first - 1) 0 ≡ w
-  last_word xs w e n = sym (get_or-take first words (first - 1) 0 (omega arith)) ∙ ap (λ x. get_or x (first - 1) 0) e ∙ get_or_at xs w [] 0 (first - 1) (omega arith)
+  last_word xs w e n = sym (get_or-take first words (first - 1) 0 (omega arith)) ∙ ap (λ x. get_or x (first - 1) 0) e
+      ∙ get_or_at xs w [] 0 (first - 1) (omega arith)
 
   pub top_note : 0 < first → (s : Stack) → Waits ops words first s → Top (get_or words (first - 1) 0) s
   top_note h bottom w = absurd (omega (arith, waits_length w))
-  top_note h (opened s) w = ap byte_in (last_word (notes_below s) (note opening 1 0) w.noted (waits_length w ∙ length_opened s)) ∙ byte_note opening 1 0 (omega arith)
+  top_note h (opened s) w = ap byte_in (last_word (notes_below s) (note opening 1 0) w.noted (waits_length w ∙ length_opened s))
+      ∙ byte_note opening 1 0 (omega arith)
   top_note h (waiting (after l o) s) w =
       let m : ℕ = length (record_of l) in
       let small = (infix_byte ops o w.over.0).0 in

@@ -52,7 +52,8 @@ module _ (s : List ℕ) (ops : Operators) (rules : List Rule) (in_force_lem : In
       ap length (built_repairs t h) ∙ same_row_same_length (class ops) (brackets ops) (repair ops (R rules) t) t c.over h c.yields
 
   -- and two trees repair to the same bytes exactly if their rows are the same.
-  pub built_equal_exactly_if : (t u : Tree) → Over (class ops) t → Over (class ops) u → (built ops (closes_in s) (yield t) ≡ built ops (closes_in s) (yield u)) ↔ (yield t ≡ yield u)
+  pub built_equal_exactly_if : (t u : Tree) → Over (class ops) t → Over (class ops) u
+      → (built ops (closes_in s) (yield t) ≡ built ops (closes_in s) (yield u)) ↔ (yield t ≡ yield u)
   built_equal_exactly_if t u ht hu = (
     λ e.
         let (v, c, p) = built_conflict_free (yield t) ((row_exactly_if_yielded ops (yield t)).1 (t, ht, refl)) in

@@ -52,7 +52,8 @@ laid_notes ops (prefix p t) v free at rest out h =
     let n : ℕ = length (record_of t) in
     let e : suc (at + free) + 0 + n ≡ at + free + suc n = omega arith in
     let f : suc (at + free) + 0 ≡ suc (at + free) = omega arith in
-    laid_note p (suc free) 0 (omega (arith, prefix_byte ops p v.0)) (omega arith) at (suc (at + free)) (at + free) (omega arith) (omega arith) (notes_of 0 t ++ rest) out
+    laid_note p (suc free) 0 (omega (arith, prefix_byte ops p v.0)) (omega arith) at (suc (at + free)) (at + free) (omega arith) (omega arith)
+        (notes_of 0 t ++ rest) out
     ∙ laid_notes ops t v.1 0 (suc (at + free)) rest (set out (at + free) p) (omega arith)
     ∙ cc
 laid_notes ops (binary o l r) v free at rest out h =
@@ -67,10 +68,12 @@ laid_notes ops (binary o l r) v free at rest out h =
     ∙ laid_note o 0 m (omega (arith, infix_byte ops o v.0)) (omega arith) (at + suc free + m) (suc (at + free) + m) (at + free) (omega arith) (omega arith)
     (notes_of 0 r ++ rest) (sets out (at + suc free) (record_of l))
     ∙ laid_notes ops r v.2 0 (suc (at + free) + m) rest (set (sets out (at + suc free) (record_of l)) (at + free) o) (omega arith)
-    ∙ cc (set_sets out (at + free) (suc (at + free)) o (record_of l) (omega arith), sets_append (set out (at + free) o) (suc (at + free)) (record_of l) (record_of r))
+    ∙ cc (set_sets out (at + free) (suc (at + free)) o (record_of l) (omega arith), sets_append (set out (at + free) o) (suc (at + free))
+        (record_of l) (record_of r))
 
 -- All of it has a place, if there is room for it.
-pub inside_notes : (ops : Operators) (t : Tree) → Over (class ops) t → (room free at : ℕ) (rest : List ℕ) → free + length (record_of t) ≤ most_tokens → at + free + length (record_of t) ≤ room
+pub inside_notes : (ops : Operators) (t : Tree) → Over (class ops) t → (room free at : ℕ) (rest : List ℕ) → free + length (record_of t) ≤ most_tokens
+    → at + free + length (record_of t) ≤ room
     → Inside room rest (at + free + length (record_of t)) → Inside room (notes_of free t ++ rest) at
 inside_notes ops (reading a) v room free at rest h g k =
     inside_note a (suc free) 0 (omega (arith, reading_byte ops a v)) (omega arith) at (at + free + 1) (at + free) (omega arith) (omega arith) rest
@@ -84,7 +87,8 @@ inside_notes ops (bracket t) v room free at rest h g k =
 inside_notes ops (prefix p t) v room free at rest h g k =
     let n : ℕ = length (record_of t) in
     let e : at + free + suc n ≡ suc (at + free) + 0 + n = omega arith in
-    inside_note p (suc free) 0 (omega (arith, prefix_byte ops p v.0)) (omega arith) at (suc (at + free)) (at + free) (omega arith) (omega arith) (notes_of 0 t ++ rest)
+    inside_note p (suc free) 0 (omega (arith, prefix_byte ops p v.0)) (omega arith) at (suc (at + free)) (at + free) (omega arith) (omega arith)
+        (notes_of 0 t ++ rest)
     room (omega arith) (omega arith)
     (inside_notes ops t v.1 room 0 (suc (at + free)) rest (omega arith) (omega arith) (rw e at k))
 inside_notes ops (binary o l r) v room free at rest h g k =
@@ -112,7 +116,8 @@ module _ (ops : Operators) (t : Tree) (v : Over (class ops) t) (few : length (re
 
   inside_record : Inside (length (record_of t)) (notes_of 0 t) 0
   unfolding Inside
-  inside_record = subst (λ (ws : List ℕ). Inside (length (record_of t)) ws 0) (append-nil (notes_of 0 t)) (inside_notes ops t v (length (record_of t)) 0 0 [] (omega arith) (omega arith) tt)
+  inside_record = subst (λ (ws : List ℕ). Inside (length (record_of t)) ws 0) (append-nil (notes_of 0 t))
+      (inside_notes ops t v (length (record_of t)) 0 0 [] (omega arith) (omega arith) tt)
 
   -- ---- words that begin with the notes
   module _ (words : List ℕ) (count : ℕ) (noted : take count words ≡ notes_of 0 t) (out : List ℕ) (e : length (record_of t) ≡ length out) where
@@ -129,7 +134,8 @@ module _ (ops : Operators) (t : Tree) (v : Over (class ops) t) (few : length (re
     enough_words = omega (arith, ap length split, length-append (notes_of 0 t) (drop count words), as_many)
 
     pub words_inside : Inside (length out) (take (length out) words) 0
-    words_inside = subst (λ (n : ℕ). Inside n (take (length out) words) 0) e (subst (λ (ws : List ℕ). Inside (length (record_of t)) ws 0) (sym first_words) inside_record)
+    words_inside = subst (λ (n : ℕ). Inside n (take (length out) words) 0) e
+        (subst (λ (ws : List ℕ). Inside (length (record_of t)) ws 0) (sym first_words) inside_record)
 
     pub words_laid : laid_out (take (length out) words) 0 out ≡ record_of t
     words_laid = ap (λ (ws : List ℕ). laid_out ws 0 out) first_words ∙ laid_record out e

@@ -72,7 +72,8 @@ module _ (ops : Operators) (closes : ℕ → ℕ → Bool) (c : ℕ) {h h' : Hel
       }
 
   -- where an operand is due, by the class of c, which is no infix operator and no closing bracket
-  where_due_lem : (k : Class) → class ops c ≡ k → (c ≡ closing → ⊥) → (s : Stack) → Noted ops h (due s) → Goes (where_due k c s) → Noted ops h' (where_due k c s)
+  where_due_lem : (k : Class) → class ops c ≡ k → (c ≡ closing → ⊥) → (s : Stack) → Noted ops h (due s) → Goes (where_due k c s)
+      → Noted ops h' (where_due k c s)
   where_due_lem Infix e not_closing_lem s n h = absurd h
   where_due_lem Prefix e not_closing_lem s n h = leads s e n
   where_due_lem Opening e not_closing_lem s n h = opens s ((brackets ops).opening_only c e) n

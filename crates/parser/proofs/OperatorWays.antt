@@ -12,7 +12,8 @@ use Rattle.expression.specs.Limits.{most_operators}
 use Rattle.expression.specs.Token.{Infix, Prefix, closing, Operators, class}
 use Rattle.expression.specs.Tree.{Tree, record_of, Over}
 use Rattle.expression.proofs.Classes.{class_operator, by_class, brackets}
-use Rattle.disambiguation.specs.LeftToRight.{after, Stack, bottom, opened, waiting, State, due, have, stuck, close, remains, everything, shut, where_due, where_read, before}
+use Rattle.disambiguation.specs.LeftToRight.{after, Stack, bottom, opened, waiting, State, due, have, stuck, close, remains, everything, shut}
+use Rattle.disambiguation.specs.LeftToRight.{where_due, where_read, before}
 use Rattle.disambiguation.proofs.LeftToRight.{close_remains}
 use Rattle.sheet.specs.Layout.{operators_of, prefix_in}
 use Rattle.sheet.proofs.Laws.{class_in}
@@ -39,12 +40,14 @@ module _ (sheet : List ℕ) (closes : ℕ → ℕ → Bool) (c : ℕ) (h : Held)
   due_stuck : (s : Stack) → Goes (where_due (class ops c) c s) → ⊥
   due_stuck s =
       by_class ops (λ k. Goes (where_due k c s) → ⊥) c (λ _ _ _ g. g)
-      (λ _ below e _. let prefix-too = sym (class_in sheet c operator below ∙ ap (λ q. cond q Prefix Infix) no_prefix) ∙ class_operator ops c operator below ∙ ap (λ q. cond q Prefix Infix) e in let clash : ◌≡◌ {A = ℕ} 0 1 = cc in omega arith)
+      (λ _ below e _. let prefix-too = sym (class_in sheet c operator below ∙ ap (λ q. cond q Prefix Infix) no_prefix)
+          ∙ class_operator ops c operator below ∙ ap (λ q. cond q Prefix Infix) e in let clash : ◌≡◌ {A = ℕ} 0 1 = cc in omega arith)
       (λ e _. omega arith) (λ e g. g) (λ h _ _. omega arith) (λ g. g)
 
   is_infix_lem : (s : Stack) (t : Tree) → Goes (where_read closes (class ops c) c s t) → class ops c ≡ Infix
   is_infix_lem s t =
-      by_class ops (λ k. Goes (where_read closes k c s t) → k ≡ Infix) c (λ _ _ _ _. refl) (λ _ _ _ g. absurd g) (λ _ g. absurd g) (λ e _. absurd (omega arith)) (λ _ _ g. absurd g)
+      by_class ops (λ k. Goes (where_read closes k c s t) → k ≡ Infix) c (λ _ _ _ _. refl) (λ _ _ _ g. absurd g) (λ _ g. absurd g)
+          (λ e _. absurd (omega arith)) (λ _ _ g. absurd g)
       (λ g. absurd g)
 
   pub operator_waits : Takeable ops closes c h → SomeWait ops h.words h.first
@@ -67,12 +70,14 @@ module _ (sheet : List ℕ) (closes : ℕ → ℕ → Bool) (c : ℕ) (h : Held)
       is_word : get_or h.words first 0 ≡ first_word
 
     left_operand : (s : Stack) (t : Tree) → Noted ops h (have s t) → Left (close (before closes c) s t).0 (close (before closes c) s t).1
-    left_operand s t n = go (close (before closes c) s t).0 (close (before closes c) s t).1 same (n.noted ∙ close_notes (before closes c) s t) (close_over ops (before closes c) s t n.over.0 n.over.1)
+    left_operand s t n = go (close (before closes c) s t).0 (close (before closes c) s t).1 same (n.noted
+        ∙ close_notes (before closes c) s t) (close_over ops (before closes c) s t n.over.0 n.over.1)
       where
         same : remains (closed_by closes c) s ≡ (close (before closes c) s t).0
         same = ap (λ b. remains (cond b everything (before closes c)) s) (ne_eqb c closing (λ e. omega arith)) ∙ sym (close_remains (before closes c) s t)
 
-        go : (u : Stack) (v : Tree) → remains (closed_by closes c) s ≡ u → take h.count h.words ≡ notes_at (have u v) → OverBelow ops u × Over (class ops) v → Left u v
+        go : (u : Stack) (v : Tree) → remains (closed_by closes c) s ≡ u → take h.count h.words ≡ notes_at (have u v)
+            → OverBelow ops u × Over (class ops) v → Left u v
         go u v e q over =
             let w = subst (λ x. Waits ops h.words first x) e (closed.left s (waits_before n)) in
             let at = waits_length ops h.words first w in
@@ -109,14 +114,16 @@ module _ (sheet : List ℕ) (closes : ℕ → ℕ → Bool) (c : ℕ) (h : Held)
     module _ {h' : Held} (frees : Frees c first h h') where
       operator_goes : (m : State) → Noted ops h m → Goes (next ops closes c m) → Noted ops h' (next ops closes c m)
       operator_goes (due s) n g = absurd (due_stuck s g)
-      operator_goes (have s t) n g = rw (is_infix_lem s t g) (go (is_infix_lem s t g) (close (before closes c) s t).0 (close (before closes c) s t).1 (left_operand s t n))
+      operator_goes (have s t) n g = rw (is_infix_lem s t g) (go (is_infix_lem s t g) (close (before closes c) s t).0 (close (before closes c) s t).1
+          (left_operand s t n))
         where
           go : class ops c ≡ Infix → (u : Stack) (v : Tree) → Left u v → Noted ops h' (due (waiting (after v c) u))
           go infix_here u v l =
               let e : h'.count ≡ suc h.count = omega (arith, frees.counted) in
               let x : ℕ = raised (get_or h.words first 0) in
               let freed : set (take h.count h.words) first x ≡ notes_below u ++ notes_of 1 v =
-              ap (λ w. set w first x) (l.noted ∙ ap (λ w. notes_below u ++ w) l.begins) ∙ set_at (notes_below u) l.first_word l.words_after x first (sym l.first_is)
+              ap (λ w. set w first x) (l.noted ∙ ap (λ w. notes_below u ++ w) l.begins)
+                  ∙ set_at (notes_below u) l.first_word l.words_after x first (sym l.first_is)
               ∙ ap (λ w. notes_below u ++ raised w ∷ l.words_after) l.is_word ∙ ap (λ w. notes_below u ++ w) (sym l.raised_to) in
               record {
                 noted =
@@ -138,7 +145,8 @@ module _ (c first : ℕ) (h : Held) (can : Raisable h first) where
   abbrev with_word : Held → ℕ → Held
   with_word i x = record { words = set i.words first x; count = i.count; first = i.first }
 
-  pub place_freed : {i h' : Held} {x y : ℕ} → i ≡ h → x ≡ raised (get_or h.words first 0) → y ≡ note c 0 (i.count - first) → Adds y first (with_word i x) h' → Frees c first h h'
+  pub place_freed : {i h' : Held} {x y : ℕ} → i ≡ h → x ≡ raised (get_or h.words first 0) → y ≡ note c 0 (i.count - first)
+      → Adds y first (with_word i x) h' → Frees c first h h'
   place_freed {h' = h'} {x} {y} same e q' adds' =
       let adds : Adds y first (with_word h x) h' = subst (λ j. Adds y first (with_word j x) h') same adds' in
       let q : y ≡ note c 0 (h.count - first) = q' ∙ ap (λ (j : Held). note c 0 (j.count - first)) same in
@@ -167,10 +175,12 @@ module _ (ops : Operators) (closes : ℕ → ℕ → Bool) (h : Held) where
     shuts : (s : Stack) (t : Tree) → Noted ops h (have s t) → Goes (shut (close everything s t).0 (close everything s t).1)
         → (1 ≤ inside) × Noted ops shorter (shut (close everything s t).0 (close everything s t).1)
     shuts s t n =
-        go (close everything s t).0 (close everything s t).1 (subst (λ x. Waits ops h.words inside x) (sym (close_remains everything s t)) (closed.left s (waits_before n)))
+        go (close everything s t).0 (close everything s t).1 (subst (λ x. Waits ops h.words inside x) (sym (close_remains everything s t))
+            (closed.left s (waits_before n)))
         (n.noted ∙ close_notes everything s t) (close_over ops everything s t n.over.0 n.over.1)
       where
-        go : (u : Stack) (v : Tree) → Waits ops h.words inside u → take h.count h.words ≡ notes_at (have u v) → OverBelow ops u × Over (class ops) v → Goes (shut u v)
+        go : (u : Stack) (v : Tree) → Waits ops h.words inside u → take h.count h.words ≡ notes_at (have u v) → OverBelow ops u × Over (class ops) v
+            → Goes (shut u v)
             → (1 ≤ inside) × Noted ops shorter (shut u v)
         go bottom v w q over g = absurd g
         go (opened u) v w q over g =

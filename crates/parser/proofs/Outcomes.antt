@@ -4,7 +4,8 @@ use native.Mathlib.Omega.{arith}
 use Rattle.expression.specs.Refusal.{accepted}
 use Rattle.expression.specs.Outcome.{number_of}
 use Rattle.expression.specs.declared.refusal.Refusal.{Refusal}
-use Rattle.expression.specs.declared.refusal.Refusal.TheVariants.{Oversize, Torn, Stranger, Dead, Double, NoRow, NoTree, Place, Empty, Short, InUse, Frame, NoMeaning, NoReading, NothingStaged, OtherRow, Conflict}
+use Rattle.expression.specs.declared.refusal.Refusal.TheVariants.{Oversize, Torn, Stranger, Dead, Double, NoRow, NoTree, Place, Empty, Short, InUse}
+use Rattle.expression.specs.declared.refusal.Refusal.TheVariants.{Frame, NoMeaning, NoReading, NothingStaged, OtherRow, Conflict}
 
 pub not_accepted : (r : Refusal) → number_of r ≡ accepted → ⊥
 not_accepted Oversize e = omega arith

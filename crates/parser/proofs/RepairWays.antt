@@ -63,7 +63,8 @@ module _ (sheet bytes out row : List ℕ) {row' : List ℕ} {y : Answer} (room :
   unfolding record_number repair_number
   repair_refused h =
       record {
-        numbered = number_is ∙ sym (first_refused (record_checks (operators_of sheet) bytes) (short_check (length bytes) (length out) ∷ []) (λ f. h (number_is ∙ f)));
+        numbered = number_is ∙ sym (first_refused (record_checks (operators_of sheet) bytes) (short_check (length bytes) (length out) ∷ [])
+            (λ f. h (number_is ∙ f)));
         measured = rw (ne_eqb y.number 0 h);
         output = rw (ne_eqb y.number 0 h);
       }
@@ -76,7 +77,8 @@ module _ (sheet bytes out row : List ℕ) {row' : List ℕ} {y : Answer} (room :
     unfolding record_number repair_number
     repair_short h =
         record {
-          numbered = sym (first_short (record_checks (operators_of sheet) bytes) (length bytes) (length out) (sym number_is ∙ zero) (record_numbered (operators_of sheet) bytes) h);
+          numbered = sym (first_short (record_checks (operators_of sheet) bytes) (length bytes) (length out) (sym number_is
+              ∙ zero) (record_numbered (operators_of sheet) bytes) h);
           measured = refl;
           output = refl;
         }
@@ -103,7 +105,8 @@ module _ (sheet bytes out row : List ℕ) {row' : List ℕ} {y : Answer} (room :
     repair_buildable = rw laid (row_buildable (closes_in sheet) (operators_of sheet) (row_here (operators_of sheet) bytes) known.is_row)
 
     pub repair_part : y.length ≤ length row'
-    repair_part = omega (arith, tokens_are, known.fits, room, ap length filled, length-append (row_here (operators_of sheet) bytes) (drop (length (row_here (operators_of sheet) bytes)) row))
+    repair_part = omega (arith, tokens_are, known.fits, room, ap length filled, length-append (row_here (operators_of sheet) bytes)
+        (drop (length (row_here (operators_of sheet) bytes)) row))
 
     pub repair_done : {part : List ℕ} → length bytes ≤ length out → part ≡ built (operators_of sheet) (closes_in sheet) (take (y.length - 0) row')
         → AnswersRepair sheet bytes out (part ++ drop (length bytes - 0) out) (record { number = 0; length = length bytes })
@@ -113,7 +116,8 @@ module _ (sheet bytes out row : List ℕ) {row' : List ℕ} {y : Answer} (room :
         built_length (closes_in sheet) (operators_of sheet) (row_here (operators_of sheet) bytes) known.is_row ∙ known.same_length in
         let ends : length bytes - 0 ≡ length (built (operators_of sheet) (closes_in sheet) (row_here (operators_of sheet) bytes)) = omega (arith, long) in
         record {
-          numbered = sym (first_roomy (record_checks (operators_of sheet) bytes) (length bytes) (length out) (sym number_is ∙ zero) (record_numbered (operators_of sheet) bytes) h);
+          numbered = sym (first_roomy (record_checks (operators_of sheet) bytes) (length bytes) (length out) (sym number_is
+              ∙ zero) (record_numbered (operators_of sheet) bytes) h);
           measured = sym long;
           output = ap₂ ◌++◌ (same ∙ ap (built (operators_of sheet) (closes_in sheet)) laid) (ap (λ x. drop x out) ends);
         }

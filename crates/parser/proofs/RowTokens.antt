@@ -58,10 +58,12 @@ module _ (ops : Operators) (row : List ℕ) (at : ℕ) where
   stands t h e q = rw (lt-ltb at (length row) h) (ap token_of e ∙ q)
 
   -- the scan over the token at a place
-  pub scan_on : at < length row → (p : Progress) → scan (class ops) p (drop at row) ≡ scan (class ops) (advance (class ops) p (get_or row at 0)) (drop (at + 1) row)
+  pub scan_on : at < length row → (p : Progress) → scan (class ops) p (drop at row)
+      ≡ scan (class ops) (advance (class ops) p (get_or row at 0)) (drop (at + 1) row)
   scan_on h p = ap (scan (class ops) p) (rest h)
 
-  pub scan_found : {t : Token} → Found t → (p : Progress) → scan (class ops) p (drop at row) ≡ scan (class ops) (advance (class ops) p (get_or row at 0)) (drop (at + 1) row)
+  pub scan_found : {t : Token} → Found t → (p : Progress) → scan (class ops) p (drop at row)
+      ≡ scan (class ops) (advance (class ops) p (get_or row at 0)) (drop (at + 1) row)
   scan_found f p = scan_on f.inside p
 
   -- a token where none such may stand
@@ -70,7 +72,8 @@ module _ (ops : Operators) (row : List ℕ) (at : ℕ) where
       ap complete (scan_on h p ∙ ap (λ q. scan (class ops) q (drop (at + 1) row)) e ∙ scan_wrong (class ops) (drop (at + 1) row))
 
   -- an operand begins with a reading, an opening bracket or a prefix operator
-  pub none_begins : (token_at ops row at ≡ Some Reading → ⊥) → (token_at ops row at ≡ Some Opening → ⊥) → (token_at ops row at ≡ Some Prefix → ⊥) → Refuses ops row at
+  pub none_begins : (token_at ops row at ≡ Some Reading → ⊥) → (token_at ops row at ≡ Some Opening → ⊥) → (token_at ops row at ≡ Some Prefix → ⊥)
+      → Refuses ops row at
   none_begins r o p = record { refused = λ d. go d (dec_lt at (length row)) }
     where
       wrong_here : (d : ℕ) → at < length row → (k : Class) → class ops (get_or row at 0) ≡ k → complete (scan (class ops) (due d) (drop at row)) ≡ false
@@ -86,7 +89,8 @@ module _ (ops : Operators) (row : List ℕ) (at : ℕ) where
       go d (no h) = let past : length row ≤ at = omega arith in rw (drop_of_length-le row past)
 
   -- inside a bracket, a row goes on with an operator or a closing bracket
-  pub open_ends : (token_at ops row at ≡ Some Operator → ⊥) → (token_at ops row at ≡ Some Closing → ⊥) → (d : ℕ) → complete (scan (class ops) (done (suc d)) (drop at row)) ≡ false
+  pub open_ends : (token_at ops row at ≡ Some Operator → ⊥) → (token_at ops row at ≡ Some Closing → ⊥) → (d : ℕ)
+      → complete (scan (class ops) (done (suc d)) (drop at row)) ≡ false
   open_ends o c d = go (dec_lt at (length row))
     where
       wrong_here : at < length row → (k : Class) → class ops (get_or row at 0) ≡ k → complete (scan (class ops) (done (suc d)) (drop at row)) ≡ false

@@ -28,7 +28,8 @@ module _ (ops : Operators) (c : ℕ) where
   pub is_reading : Fits w8 c → first_reading ≤ c → Some Reading ≡ token_of (class ops c)
   unfolding class
   is_reading f h =
-      simp (le-ltb c most_operators (omega arith), ne_eqb c opening (λ e. omega arith), ne_eqb c closing (λ e. omega arith), le-ltb c first_reading h, le-ltb last_reading c (omega arith))
+      simp (le-ltb c most_operators (omega arith), ne_eqb c opening (λ e. omega arith), ne_eqb c closing
+          (λ e. omega arith), le-ltb c first_reading h, le-ltb last_reading c (omega arith))
 
   -- an operator that is no stranger is below n
   known_below : strange_in_row (class ops c) ≡ false → c < most_operators → c < ops.count
@@ -53,7 +54,8 @@ module _ (ops : Operators) (c : ℕ) where
       go (no s) = absurd (true≢false (sym (simp (le-ltb c most_operators g, ne_eqb c opening o, ne_eqb c closing s, lt-ltb c first_reading h)) ∙ known))
 
 -- an operator of a sheet, infix or prefix
-module _ (sheet : List ℕ) (c : ℕ) {p : Bool} (known : strange_in_row (class (operators_of sheet) c) ≡ false) (h : c < most_operators) (kind : p ≡ prefix_in sheet c) where
+module _ (sheet : List ℕ) (c : ℕ) {p : Bool} (known : strange_in_row (class (operators_of sheet) c) ≡ false)
+    (h : c < most_operators) (kind : p ≡ prefix_in sheet c) where
   of_kind : class (operators_of sheet) c ≡ cond p Prefix Infix
   of_kind = class_in sheet c h (known_below (operators_of sheet) c known h) ∙ ap (λ q. cond q Prefix Infix) (sym kind)
 
@@ -74,12 +76,14 @@ module _ (ops : Operators) (row : List ℕ) (at : ℕ) where
   unfolding token_at
   is_token h e = e ∙ simp (lt-ltb at (length row) h)
 
-pub token_known : (ops : Operators) (row : List ℕ) (at : ℕ) → stranger_in_row ops row ≡ false → at < length row → strange_in_row (class ops (get_or row at 0)) ≡ false
+pub token_known : (ops : Operators) (row : List ℕ) (at : ℕ) → stranger_in_row ops row ≡ false → at < length row
+    → strange_in_row (class ops (get_or row at 0)) ≡ false
 unfolding stranger_in_row
 token_known ops row at known h = none_at (λ c. strange_in_row (class ops c)) row known at h
 
 -- the same of what is read at a place
-pub read_known : (ops : Operators) (row : List ℕ) (at : ℕ) {x : ℕ} → stranger_in_row ops row ≡ false → true ≡ ltb at (length row) → x ≡ get_or row at x → strange_in_row (class ops x) ≡ false
+pub read_known : (ops : Operators) (row : List ℕ) (at : ℕ) {x : ℕ} → stranger_in_row ops row ≡ false → true ≡ ltb at (length row)
+    → x ≡ get_or row at x → strange_in_row (class ops x) ≡ false
 read_known ops row at {x} known inside is =
     let here : at < length row = ltb-true at (length row) (sym inside) in
     subst (λ c. strange_in_row (class ops c) ≡ false) (sym (is ∙ get_or_default row at x 0 here)) (token_known ops row at known here)

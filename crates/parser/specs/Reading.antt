@@ -7,7 +7,8 @@ use Rattle.expression.specs.Token.{Infix, Prefix, closing, Operators, class}
 use Rattle.expression.specs.Tree.{Tree, record_of, Over}
 use Rattle.expression.specs.Checks.{record_bytes}
 use Rattle.sheet.specs.Layout.{prefix_in}
-use Rattle.disambiguation.specs.LeftToRight.{after, ahead, Stack, bottom, opened, waiting, State, due, have, stuck, remains, everything, before, step, state_after, made}
+use Rattle.disambiguation.specs.LeftToRight.{after, ahead, Stack, bottom, opened, waiting, State, due, have, stuck, remains, everything, before, step}
+use Rattle.disambiguation.specs.LeftToRight.{state_after, made}
 use Rattle.parser.specs.Notes.{note, raised, notes_below, notes_at}
 
 -- What is held of a row while it is read from the left: a word for each token so far, in a buffer; how many these are; and which is the first of the operand

@@ -5,7 +5,8 @@ use Rattle.claims.proofs.Claiming.{record_refused, rows_differ, never_refused, s
 use Rattle.claims.proofs.check_beside.Goals as goal
 
 pub returns-in_err-length : goal.returns-in_err-length
-returns-in_err-length c = let p = err_from_is_err_and c.from_residual.result c.from_residual.ensures.1 in rw (p.1, p.2) (record_refused _ _ _ _ (search rules) _ c.in_err-length.ensures)
+returns-in_err-length c = let p = err_from_is_err_and c.from_residual.result c.from_residual.ensures.1 in rw (p.1, p.2)
+    (record_refused _ _ _ _ (search rules) _ c.in_err-length.ensures)
 
 pub returns-then-ne : goal.returns-then-ne
 returns-then-ne c =
