@@ -1,19 +1,14 @@
 // Where the slots of the places stand in the store, as in the specification's `Store`.
-ghost use Rattle.std.specs.Prelude.{◌≡◌, ◌<◌};
-ghost use Rattle.places.specs.Store.{slot_bytes, slot_at};
+ghost use Rattle.std.specs.Prelude.{◌≡◌, ◌+◌, ◌≤◌};
+ghost use Rattle.places.specs.Store.{slot_bytes, slot_at, store_bytes};
 
-use crate::limits;
+use crate::limits::SLOT_BYTES;
+use crate::place::Place;
 
 // Where the slot of a place begins.
-pub fn slot_at(place: u8) -> usize
-    ensures { result ≡ slot_at place }
+pub fn slot_at(place: Place) -> usize
+    ensures at { result ≡ slot_at place.at }
+    ensures inside { result + slot_bytes ≤ store_bytes }
 {
-    limits::SLOT_BYTES * (place as usize)
-}
-
-// A length byte as a number of bytes.
-pub fn wide(length: u8) -> usize
-    ensures { (result ≡ length) × (result < slot_bytes) }
-{
-    length as usize
+    SLOT_BYTES * place.at as usize
 }

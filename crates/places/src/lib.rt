@@ -7,11 +7,13 @@ ghost use Rattle.run.specs.Places.{held};
 ghost use Rattle.places.specs.Store.{records_in, Enters, drawn, fresh};
 
 use expression::limits::MOST_RECORD_BYTES;
-use limits::STORE_BYTES;
+use limits::{SLOT_BYTES, STORE_BYTES};
+use place::Place;
 use std::marker::Model;
 
 mod layout;
 pub mod limits;
+pub mod place;
 mod write;
 
 // A lent store: the places one after the other; all zero is the one whose places are empty.
@@ -40,53 +42,42 @@ impl Store {
         }
     }
 
-    // The record at a place, as that part of the store; empty where the place is empty or over 15.
-    #[tactic(auto, using(crate::proofs::Ways::held_ways))]
-    pub fn held_record(&self, place: u8) -> &[u8]
-        ensures { result.now ≡ held (records_in self.now) place }
+    // The record at a place, as that part of the store; no bytes where the place is empty.
+    pub fn held_record(&self, place: Place) -> &[u8]
+        ensures { result.now ≡ held (records_in self.now) place.at }
     {
-        let whole = &self.bytes[..];
-        if limits::PLACE_COUNT <= place {
-            return &whole[0..0];
-        }
         let at = layout::slot_at(place);
         let from = at + 1;
-        let to = from + layout::wide(self.bytes[at]);
-        &whole[from..to]
+        &self.bytes[from..from + self.bytes[at] as usize]
     }
 
-    // The place holds the record of these bytes. A place over 15, or a record over 255 bytes, changes nothing.
-    pub fn put(&mut self, place: u8, bytes: &[u8])
-        ensures { Enters self.old place bytes.now self.new }
+    // The place holds the record of these bytes. A record over 255 bytes changes nothing.
+    pub fn put(&mut self, place: Place, bytes: &[u8])
+        ensures { Enters self.old place.at bytes.now self.new }
     {
-        if limits::PLACE_COUNT <= place {
-            return;
-        }
         if MOST_RECORD_BYTES < bytes.len() {
             return;
         }
-        write::image(&mut self.bytes, layout::slot_at(place), bytes);
+        let from = layout::slot_at(place);
+        write::image(&mut self.bytes[from..from + SLOT_BYTES], bytes);
     }
 
     // The place is empty.
-    pub fn clear(&mut self, place: u8)
-        ensures { Enters self.old place [] self.new }
+    pub fn clear(&mut self, place: Place)
+        ensures { Enters self.old place.at [] self.new }
     {
-        if limits::PLACE_COUNT <= place {
-            return;
-        }
-        write::zeros(&mut self.bytes, layout::slot_at(place), limits::SLOT_BYTES);
+        let from = layout::slot_at(place);
+        self.bytes[from..from + SLOT_BYTES].fill(0);
     }
 
     // The image of a place goes to the front of the output, where there is room for it.
-    #[tactic(auto, using(crate::proofs::Ways::draw_ways))]
-    pub fn draw(&self, place: u8, out: &mut [u8])
-        ensures { out.new ≡ drawn (image_of (held (records_in self.now) place)) out.old }
+    pub fn draw(&self, place: Place, out: &mut [u8])
+        ensures { out.new ≡ drawn (image_of (held (records_in self.now) place.at)) out.old }
     {
         if out.len() < limits::IMAGE_BYTES {
             return;
         }
         let record = self.held_record(place);
-        write::image(out, 0, record);
+        write::image(&mut out[..limits::IMAGE_BYTES], record);
     }
 }
