@@ -11,6 +11,7 @@ ghost use Rattle.places.specs.Memory.{memory};
 ghost use Rattle.monitor.specs.CallContracts.{Changes, Stages, Puts, Drops, AnswersOn, AnswersUnder, AnswersFrom, Judges, NumbersOperand, PlacesOperand};
 ghost use Rattle.frame.specs.CallContracts.{Replies};
 
+use expression::refusal;
 use frame::limits::MOST_REPLY;
 use places::Store;
 use record::operands::Part;
@@ -32,30 +33,21 @@ pub extern "C" fn tihvomen_operators(sheet: &Sheet) -> u8
 pub extern "C" fn tihvomen_stage(staged: &mut Sheet, n: u32, bytes: &[u8]) -> u8
     ensures { Stages staged.old (stage n bytes.now) result staged.new }
 {
-    monitor::stage(staged, n, bytes)
+    refusal::number(&monitor::stage(staged, n, bytes))
 }
 
 #[unsafe(no_mangle)]
-pub extern "C" fn tihvomen_switch(
-    sheet: &mut Sheet,
-    staged: &mut Sheet,
-    places: &mut Store,
-) -> u8
+pub extern "C" fn tihvomen_switch(sheet: &mut Sheet, staged: &mut Sheet, places: &mut Store) -> u8
     ensures { Changes (memory sheet.old staged.old places.old) switch result (memory sheet.new staged.new places.new) }
 {
-    monitor::switch(sheet, staged, places)
+    refusal::number(&monitor::switch(sheet, staged, places))
 }
 
 #[unsafe(no_mangle)]
-pub extern "C" fn tihvomen_put_row(
-    sheet: &Sheet,
-    places: &mut Store,
-    place: u32,
-    row: &[u8],
-) -> u8
+pub extern "C" fn tihvomen_put_row(sheet: &Sheet, places: &mut Store, place: u32, row: &[u8]) -> u8
     ensures { Puts sheet.now places.old (put_row place row.now) result places.new }
 {
-    monitor::put_row(sheet, places, place, row)
+    refusal::number(&monitor::put_row(sheet, places, place, row))
 }
 
 #[unsafe(no_mangle)]
@@ -67,7 +59,7 @@ pub extern "C" fn tihvomen_put_record(
 ) -> u8
     ensures { Puts sheet.now places.old (put_record place bytes.now) result places.new }
 {
-    monitor::put_record(sheet, places, place, bytes)
+    refusal::number(&monitor::put_record(sheet, places, place, bytes))
 }
 
 #[unsafe(no_mangle)]
@@ -80,25 +72,21 @@ pub extern "C" fn tihvomen_put_claim(
 ) -> u8
     ensures { Puts sheet.now places.old (put_claim place row.now bytes.now) result places.new }
 {
-    monitor::put_claim(sheet, places, place, row, bytes)
+    refusal::number(&monitor::put_claim(sheet, places, place, row, bytes))
 }
 
 #[unsafe(no_mangle)]
 pub extern "C" fn tihvomen_drop(places: &mut Store, place: u32) -> u8
     ensures { Drops places.old place result places.new }
 {
-    monitor::drop_place(places, place)
+    refusal::number(&monitor::drop_place(places, place))
 }
 
 #[unsafe(no_mangle)]
-pub extern "C" fn tihvomen_fetch_record(
-    places: &Store,
-    place: u32,
-    out: &mut [u8],
-) -> Answer
+pub extern "C" fn tihvomen_fetch_record(places: &Store, place: u32, out: &mut [u8]) -> Answer
     ensures { AnswersFrom places.now (fetch_record place out.old) result out.new }
 {
-    monitor::fetch_record(places, place, out)
+    monitor::fetch_record(places, place, out).into()
 }
 
 #[unsafe(no_mangle)]
@@ -110,57 +98,49 @@ pub extern "C" fn tihvomen_fetch_row(
 ) -> Answer
     ensures { AnswersOn sheet.now places.now (fetch_row place out.old) result out.new }
 {
-    monitor::fetch_row(sheet, places, place, out)
+    monitor::fetch_row(sheet, places, place, out).into()
 }
 
 #[unsafe(no_mangle)]
 pub extern "C" fn tihvomen_image(places: &Store, place: u32, out: &mut [u8]) -> Answer
     ensures { AnswersFrom places.now (image place out.old) result out.new }
 {
-    monitor::image(places, place, out)
+    monitor::image(places, place, out).into()
 }
 
 #[unsafe(no_mangle)]
 pub extern "C" fn tihvomen_build(sheet: &Sheet, row: &[u8], out: &mut [u8]) -> Answer
     ensures { AnswersUnder sheet.now (build row.now out.old) result out.new }
 {
-    monitor::build(sheet, row, out)
+    monitor::build(sheet, row, out).into()
 }
 
 #[unsafe(no_mangle)]
-pub extern "C" fn tihvomen_repair(
-    sheet: &Sheet,
-    bytes: &[u8],
-    out: &mut [u8],
-) -> Answer
+pub extern "C" fn tihvomen_repair(sheet: &Sheet, bytes: &[u8], out: &mut [u8]) -> Answer
     ensures { AnswersUnder sheet.now (repair bytes.now out.old) result out.new }
 {
-    monitor::repair(sheet, bytes, out)
+    monitor::repair(sheet, bytes, out).into()
 }
 
 #[unsafe(no_mangle)]
 pub extern "C" fn tihvomen_judge(sheet: &Sheet, bytes: &[u8]) -> Judgement
     ensures { Judges sheet.now bytes.now result }
 {
-    monitor::judge(sheet, bytes)
+    monitor::judge(sheet, bytes).into()
 }
 
 #[unsafe(no_mangle)]
 pub extern "C" fn tihvomen_yield(sheet: &Sheet, bytes: &[u8], out: &mut [u8]) -> Answer
     ensures { AnswersUnder sheet.now (yield bytes.now out.old) result out.new }
 {
-    monitor::yield_row(sheet, bytes, out)
+    monitor::yield_row(sheet, bytes, out).into()
 }
 
 #[unsafe(no_mangle)]
-pub extern "C" fn tihvomen_shortest_row(
-    sheet: &Sheet,
-    bytes: &[u8],
-    out: &mut [u8],
-) -> Answer
+pub extern "C" fn tihvomen_shortest_row(sheet: &Sheet, bytes: &[u8], out: &mut [u8]) -> Answer
     ensures { AnswersUnder sheet.now (shortest_row bytes.now out.old) result out.new }
 {
-    monitor::shortest_row(sheet, bytes, out)
+    monitor::shortest_row(sheet, bytes, out).into()
 }
 
 // The number of an operand call, for either side.
@@ -168,7 +148,7 @@ pub extern "C" fn tihvomen_shortest_row(
 pub extern "C" fn tihvomen_operand_number(sheet: &Sheet, bytes: &[u8]) -> u8
     ensures { NumbersOperand sheet.now bytes.now result }
 {
-    monitor::operand_number(sheet, bytes)
+    refusal::number(&monitor::check_operand(sheet, bytes))
 }
 
 // The place of an operand in the caller's record.

@@ -28,7 +28,11 @@ use Rattle.run.proofs.Places.{empty_true, empty_false}
 use Rattle.evaluator.specs.Value.{lacks_meaning, lacks_reading, tree_checks}
 use Rattle.evaluator.specs.Bytes.{any_meaningless, any_beyond}
 use Rattle.evaluator.specs.Walk.{Evaluable, IsValue}
-use Rattle.std.specs.Prelude.{Ok}
+use Rattle.std.specs.Prelude.{Ok, Err}
+use Rattle.expression.specs.declared.refusal.Refusal.{Refusal}
+use Rattle.expression.specs.declared.refusal.Refusal.TheVariants as refusal
+use Rattle.expression.specs.Outcome as outcome
+use Rattle.sheet.proofs.Loading.{refusal_told}
 use Rattle.evaluator.specs.Outcome.{evaluation_of}
 use Rattle.evaluator.specs.Evaluation.{EvaluatesOn, evaluated, checks_in, value_in, record_and_tree, number_of, evaluation_of_record, evaluation}
 use Rattle.evaluator.specs.declared.Evaluation.{Evaluation}
@@ -144,15 +148,21 @@ module _ (meanings : List ℕ) (readings : List ℤ) (sheet : List ℕ) (places 
               λ staged. q ∙ ap (λ b. evaluated (first (place_check k ∷ empty_check b ∷ record_and_tree meanings readings (operators_of sheet) b)) (value_in meanings readings (tree_of (class (operators_of sheet)) b))) e;
         }
 
-    module _ (h : k < place_count) where
-      pub none_held : {r : Evaluation} → length bytes ≡ 0 → r ≡ record { number = empty; value = pos 0 } → EvaluatesOn meanings readings sheet places k r
-      none_held z q = as_held (refused empty _ _ (rw (lt-ltb k place_count h, empty_true bytes z)) (λ e. omega arith) q)
+    pub none_held : {r : Evaluation} → k < place_count → length bytes ≡ 0 → r ≡ record { number = empty; value = pos 0 } → EvaluatesOn meanings readings sheet places k r
+    none_held h z q = as_held (refused empty _ _ (rw (lt-ltb k place_count h, empty_true bytes z)) (λ e. omega arith) q)
 
-      pub held_valued : {r : Evaluation} → (length bytes ≡ 0 → ⊥) → r ≡ evaluation_of_record meanings readings (operators_of sheet) bytes → EvaluatesOn meanings readings sheet places k r
-      unfolding evaluation_of_record number_of
-      held_valued n q = as_held (rw (lt-ltb k place_count h, empty_false bytes n) q)
+    pub held_valued : {r : Evaluation} → k < place_count → (length bytes ≡ 0 → ⊥) → r ≡ evaluation_of_record meanings readings (operators_of sheet) bytes
+        → EvaluatesOn meanings readings sheet places k r
+    unfolding evaluation_of_record number_of
+    held_valued h n q = as_held (rw (lt-ltb k place_count h, empty_false bytes n) q)
 
-  pub over : {r : Evaluation} → place_count ≤ k → r ≡ record { number = place; value = pos 0 } → EvaluatesOn meanings readings sheet places k r
-  over h q = as_held refl (refused place _ _ (rw (le-ltb k place_count h)) (λ e. omega arith) q)
+  pub over : {e : Refusal} → e ≡ refusal.Place → place_count ≤ k → {r : Evaluation} → r ≡ evaluation_of (Err e) → EvaluatesOn meanings readings sheet places k r
+  over q h w = as_held refl (refused place _ _ (rw (le-ltb k place_count h)) (λ e. omega arith) (w ∙ ap (λ x. evaluation_of (Err x)) q))
+
+  -- a refusal of the record that the place holds
+  pub record_refused : {at : ℕ} → at ≡ k → at < place_count → {bytes : List ℕ} → bytes ≡ held places at → (length bytes ≡ 0 → ⊥) → (e : Refusal)
+      → outcome.number_of e ≡ number_of meanings readings (operators_of sheet) bytes → EvaluatesOn meanings readings sheet places k (evaluation_of (Err e))
+  record_refused {at} there below {bytes} holds n e known =
+      held_valued (holds ∙ ap (held places) there) (omega arith) n (refused_record meanings readings (operators_of sheet) bytes known (refusal_told e) refl)
 
 pub ruleset evaluate_ways = (over, none_held, held_valued, refused_record, can_be_valued, valued, rules)

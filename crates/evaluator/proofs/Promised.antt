@@ -40,7 +40,7 @@ module _ (cs : List Call) (k : ℕ) (meanings : List ℕ) (readings : List ℤ) 
   bytes = held (panel_after cs).places k
 
   no_place : place_count ≤ k → answer cs k meanings readings ≡ evaluated place (pos 0)
-  no_place h = sym ((over meanings readings (panel_after cs).sheet (panel_after cs).places k h refl).answers (panel_after cs).staged)
+  no_place h = sym ((over meanings readings (panel_after cs).sheet (panel_after cs).places k refl h refl).answers (panel_after cs).staged)
 
   nothing_held : k < place_count → last_put k cs ≡ none → answer cs k meanings readings ≡ evaluated empty (pos 0)
   nothing_held h q =

@@ -9,7 +9,7 @@ ghost use Rattle.evaluator.specs.Outcome.{evaluation_of};
 
 use expression::refusal::{self, Refusal};
 use lent::Lent;
-use places::{Store, limits};
+use places::{Place, Store};
 use sheet::Sheet;
 
 mod checks;
@@ -47,10 +47,8 @@ pub fn evaluate(
 ) -> Result<i32, Refusal>
     ensures { EvaluatesOn meanings.now readings.now sheet.now (records_in places.now) place (evaluation_of result) }
 {
-    if limits::PLACE_COUNT as u32 <= place {
-        return Err(Refusal::Place);
-    }
-    let bytes = places.held_record(place as u8);
+    let place = Place::try_from(place)?;
+    let bytes = places.held_record(place);
     if bytes.is_empty() {
         return Err(Refusal::Empty);
     }

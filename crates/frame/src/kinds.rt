@@ -76,48 +76,48 @@ fn run_kind(
     ensures { Tells (memory sheet.old staged.old places.old) (call_of kind rest.now) answer.old answer.new (memory sheet.new staged.new places.new) result }
 {
     if kind == JUDGE {
-        let j = monitor::judge(sheet, rest);
+        let j = monitor::numbered::judge(sheet, rest);
         return judged(j, answer);
     }
     if kind == REPAIR {
-        return monitor::repair(sheet, rest, answer);
+        return monitor::numbered::repair(sheet, rest, answer);
     }
     let length = rest.len();
     if length == 0 {
         if kind == SWITCH {
-            let number = monitor::switch(sheet, staged, places);
+            let number = monitor::numbered::switch(sheet, staged, places);
             return numbered(number);
         }
         return numbered(refusal::FRAME);
     }
     let named = wide(rest[0]);
     if kind == STAGE {
-        let number = monitor::stage(staged, named, &rest[1..length]);
+        let number = monitor::numbered::stage(staged, named, &rest[1..length]);
         return numbered(number);
     }
     if kind == PUT_ROW {
-        let number = monitor::put_row(sheet, places, named, &rest[1..length]);
+        let number = monitor::numbered::put_row(sheet, places, named, &rest[1..length]);
         return numbered(number);
     }
     if kind == PUT_RECORD {
-        let number = monitor::put_record(sheet, places, named, &rest[1..length]);
+        let number = monitor::numbered::put_record(sheet, places, named, &rest[1..length]);
         return numbered(number);
     }
     if length != 1 {
         return numbered(refusal::FRAME);
     }
     if kind == DROP {
-        let number = monitor::drop_place(places, named);
+        let number = monitor::numbered::drop_place(places, named);
         return numbered(number);
     }
     if kind == FETCH_RECORD {
-        return monitor::fetch_record(places, named, answer);
+        return monitor::numbered::fetch_record(places, named, answer);
     }
     if kind == FETCH_ROW {
-        return monitor::fetch_row(sheet, places, named, answer);
+        return monitor::numbered::fetch_row(sheet, places, named, answer);
     }
     if kind == IMAGE {
-        return monitor::image(places, named, answer);
+        return monitor::numbered::image(places, named, answer);
     }
     numbered(refusal::FRAME)
 }

@@ -1,5 +1,9 @@
 -- What each way through the questions gives, from what is known on it. Assumes nothing.
-use mathlib.Core.Path.{◌≡◌, refl, sym, ap, ap₂, ◌∙◌}
+use mathlib.Core.Path.{◌≡◌, refl, sym, ap, ap₂, subst, ◌∙◌}
+use Rattle.std.specs.Prelude.{Err}
+use Rattle.expression.specs.declared.refusal.Refusal.{Refusal}
+use Rattle.expression.specs.declared.refusal.Refusal.TheVariants as refusal
+use Rattle.record.specs.Outcome.{answer_of}
 use mathlib.Core.Bool.{false}
 use mathlib.Core.List.{List, ◌++◌}
 use Prim.Native.Nat.{ℕ, ◌<◌, ◌≤◌}
@@ -77,14 +81,22 @@ module _ (store : List ℕ) (k : ℕ) (out : List ℕ) where
       → AnswersFrom store (fetch_record k out) (record { number = number; length = 0 }) out
   record_refused number e h = record { answers = λ sheet staged. refused (memory sheet staged store) (fetch_record k out) number (e sheet staged) h }
 
-  pub record_over : place_count ≤ k → AnswersFrom store (fetch_record k out) (record { number = 8; length = 0 }) out
+  pub record_over : {e : Refusal} → e ≡ refusal.Place → place_count ≤ k → AnswersFrom store (fetch_record k out) (answer_of (Err e)) out
   unfolding fetch_record_number
-  record_over h = record_refused 8 (λ sheet staged. simp (le-ltb k place_count h)) (λ e. omega arith)
+  record_over q h =
+      subst (λ (x : Refusal). AnswersFrom store (fetch_record k out) (answer_of (Err x)) out) (sym q)
+      (record_refused 8 (λ sheet staged. simp (le-ltb k place_count h)) (λ e. omega arith))
 
-  module _ (h : k < place_count) {bytes : List ℕ} (e : bytes ≡ held (records_in store) k) where
+  module _ {at : ℕ} (there : at ≡ k) (below : at < place_count) {bytes : List ℕ} (holds : bytes ≡ held (records_in store) at) where
+    place_inside : k < place_count
+    place_inside = omega arith
+
+    e : bytes ≡ held (records_in store) k
+    e = holds ∙ ap (held (records_in store)) there
+
     pub record_none : length bytes ≡ 0 → AnswersFrom store (fetch_record k out) (record { number = 9; length = 0 }) out
     unfolding fetch_record_number
-    record_none z = record_refused 9 (λ sheet staged. simp (lt-ltb k place_count h, empty_true (held (records_in store) k) (ap length (sym e) ∙ z))) (λ e. omega arith)
+    record_none z = record_refused 9 (λ sheet staged. simp (lt-ltb k place_count place_inside, empty_true (held (records_in store) k) (ap length (sym e) ∙ z))) (λ e. omega arith)
 
     module _ (n : length bytes ≡ 0 → ⊥) where
       some_held : is_empty (held (records_in store) k) ≡ false
@@ -93,7 +105,7 @@ module _ (store : List ℕ) (k : ℕ) (out : List ℕ) where
       pub record_short : length out < length bytes → AnswersFrom store (fetch_record k out) (record { number = 10; length = 0 }) out
       unfolding fetch_record_number
       record_short l =
-          record_refused 10 (λ sheet staged. simp (lt-ltb k place_count h, some_held, lt-ltb (length out) (length (held (records_in store) k)) (omega (arith, ap length e)))) (λ e. omega arith)
+          record_refused 10 (λ sheet staged. simp (lt-ltb k place_count place_inside, some_held, lt-ltb (length out) (length (held (records_in store) k)) (omega (arith, ap length e)))) (λ e. omega arith)
 
       pub record_done : {later : List ℕ} → length bytes ≤ length out → later ≡ bytes ++ drop (length bytes) out
           → AnswersFrom store (fetch_record k out) (record { number = 0; length = length bytes }) later
@@ -102,7 +114,7 @@ module _ (store : List ℕ) (k : ℕ) (out : List ℕ) where
           let front : later ≡ held (records_in store) k ++ drop (length (held (records_in store) k)) out = a ∙ ap₂ ◌++◌ e (ap (λ x. drop (length x) out) e) in
           record {
             answers = λ sheet staged.
-                done (memory sheet staged store) (fetch_record k out) (simp (lt-ltb k place_count h, some_held, le-ltb (length out) (length (held (records_in store) k)) (omega (arith, ap length e))))
+                done (memory sheet staged store) (fetch_record k out) (simp (lt-ltb k place_count place_inside, some_held, le-ltb (length out) (length (held (records_in store) k)) (omega (arith, ap length e))))
                 (ap length e) front;
           }
 
@@ -110,16 +122,24 @@ pub ruleset fetch_record_ways = (record_over, record_none, record_short, record_
 
 -- ---- fetch_row
 module _ (sheet store : List ℕ) (k : ℕ) (out : List ℕ) where
-  pub row_over : place_count ≤ k → AnswersOn sheet store (fetch_row k out) (record { number = 8; length = 0 }) out
+  pub row_over : {e : Refusal} → e ≡ refusal.Place → place_count ≤ k → AnswersOn sheet store (fetch_row k out) (answer_of (Err e)) out
   unfolding fetch_row_number
-  row_over h = record { answers = λ staged. refused (memory sheet staged store) (fetch_row k out) 8 (simp (le-ltb k place_count h)) (λ e. omega arith) }
+  row_over q h =
+      subst (λ (x : Refusal). AnswersOn sheet store (fetch_row k out) (answer_of (Err x)) out) (sym q)
+      (record { answers = λ staged. refused (memory sheet staged store) (fetch_row k out) 8 (simp (le-ltb k place_count h)) (λ e. omega arith) })
 
-  module _ (h : k < place_count) {bytes : List ℕ} (e : bytes ≡ held (records_in store) k) where
+  module _ {at : ℕ} (there : at ≡ k) (below : at < place_count) {bytes : List ℕ} (holds : bytes ≡ held (records_in store) at) where
+    row_inside : k < place_count
+    row_inside = omega arith
+
+    row_held : bytes ≡ held (records_in store) k
+    row_held = holds ∙ ap (held (records_in store)) there
+
     pub row_none : length bytes ≡ 0 → AnswersOn sheet store (fetch_row k out) (record { number = 9; length = 0 }) out
     unfolding fetch_row_number
     row_none z =
         record {
-          answers = λ staged. refused (memory sheet staged store) (fetch_row k out) 9 (simp (lt-ltb k place_count h, empty_true (held (records_in store) k) (ap length (sym e) ∙ z))) (λ e. omega arith);
+          answers = λ staged. refused (memory sheet staged store) (fetch_row k out) 9 (simp (lt-ltb k place_count row_inside, empty_true (held (records_in store) k) (ap length (sym row_held) ∙ z))) (λ e. omega arith);
         }
 
     pub row_yielded : {later : List ℕ} {r : Answer} → (length bytes ≡ 0 → ⊥) → Yields (operators_of sheet) bytes out later r → AnswersOn sheet store (fetch_row k out) r later
@@ -128,10 +148,10 @@ module _ (sheet store : List ℕ) (k : ℕ) (out : List ℕ) where
         record {
           answers = λ staged.
               let due : yield_number (operators_of sheet) (held (records_in store) k) (length out) ≡ fetch_row_number (panel_in (memory sheet staged store)) k (length out) =
-              simp (lt-ltb k place_count h, empty_false (held (records_in store) k) (λ z. n (ap length e ∙ z))) in
+              simp (lt-ltb k place_count row_inside, empty_false (held (records_in store) k) (λ z. n (ap length row_held ∙ z))) in
               as_told (memory sheet staged store) (fetch_row k out) (yield_number (operators_of sheet) bytes (length out)) (row_of (tree_of (class (operators_of sheet)) bytes))
-              (ap (λ b. yield_number (operators_of sheet) b (length out)) e ∙ due)
-              (ap (λ b. row_of (tree_of (class (operators_of sheet)) b)) e) y.numbered y.measured y.output;
+              (ap (λ b. yield_number (operators_of sheet) b (length out)) row_held ∙ due)
+              (ap (λ b. row_of (tree_of (class (operators_of sheet)) b)) row_held) y.numbered y.measured y.output;
         }
 
 pub ruleset fetch_row_ways = (row_over, row_none, row_yielded, rules)
@@ -142,18 +162,24 @@ module _ (store : List ℕ) (k : ℕ) (out : List ℕ) where
       → AnswersFrom store (image k out) (record { number = number; length = 0 }) out
   image_refused number e h = record { answers = λ sheet staged. refused (memory sheet staged store) (image k out) number (e sheet staged) h }
 
-  pub image_over : place_count ≤ k → AnswersFrom store (image k out) (record { number = 8; length = 0 }) out
+  pub image_over : {e : Refusal} → e ≡ refusal.Place → place_count ≤ k → AnswersFrom store (image k out) (answer_of (Err e)) out
   unfolding image_number
-  image_over h = image_refused 8 (λ sheet staged. simp (le-ltb k place_count h)) (λ e. omega arith)
+  image_over q h =
+      subst (λ (x : Refusal). AnswersFrom store (image k out) (answer_of (Err x)) out) (sym q)
+      (image_refused 8 (λ sheet staged. simp (le-ltb k place_count h)) (λ e. omega arith))
 
-  pub image_short : k < place_count → length out < image_bytes → AnswersFrom store (image k out) (record { number = 10; length = 0 }) out
+  pub image_short : {at : ℕ} → at ≡ k → at < place_count → length out < image_bytes → AnswersFrom store (image k out) (record { number = 10; length = 0 }) out
   unfolding image_number
-  image_short h l = image_refused 10 (λ sheet staged. simp (lt-ltb k place_count h, lt-ltb (length out) image_bytes l)) (λ e. omega arith)
+  image_short there below l =
+      let h : k < place_count = omega arith in
+      image_refused 10 (λ sheet staged. simp (lt-ltb k place_count h, lt-ltb (length out) image_bytes l)) (λ e. omega arith)
 
-  pub image_done : {later : List ℕ} → k < place_count → image_bytes ≤ length out → later ≡ drawn (image_of (held (records_in store) k)) out
+  pub image_done : {at : ℕ} {later : List ℕ} → at ≡ k → at < place_count → image_bytes ≤ length out → later ≡ drawn (image_of (held (records_in store) at)) out
       → AnswersFrom store (image k out) (record { number = 0; length = image_bytes }) later
   unfolding image_number drawn
-  image_done {later} h l a =
+  image_done {at} {later} there below l a' =
+      let h : k < place_count = omega arith in
+      let a : later ≡ drawn (image_of (held (records_in store) k)) out = a' ∙ ap (λ (i : ℕ). drawn (image_of (held (records_in store) i)) out) there in
       let front : later ≡ image_of (held (records_in store) k) ++ drop (length (image_of (held (records_in store) k))) out = a ∙ rw (le-ltb (length out) image_bytes l) in
       record {
         answers = λ sheet staged.

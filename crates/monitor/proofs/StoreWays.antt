@@ -1,13 +1,17 @@
 -- What each way through the calls that store at a place gives, from what is known on it. Assumes nothing.
 use mathlib.Core.Path.{◌≡◌, refl, sym, ap, subst, ◌∙◌}
 use mathlib.Core.List.{List, [], ◌∷◌, ◌++◌}
-use Prim.Native.Nat.{ℕ, ◌-◌, ◌<◌, ◌≤◌}
+use Prim.Native.Nat.{ℕ, ◌<◌, ◌≤◌}
 use native.Mathlib.Omega.{arith}
-use lib.ListN.{length, take, drop, length-append}
+use lib.ListN.{length, take, drop}
 use lib.Seq.{take_at}
 use borrow.Author.Tests.{lt-ltb, le-ltb, ne_eqb}
 use borrow.Author.Rules.{rules}
-use Rattle.expression.specs.Refusal.{Check, first}
+use Rattle.std.specs.Prelude.{Ok, Err}
+use Rattle.expression.specs.Refusal.{Check, first, accepted}
+use Rattle.expression.specs.Outcome.{number_of}
+use Rattle.expression.specs.declared.refusal.Refusal.{Refusal}
+use Rattle.expression.specs.declared.refusal.Refusal.TheVariants as refusal
 use Rattle.expression.specs.Lent.{output_after, length_after}
 use Rattle.expression.specs.Limits.{most_record_bytes}
 use Rattle.expression.specs.Token.{class}
@@ -20,9 +24,11 @@ use Rattle.sheet.specs.Layout.{operators_of}
 use Rattle.sheet.specs.Relation.{closes_in}
 use Rattle.record.specs.Answers.{count_in}
 use Rattle.record.specs.declared.Answer.{Answer}
+use Rattle.record.specs.Outcome.{answer_of}
 use Rattle.parser.specs.Build.{built}
 use Rattle.parser.specs.Answers.{AnswersBuild, AnswersRepair}
 use Rattle.parser.proofs.BuildLaws.{built_length, built_length_accepted}
+use Rattle.parser.proofs.Outcomes.{not_accepted}
 use Rattle.parser.proofs.RepairWays.{accepted_record}
 use Rattle.claims.specs.Claims.{same_bytes, claim_checks, beside_checks, pair_checks_in, claim_number_in}
 use Rattle.run.specs.Places.{place_count, held, stored}
@@ -60,11 +66,8 @@ module _ {r : Answer} (answer before : List ℕ) {after : List ℕ} (measured : 
   filled : after ≡ answer ++ drop (length answer) before
   filled = output ∙ rw zero
 
-  front_is : take (r.length - 0) after ≡ answer
-  front_is = ap (take (r.length - 0)) filled ∙ take_at answer (drop (length answer) before) (r.length - 0) (omega (arith, size_is))
-
-  front_inside : r.length ≤ length after
-  front_inside = omega (arith, size_is, ap length filled, length-append answer (drop (length answer) before))
+  front_is : take r.length after ≡ answer
+  front_is = ap (take r.length) filled ∙ take_at answer (drop (length answer) before) r.length (sym size_is)
 
 -- ---- what is stored where the number is 0
 module _ (number : ℕ) (bytes store : List ℕ) (k : ℕ) where
@@ -80,7 +83,7 @@ module _ (number : ℕ) (bytes store : List ℕ) (k : ℕ) where
         kept = λ h. absurd (h refl);
       }
 
--- ---- store_row
+-- ---- a row
 module _ (sheet store : List ℕ) (k : ℕ) {row before after : List ℕ} {r : Answer} (room : most_record_bytes ≤ length before) (a : AnswersBuild sheet row before after r) where
   abbrev record_of_row : List ℕ
   record_of_row = built (operators_of sheet) (closes_in sheet) row
@@ -97,17 +100,12 @@ module _ (sheet store : List ℕ) (k : ℕ) {row before after : List ℕ} {r : A
         let e = sym row_number_is ∙ zero in
         omega (arith, built_length_accepted (closes_in sheet) (operators_of sheet) row e, few_bytes row, ((row_accepted (operators_of sheet) row).0 e).0)
 
-    pub row_part : r.length ≤ length after
-    row_part = front_inside record_of_row before a.measured a.output zero
-
-    pub row_stored : {later : List ℕ} → Enters store k (take (r.length - 0) after) later → StoresRow sheet store k row 0 later
+    pub row_stored : {later : List ℕ} → Enters store k (take r.length after) later → StoresRow sheet store k row 0 later
     row_stored e =
         stored_front (row_number (operators_of sheet) row) record_of_row store k row_number_is zero row_fits
         (front_is record_of_row before a.measured a.output zero) e
 
-pub ruleset store_row_ways = (row_refused, row_part, row_stored, rules)
-
--- ---- store_record, rebuild_by
+-- ---- a record
 module _ (sheet store : List ℕ) (k : ℕ) {bytes before after : List ℕ} {r : Answer} (room : most_record_bytes ≤ length before) (a : AnswersRepair sheet bytes before after r) where
   record_number_is : r.number ≡ record_number (operators_of sheet) bytes
   record_number_is = a.numbered ∙ repair_number_lem (operators_of sheet) bytes (length before) room
@@ -116,10 +114,7 @@ module _ (sheet store : List ℕ) (k : ℕ) {bytes before after : List ℕ} {r :
   record_refused h = unstored (record_number (operators_of sheet) bytes) (rebuilt sheet bytes) store k record_number_is h
 
   module _ (zero : r.number ≡ 0) where
-    pub record_part : r.length ≤ length after
-    record_part = front_inside (rebuilt sheet bytes) before a.measured a.output zero
-
-    pub record_stored : {later : List ℕ} → Enters store k (take (r.length - 0) after) later → StoresRecord sheet store k bytes 0 later
+    pub record_stored : {later : List ℕ} → Enters store k (take r.length after) later → StoresRecord sheet store k bytes 0 later
     record_stored e =
         stored_front (record_number (operators_of sheet) bytes) (rebuilt sheet bytes) store k record_number_is zero
         (rebuilt_fits sheet bytes (sym record_number_is ∙ zero))
@@ -133,22 +128,24 @@ module _ (sheet store : List ℕ) (k : ℕ) {bytes before after : List ℕ} {r :
     pub rebuild_refused : (r.number ≡ 0 → ⊥) → records_in store ≡ rebuilt_at sheet (records_in store) k
     rebuild_refused h = (record_refused h).stands ∙ rebuilt_held
 
-    pub rebuild_stored : {later : List ℕ} → r.number ≡ 0 → Enters store k (take (r.length - 0) after) later → records_in later ≡ rebuilt_at sheet (records_in store) k
+    pub rebuild_stored : {later : List ℕ} → r.number ≡ 0 → Enters store k (take r.length after) later → records_in later ≡ rebuilt_at sheet (records_in store) k
     rebuild_stored zero e = (record_stored zero e).stands ∙ rebuilt_held
 
-pub ruleset store_record_ways = (record_refused, record_part, record_stored, rules)
+module _ (sheet store : List ℕ) (k : ℕ) {bytes before after : List ℕ} (room : most_record_bytes ≤ length before) (same : bytes ≡ held (records_in store) k) where
+  pub kept_tree : (e : Refusal) → AnswersRepair sheet bytes before after (answer_of (Err e)) → records_in store ≡ rebuilt_at sheet (records_in store) k
+  kept_tree e a = rebuild_refused sheet store k room a same (not_accepted e)
 
-pub ruleset rebuild_ways = (rebuild_refused, record_part, rebuild_stored, rules)
+  pub new_tree : {n : ℕ} {later : List ℕ} → AnswersRepair sheet bytes before after (answer_of (Ok n)) → Enters store k (take n after) later
+      → records_in later ≡ rebuilt_at sheet (records_in store) k
+  new_tree a w = rebuild_stored sheet store k room a same refl w
 
--- ---- store_claim
+-- ---- a claim
 module _ (sheet store : List ℕ) (k : ℕ) (row bytes : List ℕ) {number : ℕ} (is : number ≡ claim_number_in sheet row bytes) where
   pub claim_refused : (number ≡ 0 → ⊥) → StoresClaim sheet store k row bytes number store
   claim_refused h = unstored (claim_number_in sheet row bytes) bytes store k is h
 
   pub claim_stored : {later : List ℕ} → number ≡ 0 → Enters store k bytes later → StoresClaim sheet store k row bytes 0 later
   claim_stored zero e = stored_front (claim_number_in sheet row bytes) bytes store k is zero (claim_fits sheet row bytes (sym is ∙ zero)) refl e
-
-pub ruleset store_claim_ways = (claim_refused, claim_stored, rules)
 
 -- ---- a put: 8 where the place is over 15, else the number and the places of what is stored
 module _ (sheet store : List ℕ) (k : ℕ) (c : Call) (checks : List Check) (bytes : List ℕ)
@@ -165,15 +162,17 @@ module _ (sheet store : List ℕ) (k : ℕ) (c : Call) (checks : List Check) (by
             };
       }
 
-  pub put_over : place_count ≤ k → Puts sheet store c 8 store
-  put_over h = put_stored (unstored (first (place_check k ∷ checks)) bytes store k (rw (le-ltb k place_count h)) (λ e. omega arith))
+  pub put_over : {e : Refusal} → e ≡ refusal.Place → place_count ≤ k → Puts sheet store c (number_of e) store
+  put_over {e} q h =
+      subst (λ (x : Refusal). Puts sheet store c (number_of x) store) (sym q)
+      (put_stored (unstored (first (place_check k ∷ checks)) bytes store k (rw (le-ltb k place_count h)) (λ e. omega arith)))
 
   pub put_done : {r : ℕ} {later : List ℕ} → k < place_count → Stores (first checks) bytes store k r later → Puts sheet store c r later
   put_done {r} {later} h w = put_stored (subst (λ number. Stores number bytes store k r later) (rw (lt-ltb k place_count h)) w)
 
 -- ---- put_row, put_record, put_claim
 module _ (sheet store : List ℕ) (k : ℕ) (bytes : List ℕ) where
-  pub put_row_over : place_count ≤ k → Puts sheet store (put_row k bytes) 8 store
+  pub put_row_over : {e : Refusal} → e ≡ refusal.Place → place_count ≤ k → Puts sheet store (put_row k bytes) (number_of e) store
   unfolding put_row_number places_after_row
   put_row_over =
       put_over sheet store k (put_row k bytes) (row_checks (operators_of sheet) bytes) (built (operators_of sheet) (closes_in sheet) bytes) (λ staged. refl) (λ staged. refl)
@@ -183,7 +182,7 @@ module _ (sheet store : List ℕ) (k : ℕ) (bytes : List ℕ) where
   put_row_done =
       put_done sheet store k (put_row k bytes) (row_checks (operators_of sheet) bytes) (built (operators_of sheet) (closes_in sheet) bytes) (λ staged. refl) (λ staged. refl)
 
-  pub put_record_over : place_count ≤ k → Puts sheet store (put_record k bytes) 8 store
+  pub put_record_over : {e : Refusal} → e ≡ refusal.Place → place_count ≤ k → Puts sheet store (put_record k bytes) (number_of e) store
   unfolding put_record_number places_after_record
   put_record_over = put_over sheet store k (put_record k bytes) (record_checks (operators_of sheet) bytes) (rebuilt sheet bytes) (λ staged. refl) (λ staged. refl)
 
@@ -192,7 +191,7 @@ module _ (sheet store : List ℕ) (k : ℕ) (bytes : List ℕ) where
   put_record_done = put_done sheet store k (put_record k bytes) (record_checks (operators_of sheet) bytes) (rebuilt sheet bytes) (λ staged. refl) (λ staged. refl)
 
 module _ (sheet store : List ℕ) (k : ℕ) (row bytes : List ℕ) where
-  pub put_claim_over : place_count ≤ k → Puts sheet store (put_claim k row bytes) 8 store
+  pub put_claim_over : {e : Refusal} → e ≡ refusal.Place → place_count ≤ k → Puts sheet store (put_claim k row bytes) (number_of e) store
   unfolding put_claim_number places_after_claim
   put_claim_over = put_over sheet store k (put_claim k row bytes) (pair_checks_in sheet row bytes) bytes (λ staged. refl) (λ staged. refl)
 
@@ -200,11 +199,42 @@ module _ (sheet store : List ℕ) (k : ℕ) (row bytes : List ℕ) where
   unfolding put_claim_number places_after_claim claim_number_in
   put_claim_done = put_done sheet store k (put_claim k row bytes) (pair_checks_in sheet row bytes) bytes (λ staged. refl) (λ staged. refl)
 
-pub ruleset put_claim_ways = (put_claim_over, put_claim_done, rules)
+-- the place that the number is of
+module _ (sheet store : List ℕ) {k at : ℕ} (same : at ≡ k) (below : at < place_count) where
+  inside : k < place_count
+  inside = omega arith
 
-pub ruleset put_row_ways = (put_row_over, put_row_done, rules)
+  enters_there : {front later : List ℕ} → Enters store at front later → Enters store k front later
+  enters_there {front} {later} w = subst (λ (i : ℕ). Enters store i front later) same w
 
-pub ruleset put_record_ways = (put_record_over, put_record_done, rules)
+  module _ {bytes before after : List ℕ} (room : most_record_bytes ≤ length before) where
+    pub put_row_refused : (e : Refusal) → AnswersBuild sheet bytes before after (answer_of (Err e)) → Puts sheet store (put_row k bytes) (number_of e) store
+    put_row_refused e a = put_row_done sheet store k bytes inside (row_refused sheet store k room a (not_accepted e))
+
+    pub put_row_stored : {n : ℕ} {later : List ℕ} → AnswersBuild sheet bytes before after (answer_of (Ok n)) → Enters store at (take n after) later
+        → Puts sheet store (put_row k bytes) 0 later
+    put_row_stored {n} {later} a w = put_row_done sheet store k bytes inside (row_stored sheet store k room a refl (enters_there w))
+
+  module _ {bytes before after : List ℕ} (room : most_record_bytes ≤ length before) where
+    pub put_record_refused : (e : Refusal) → AnswersRepair sheet bytes before after (answer_of (Err e)) → Puts sheet store (put_record k bytes) (number_of e) store
+    put_record_refused e a = put_record_done sheet store k bytes inside (record_refused sheet store k room a (not_accepted e))
+
+    pub put_record_stored : {n : ℕ} {later : List ℕ} → AnswersRepair sheet bytes before after (answer_of (Ok n)) → Enters store at (take n after) later
+        → Puts sheet store (put_record k bytes) 0 later
+    put_record_stored {n} {later} a w = put_record_done sheet store k bytes inside (record_stored sheet store k room a refl (enters_there w))
+
+  module _ {row bytes : List ℕ} where
+    pub put_claim_refused : (e : Refusal) → number_of e ≡ claim_number_in sheet row bytes → Puts sheet store (put_claim k row bytes) (number_of e) store
+    put_claim_refused e is = put_claim_done sheet store k row bytes inside (claim_refused sheet store k row bytes is (not_accepted e))
+
+    pub put_claim_stored : {later : List ℕ} → accepted ≡ claim_number_in sheet row bytes → Enters store at bytes later → Puts sheet store (put_claim k row bytes) 0 later
+    put_claim_stored is w = put_claim_done sheet store k row bytes inside (claim_stored sheet store k row bytes is refl (enters_there w))
+
+pub ruleset put_row_ways = (put_row_over, rules)
+
+pub ruleset put_record_ways = (put_record_over, rules)
+
+pub ruleset put_claim_ways = (put_claim_over, rules)
 
 -- ---- drop_place
 module _ (store : List ℕ) (k : ℕ) where
@@ -220,18 +250,27 @@ module _ (store : List ℕ) (k : ℕ) where
             };
       }
 
-  pub drop_over : place_count ≤ k → Drops store k 8 store
+  pub drop_over : {e : Refusal} → e ≡ refusal.Place → place_count ≤ k → Drops store k (number_of e) store
   unfolding drop_number
-  drop_over h = drop_refused 8 (λ sheet staged. simp (le-ltb k place_count h)) (λ e. omega arith)
+  drop_over q h =
+      subst (λ (x : Refusal). Drops store k (number_of x) store) (sym q)
+      (drop_refused 8 (λ sheet staged. simp (le-ltb k place_count h)) (λ e. omega arith))
 
-  module _ (h : k < place_count) {bytes : List ℕ} (same : bytes ≡ held (records_in store) k) where
+  module _ {at : ℕ} (there : at ≡ k) (below : at < place_count) {bytes : List ℕ} (holds : bytes ≡ held (records_in store) at) where
+    h : k < place_count
+    h = omega arith
+
+    same : bytes ≡ held (records_in store) k
+    same = holds ∙ ap (held (records_in store)) there
+
     pub drop_none : length bytes ≡ 0 → Drops store k 9 store
     unfolding drop_number
     drop_none z = drop_refused 9 (λ sheet staged. simp (lt-ltb k place_count h, empty_true (held (records_in store) k) (ap length (sym same) ∙ z))) (λ e. omega arith)
 
-    pub drop_done : {later : List ℕ} → (length bytes ≡ 0 → ⊥) → Enters store k [] later → Drops store k 0 later
+    pub drop_done : {later : List ℕ} → (length bytes ≡ 0 → ⊥) → Enters store at [] later → Drops store k 0 later
     unfolding drop_number places_after_drop
-    drop_done n w =
+    drop_done {later} n w' =
+        let w : Enters store k [] later = subst (λ (i : ℕ). Enters store i [] later) there w' in
         record {
           changes = λ sheet staged.
               let zero : drop_number (panel sheet staged (records_in store)) k ≡ 0 = simp (lt-ltb k place_count h, empty_false (held (records_in store) k) (λ z. n (ap length same ∙ z))) in

@@ -45,12 +45,12 @@ module _ (sheet : List ℕ) (before : List (List ℕ)) where
   unfolding rebuilt_to
   rebuilt_none = record { inside = omega arith; stands = refl }
 
-  pub rebuilt_more : {k : ℕ} {places places' : List (List ℕ)} → Rebuilt k places → k < place_count → places' ≡ rebuilt_at sheet places k → Rebuilt (k + 1) places'
+  pub rebuilt_more : {k i : ℕ} {places places' : List (List ℕ)} → Rebuilt k places → k < place_count → i ≡ k → places' ≡ rebuilt_at sheet places i → Rebuilt (k + 1) places'
   unfolding rebuilt_to
-  rebuilt_more {k} {places} w h e =
+  rebuilt_more {k} {i} {places} w h same e =
       record {
         inside = omega arith;
-        stands = e ∙ ap (λ x. rebuilt_at sheet x k) w.stands ∙ sym (ap (λ x. rebuilt_to sheet x before) (add-one k));
+        stands = e ∙ ap (rebuilt_at sheet places) same ∙ ap (λ x. rebuilt_at sheet x k) w.stands ∙ sym (ap (λ x. rebuilt_to sheet x before) (add-one k));
       }
 
   pub rebuilt_all : {k : ℕ} {places : List (List ℕ)} → Rebuilt k places → place_count ≤ k → places ≡ rebuilt_to sheet place_count before

@@ -12,7 +12,8 @@ ghost use Rattle.monitor.specs.CallContracts.{uses_by, some_use};
 
 use expression::bytes;
 use expression::limits::MOST_OPERATORS;
-use places::{Store, limits};
+use places::limits::PLACE_COUNT;
+use places::{Place, Store};
 use sheet::Sheet;
 
 // The byte is an operator not below n.
@@ -39,8 +40,8 @@ fn uses_set(set: u32, bytes: &[u8]) -> bool
 
 // The place holds one or the other. Most sheets change no kind.
 #[tactic(auto, using(crate::proofs::UseWays::place_uses_ways))]
-fn place_uses(n: u8, set: u32, places: &Store, place: u8) -> bool
-    ensures { result ≡ uses_by n set (held (records_in places.now) place) }
+fn place_uses(n: u8, set: u32, places: &Store, place: Place) -> bool
+    ensures { result ≡ uses_by n set (held (records_in places.now) place.at) }
 {
     let bytes = places.held_record(place);
     if uses_beyond(n, bytes) {
@@ -57,8 +58,8 @@ fn place_uses(n: u8, set: u32, places: &Store, place: u8) -> bool
 fn any_uses(n: u8, set: u32, places: &Store) -> bool
     ensures { result ≡ some_use n set (records_in places.now) }
 {
-    for place in 0..limits::PLACE_COUNT {
-        if place_uses(n, set, places, place) {
+    for at in 0..PLACE_COUNT {
+        if place_uses(n, set, places, Place::new(at)) {
             return true;
         }
     }

@@ -2,209 +2,194 @@
 #![tactic(auto)]
 
 ghost use Rattle.run.specs.Call.{stage, switch, put_row, put_record, put_claim, fetch_record, fetch_row, image, build, repair, yield, shortest_row};
+ghost use Rattle.expression.specs.Outcome.{number_in};
+ghost use Rattle.record.specs.Outcome.{answer_of, judgement_of};
 ghost use Rattle.places.specs.Memory.{memory};
 ghost use Rattle.monitor.specs.CallContracts.{Changes, Stages, Puts, Drops, AnswersOn, AnswersUnder, AnswersFrom, Judges, NumbersOperand, FindsOperand, PlacesOperand};
 
+use expression::bytes;
 use expression::limits::MOST_RECORD_BYTES;
-use expression::{bytes, refusal};
-use places::{Store, limits};
+use expression::refusal::Refusal;
+use places::limits::IMAGE_BYTES;
+use places::{Place, Store};
 use record::operands::Part;
-use record::{Answer, Judgement};
 use sheet::Sheet;
 
 mod in_use;
-mod storing;
-
-// The count of places, as a caller's number is compared with it.
-const PLACE_COUNT: u32 = limits::PLACE_COUNT as u32;
+pub mod numbered;
+mod rebuild;
 
 // The sheet of n operators, their kinds and the rules is judged, and staged in place of an earlier one.
 #[tactic(auto, using(crate::proofs::SwitchWays::stage_ways))]
-pub fn stage(staged: &mut Sheet, n: u32, bytes: &[u8]) -> u8
-    ensures { Stages staged.old (stage n bytes.now) result staged.new }
+pub fn stage(staged: &mut Sheet, n: u32, bytes: &[u8]) -> Result<(), Refusal>
+    ensures { Stages staged.old (stage n bytes.now) (number_in result) staged.new }
 {
-    refusal::number(&staged.load(n, bytes))
+    staged.load(n, bytes)
 }
 
 // The staged sheet is in force, nothing is staged, and every held tree is the conflict-free tree of its row.
-pub fn switch(sheet: &mut Sheet, staged: &mut Sheet, places: &mut Store) -> u8
-    ensures { Changes (memory sheet.old staged.old places.old) switch result (memory sheet.new staged.new places.new) }
+pub fn switch(sheet: &mut Sheet, staged: &mut Sheet, places: &mut Store) -> Result<(), Refusal>
+    ensures { Changes (memory sheet.old staged.old places.old) switch (number_in result) (memory sheet.new staged.new places.new) }
 {
     if !staged.is_loaded() {
-        return refusal::NOTHING_STAGED;
+        return Err(Refusal::NothingStaged);
     }
     if in_use::in_use(sheet, staged, places) {
-        return refusal::IN_USE;
+        return Err(Refusal::InUse);
     }
     // By way of a local: words that are copied from lent to lent go by memmove, which the library does not ask for.
     let new = *staged;
-    storing::rebuild_all(&new, places);
+    rebuild::all(&new, places);
     *sheet = new;
     *staged = Sheet::fresh();
-    refusal::ACCEPTED
+    Ok(())
 }
 
 // The place holds the record of the row's tree.
-pub fn put_row(sheet: &Sheet, places: &mut Store, place: u32, row: &[u8]) -> u8
-    ensures { Puts sheet.now places.old (put_row place row.now) result places.new }
+pub fn put_row(sheet: &Sheet, places: &mut Store, place: u32, row: &[u8]) -> Result<(), Refusal>
+    ensures { Puts sheet.now places.old (put_row place row.now) (number_in result) places.new }
 {
-    if PLACE_COUNT <= place {
-        return refusal::PLACE;
-    }
+    let place = Place::try_from(place)?;
     let mut buffer = [0u8; MOST_RECORD_BYTES];
-    storing::store_row(sheet, places, place as u8, row, &mut buffer)
+    let length = parser::build_row(sheet, row, &mut buffer)?;
+    places.put(place, &buffer[..length]);
+    Ok(())
 }
 
 // The place holds the record of the conflict-free tree of the record's row.
-pub fn put_record(sheet: &Sheet, places: &mut Store, place: u32, bytes: &[u8]) -> u8
-    ensures { Puts sheet.now places.old (put_record place bytes.now) result places.new }
+pub fn put_record(
+    sheet: &Sheet,
+    places: &mut Store,
+    place: u32,
+    bytes: &[u8],
+) -> Result<(), Refusal>
+    ensures { Puts sheet.now places.old (put_record place bytes.now) (number_in result) places.new }
 {
-    if PLACE_COUNT <= place {
-        return refusal::PLACE;
-    }
+    let place = Place::try_from(place)?;
     let mut buffer = [0u8; MOST_RECORD_BYTES];
-    storing::store_record(sheet, places, place as u8, bytes, &mut buffer)
+    let length = parser::repair_record(sheet, bytes, &mut buffer)?;
+    places.put(place, &buffer[..length]);
+    Ok(())
 }
 
 // The place holds the record as it was sent, where that is the record of the row's conflict-free tree.
-pub fn put_claim(sheet: &Sheet, places: &mut Store, place: u32, row: &[u8], bytes: &[u8]) -> u8
-    ensures { Puts sheet.now places.old (put_claim place row.now bytes.now) result places.new }
+pub fn put_claim(
+    sheet: &Sheet,
+    places: &mut Store,
+    place: u32,
+    row: &[u8],
+    bytes: &[u8],
+) -> Result<(), Refusal>
+    ensures { Puts sheet.now places.old (put_claim place row.now bytes.now) (number_in result) places.new }
 {
-    if PLACE_COUNT <= place {
-        return refusal::PLACE;
-    }
-    storing::store_claim(sheet, places, place as u8, row, bytes)
+    let place = Place::try_from(place)?;
+    claims::check_claim(sheet, row, bytes)?;
+    places.put(place, bytes);
+    Ok(())
 }
 
 // The place is empty.
-pub fn drop_place(places: &mut Store, place: u32) -> u8
-    ensures { Drops places.old place result places.new }
+pub fn drop_place(places: &mut Store, place: u32) -> Result<(), Refusal>
+    ensures { Drops places.old place (number_in result) places.new }
 {
-    if PLACE_COUNT <= place {
-        return refusal::PLACE;
+    let place = Place::try_from(place)?;
+    if places.held_record(place).is_empty() {
+        return Err(Refusal::Empty);
     }
-    let held = places.held_record(place as u8);
-    if held.len() == 0 {
-        return refusal::EMPTY;
-    }
-    places.clear(place as u8);
-    refusal::ACCEPTED
+    places.clear(place);
+    Ok(())
 }
 
-// The record that the place holds, at the front of `out`.
-pub fn fetch_record(places: &Store, place: u32, out: &mut [u8]) -> Answer
-    ensures { AnswersFrom places.now (fetch_record place out.old) result out.new }
+// The record that the place holds, at the front of `out`, and its length.
+pub fn fetch_record(places: &Store, place: u32, out: &mut [u8]) -> Result<usize, Refusal>
+    ensures { AnswersFrom places.now (fetch_record place out.old) (answer_of result) out.new }
 {
-    if PLACE_COUNT <= place {
-        return Answer {
-            number: refusal::PLACE,
-            length: 0,
-        };
+    let place = Place::try_from(place)?;
+    let bytes = places.held_record(place);
+    if bytes.is_empty() {
+        return Err(Refusal::Empty);
     }
-    let bytes = places.held_record(place as u8);
-    let length = bytes.len();
-    if length == 0 {
-        return Answer {
-            number: refusal::EMPTY,
-            length: 0,
-        };
-    }
-    if out.len() < length {
-        return Answer {
-            number: refusal::SHORT,
-            length: 0,
-        };
+    if out.len() < bytes.len() {
+        return Err(Refusal::Short);
     }
     bytes::copy(bytes, out);
-    Answer {
-        number: refusal::ACCEPTED,
-        length: length,
+    Ok(bytes.len())
+}
+
+// The row of the tree that the place holds, at the front of `out`, and its length.
+pub fn fetch_row(
+    sheet: &Sheet,
+    places: &Store,
+    place: u32,
+    out: &mut [u8],
+) -> Result<usize, Refusal>
+    ensures { AnswersOn sheet.now places.now (fetch_row place out.old) (answer_of result) out.new }
+{
+    let place = Place::try_from(place)?;
+    let bytes = places.held_record(place);
+    if bytes.is_empty() {
+        return Err(Refusal::Empty);
     }
+    record::yield_row(sheet, bytes, out)
 }
 
-// The row of the tree that the place holds, at the front of `out`.
-pub fn fetch_row(sheet: &Sheet, places: &Store, place: u32, out: &mut [u8]) -> Answer
-    ensures { AnswersOn sheet.now places.now (fetch_row place out.old) result out.new }
+// The image of the place, at the front of `out`, and its length.
+pub fn image(places: &Store, place: u32, out: &mut [u8]) -> Result<usize, Refusal>
+    ensures { AnswersFrom places.now (image place out.old) (answer_of result) out.new }
 {
-    if PLACE_COUNT <= place {
-        return Answer {
-            number: refusal::PLACE,
-            length: 0,
-        };
+    let place = Place::try_from(place)?;
+    if out.len() < IMAGE_BYTES {
+        return Err(Refusal::Short);
     }
-    let bytes = places.held_record(place as u8);
-    if bytes.len() == 0 {
-        return Answer {
-            number: refusal::EMPTY,
-            length: 0,
-        };
-    }
-    record::yield_row_numbered(sheet, bytes, out)
+    places.draw(place, out);
+    Ok(IMAGE_BYTES)
 }
 
-// The image of the place, at the front of `out`.
-pub fn image(places: &Store, place: u32, out: &mut [u8]) -> Answer
-    ensures { AnswersFrom places.now (image place out.old) result out.new }
+// The record of the row's tree, at the front of `out`, and its length.
+#[tactic(auto, using(crate::proofs::AnswerWays::under_sheet_ways))]
+pub fn build(sheet: &Sheet, row: &[u8], out: &mut [u8]) -> Result<usize, Refusal>
+    ensures { AnswersUnder sheet.now (build row.now out.old) (answer_of result) out.new }
 {
-    if PLACE_COUNT <= place {
-        return Answer {
-            number: refusal::PLACE,
-            length: 0,
-        };
-    }
-    if out.len() < limits::IMAGE_BYTES {
-        return Answer {
-            number: refusal::SHORT,
-            length: 0,
-        };
-    }
-    places.draw(place as u8, out);
-    Answer {
-        number: refusal::ACCEPTED,
-        length: limits::IMAGE_BYTES,
-    }
+    parser::build_row(sheet, row, out)
 }
 
-// The record of the row's tree, at the front of `out`.
-pub fn build(sheet: &Sheet, row: &[u8], out: &mut [u8]) -> Answer
-    ensures { AnswersUnder sheet.now (build row.now out.old) result out.new }
+// The record of the conflict-free tree of the record's row, at the front of `out`, and its length.
+#[tactic(auto, using(crate::proofs::AnswerWays::under_sheet_ways))]
+pub fn repair(sheet: &Sheet, bytes: &[u8], out: &mut [u8]) -> Result<usize, Refusal>
+    ensures { AnswersUnder sheet.now (repair bytes.now out.old) (answer_of result) out.new }
 {
-    parser::build_row_numbered(sheet, row, out)
+    parser::repair_record(sheet, bytes, out)
 }
 
-// The record of the conflict-free tree of the record's row, at the front of `out`.
-pub fn repair(sheet: &Sheet, bytes: &[u8], out: &mut [u8]) -> Answer
-    ensures { AnswersUnder sheet.now (repair bytes.now out.old) result out.new }
+// The conflict count of the record.
+#[tactic(auto, using(crate::proofs::AnswerWays::judge_ways))]
+pub fn judge(sheet: &Sheet, bytes: &[u8]) -> Result<u8, Refusal>
+    ensures { Judges sheet.now bytes.now (judgement_of result) }
 {
-    parser::repair_record_numbered(sheet, bytes, out)
+    record::judge(sheet, bytes)
 }
 
-// The number of the record, and its conflict count.
-pub fn judge(sheet: &Sheet, bytes: &[u8]) -> Judgement
-    ensures { Judges sheet.now bytes.now result }
+// The row of the record's tree, at the front of `out`, and its length.
+#[tactic(auto, using(crate::proofs::AnswerWays::under_sheet_ways))]
+pub fn yield_row(sheet: &Sheet, bytes: &[u8], out: &mut [u8]) -> Result<usize, Refusal>
+    ensures { AnswersUnder sheet.now (yield bytes.now out.old) (answer_of result) out.new }
 {
-    record::judge_numbered(sheet, bytes)
+    record::yield_row(sheet, bytes, out)
 }
 
-// The row of the record's tree, at the front of `out`.
-pub fn yield_row(sheet: &Sheet, bytes: &[u8], out: &mut [u8]) -> Answer
-    ensures { AnswersUnder sheet.now (yield bytes.now out.old) result out.new }
+// The shortest row that means the same as the record's row, at the front of `out`, and its length.
+#[tactic(auto, using(crate::proofs::AnswerWays::under_sheet_ways))]
+pub fn shortest_row(sheet: &Sheet, bytes: &[u8], out: &mut [u8]) -> Result<usize, Refusal>
+    ensures { AnswersUnder sheet.now (shortest_row bytes.now out.old) (answer_of result) out.new }
 {
-    record::yield_row_numbered(sheet, bytes, out)
+    brackets::shortest_row(sheet, bytes, out)
 }
 
-// The shortest row that means the same as the record's row, at the front of `out`.
-pub fn shortest_row(sheet: &Sheet, bytes: &[u8], out: &mut [u8]) -> Answer
-    ensures { AnswersUnder sheet.now (shortest_row bytes.now out.old) result out.new }
+// Whether the operands of the record can be had.
+pub fn check_operand(sheet: &Sheet, bytes: &[u8]) -> Result<(), Refusal>
+    ensures { NumbersOperand sheet.now bytes.now (number_in result) }
 {
-    brackets::shortest_row_numbered(sheet, bytes, out)
-}
-
-// The number of an operand call.
-pub fn operand_number(sheet: &Sheet, bytes: &[u8]) -> u8
-    ensures { NumbersOperand sheet.now bytes.now result }
-{
-    record::record_number(sheet, bytes)
+    record::check_record(sheet, bytes)
 }
 
 // The record of the left or of the right operand of the top node: that part of `bytes`.

@@ -8,12 +8,12 @@ ghost use Rattle.places.specs.Store.{records_in, Enters, drawn, fresh};
 
 use expression::limits::MOST_RECORD_BYTES;
 use limits::{SLOT_BYTES, STORE_BYTES};
-use place::Place;
+pub use place::Place;
 use std::marker::Model;
 
 mod layout;
 pub mod limits;
-pub mod place;
+mod place;
 mod write;
 
 // A lent store: the places one after the other; all zero is the one whose places are empty.

@@ -93,8 +93,6 @@ module _ (staged : List ℕ) (n : ℕ) (kinds : List ℕ) (list : List Rule) whe
   list_over many = over_rules staged n kinds (rules_in list) (omega (arith, many, length_rules_in list))
 
   -- The staging of the records written is the staging of the list.
-  pub list_staged : (bytes after : List ℕ) {i r : ℕ} {later : List ℕ} → length bytes ≡ buffer_bytes → length list ≤ most_rules → i ≤ length list → length list ≤ i
-      → after ≡ written_to list i bytes → StagesList staged n kinds after i r later → Stages staged (stage_list n kinds (rules_in list)) r later
-  list_staged bytes after {i} size few inside done e s =
-      let all : i ≡ length list = omega arith in
-      s.stages (rules_in list) (rw (e, all) (written_bytes list bytes size few))
+  pub list_staged : (bytes : List ℕ) {after : List ℕ} {i r : ℕ} {later : List ℕ} → length bytes ≡ buffer_bytes → length list ≤ most_rules → i ≡ length list
+      → after ≡ written_to list i bytes → StagesList staged n kinds after (length list) r later → Stages staged (stage_list n kinds (rules_in list)) r later
+  list_staged bytes size few all e s = s.stages (rules_in list) (rw (e, all) (written_bytes list bytes size few))

@@ -1,13 +1,14 @@
 // The buffer for a sheet's bytes: the rules' bytes are written one record at a time, and the kinds right before them as they are staged.
 ghost use Rattle.std.specs.Prelude.{◌<◌, ◌≤◌, ◌≡◌};
 ghost use Rattle.expression.specs.Limits.{most_rules};
+ghost use Rattle.expression.specs.Outcome.{number_in};
 ghost use Rattle.rule_list.specs.Records.{put_at, StagesList};
 
 use crate::Rule;
-use expression::{limits, refusal};
-use sheet::Sheet;
-use sheet::lists;
+use expression::limits;
+use expression::refusal::Refusal;
 use sheet::lists::{BUFFER_BYTES, KIND_BYTES};
+use sheet::{Sheet, lists};
 
 // Writes the three bytes of record i at their place.
 pub fn put_rule(bytes: &mut [u8; BUFFER_BYTES], i: usize, rule: Rule)
@@ -28,14 +29,11 @@ pub fn stage_written(
     kinds: &[u8],
     bytes: &mut [u8; BUFFER_BYTES],
     count: usize,
-) -> u8
+) -> Result<(), Refusal>
     requires { count ≤ most_rules }
-    ensures { StagesList staged.old n kinds.now bytes.old count result staged.new }
+    ensures { StagesList staged.old n kinds.now bytes.old count (number_in result) staged.new }
 {
-    let number = refusal::number(&lists::check_kinds(n, kinds.len()));
-    if number != refusal::ACCEPTED {
-        return number;
-    }
+    lists::check_kinds(n, kinds.len())?;
     let all: &mut [u8] = bytes;
     let from = lists::put_kinds(kinds, all);
     let to = KIND_BYTES + count * limits::BYTES_OF_RULE;

@@ -5,6 +5,7 @@ ghost use Rattle.run.specs.Call.{stage_list};
 ghost use Rattle.monitor.specs.CallContracts.{Stages};
 ghost use Rattle.rule_list.specs.Records.{rules_in};
 
+use expression::refusal;
 use rule_list::Rule;
 use sheet::Sheet;
 
@@ -17,5 +18,5 @@ pub extern "C" fn tihvomen_stage_rules(
 ) -> u8
     ensures { Stages staged.old (stage_list n kinds.now (rules_in rules.now)) result staged.new }
 {
-    rule_list::tihvomen_stage_rules(staged, n, kinds, rules)
+    refusal::number(&rule_list::stage_rules(staged, n, kinds, rules))
 }

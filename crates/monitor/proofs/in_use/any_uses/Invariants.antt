@@ -3,5 +3,5 @@ use Rattle.places.specs.Store.{records_in}
 use Rattle.monitor.proofs.UseWays.{Unused}
 use Rattle.monitor.proofs.in_use.any_uses.Given as goal
 
-abbrev pub invariant-loop-place : goal.invariant-loop-place
-invariant-loop-place l = Unused l.n l.set (records_in l.places) l.place
+abbrev pub invariant-loop-at : goal.invariant-loop-at
+invariant-loop-at l = Unused l.n l.set (records_in l.places) l.at

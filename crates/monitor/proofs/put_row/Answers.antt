@@ -1,0 +1,16 @@
+-- The answers of `monitor::put_row`. Assumes nothing.
+use native.Mathlib.Omega.{arith}
+use Rattle.std.proofs.lemmas.Result.{err_from_is_err_and}
+use Rattle.monitor.proofs.StoreWays.{put_row_ways, put_row_refused, put_row_stored}
+use Rattle.monitor.proofs.put_row.Goals as goal
+
+pub returns-in_err-place : goal.returns-in_err-place
+returns-in_err-place c = search put_row_ways
+
+pub returns-in_err-length : goal.returns-in_err-length
+returns-in_err-length c =
+    let p = err_from_is_err_and c.from_residual-in_err-length.result c.from_residual-in_err-length.ensures.1 in
+    rw (p.1, p.2) (put_row_refused _ _ c.in_ok-place.ensures c.in_ok-place.place.below (omega arith) _ c.in_err-length.ensures)
+
+pub returns : goal.returns
+returns c = put_row_stored _ _ c.in_ok-place.ensures c.in_ok-place.place.below (omega arith) c.in_ok-length.ensures c.put.ensures
