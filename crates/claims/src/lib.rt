@@ -7,7 +7,7 @@ ghost use Rattle.expression.specs.Outcome.{number_in};
 ghost use Rattle.claims.specs.Claims.{beside_number_in, claim_number_in};
 
 use expression::limits::MOST_TOKENS;
-use expression::refusal::{self, Refusal};
+use expression::refusal::Refusal;
 use sheet::Sheet;
 
 // The record beside the row: refused by its own number, by 16 where its row is another, or by 17 where it has a conflict.
@@ -36,11 +36,4 @@ pub fn check_claim(sheet: &Sheet, row: &[u8], bytes: &[u8]) -> Result<(), Refusa
     };
     parser::check_row(sheet, row)?;
     Err(beside)
-}
-
-// Its number; for the time of the move.
-pub fn claim_number(sheet: &Sheet, row: &[u8], bytes: &[u8]) -> u8
-    ensures { result ≡ claim_number_in sheet.now row.now bytes.now }
-{
-    refusal::number(&check_claim(sheet, row, bytes))
 }

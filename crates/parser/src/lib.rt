@@ -11,7 +11,6 @@ ghost use Rattle.parser.specs.Answers.{AnswersBuild, AnswersRepair};
 
 use expression::limits::MOST_TOKENS;
 use expression::refusal::Refusal;
-use record::Answer;
 use sheet::Sheet;
 
 mod build;
@@ -40,13 +39,6 @@ pub fn build_row(sheet: &Sheet, tokens: &[u8], out: &mut [u8]) -> Result<usize, 
     Ok(length)
 }
 
-// The same for callers that take the number; for the time of the move.
-pub fn build_row_numbered(sheet: &Sheet, tokens: &[u8], out: &mut [u8]) -> Answer
-    ensures { AnswersBuild sheet.now tokens.now out.old out.new result }
-{
-    build_row(sheet, tokens, out).into()
-}
-
 // The same for a record: its row is laid into the lent buffer, and built.
 fn repair_by(sheet: &Sheet, bytes: &[u8], row: &mut [u8], out: &mut [u8]) -> Result<usize, Refusal>
     requires { most_tokens ≤ length row.old }
@@ -67,11 +59,4 @@ pub fn repair_record(sheet: &Sheet, bytes: &[u8], out: &mut [u8]) -> Result<usiz
 {
     let mut row = [0u8; MOST_TOKENS];
     repair_by(sheet, bytes, &mut row, out)
-}
-
-// The same for callers that take the number; for the time of the move.
-pub fn repair_record_numbered(sheet: &Sheet, bytes: &[u8], out: &mut [u8]) -> Answer
-    ensures { AnswersRepair sheet.now bytes.now out.old out.new result }
-{
-    repair_record(sheet, bytes, out).into()
 }
