@@ -1,4 +1,5 @@
 pub mod AnswerWays
 pub mod StoreWays
+pub mod DropWays
 pub mod UseWays
 pub mod SwitchWays

@@ -1,6 +1,6 @@
 -- What each way through the calls that store at a place gives, from what is known on it. Assumes nothing.
 use mathlib.Core.Path.{◌≡◌, refl, sym, ap, subst, ◌∙◌}
-use mathlib.Core.List.{List, [], ◌∷◌, ◌++◌}
+use mathlib.Core.List.{List, ◌∷◌, ◌++◌}
 use Prim.Native.Nat.{ℕ, ◌<◌, ◌≤◌}
 use native.Mathlib.Omega.{arith}
 use lib.ListN.{length, take, drop}
@@ -36,9 +36,8 @@ use Rattle.places.specs.Store.{records_in, Enters}
 use Rattle.places.specs.Memory.{memory}
 use Rattle.run.specs.Call.{Call, put_row, put_record, put_claim}
 use Rattle.run.specs.Panel.{panel, place_check, rebuilt}
-use Rattle.run.specs.Steps.{put_row_number, places_after_row, put_record_number, places_after_record, put_claim_number, places_after_claim, drop_number, places_after_drop, after, reply}
-use Rattle.monitor.specs.CallContracts.{Puts, Drops, stored_if, Stores, StoresRow, StoresRecord, StoresClaim, rebuilt_at}
-use Rattle.run.proofs.Places.{empty_true, empty_false}
+use Rattle.run.specs.Steps.{put_row_number, places_after_row, put_record_number, places_after_record, put_claim_number, places_after_claim, after, reply}
+use Rattle.monitor.specs.CallContracts.{Puts, stored_if, Stores, StoresRow, StoresRecord, StoresClaim, rebuilt_at}
 
 -- ---- what passes fits a place
 rebuilt_fits : (sheet bytes : List ℕ) → record_number (operators_of sheet) bytes ≡ 0 → length (rebuilt sheet bytes) ≤ most_record_bytes
@@ -235,46 +234,3 @@ pub ruleset put_row_ways = (put_row_over, rules)
 pub ruleset put_record_ways = (put_record_over, rules)
 
 pub ruleset put_claim_ways = (put_claim_over, rules)
-
--- ---- drop_place
-module _ (store : List ℕ) (k : ℕ) where
-  drop_refused : (number : ℕ) → ((sheet staged : List ℕ) → number ≡ drop_number (panel sheet staged (records_in store)) k) → (number ≡ 0 → ⊥) → Drops store k number store
-  unfolding places_after_drop
-  drop_refused number e h =
-      record {
-        changes = λ sheet staged.
-            record {
-              numbered = e sheet staged;
-              stands = rw (ne_eqb (drop_number (panel sheet staged (records_in store)) k) 0 (λ f. h (e sheet staged ∙ f)));
-              kept = λ _. refl;
-            };
-      }
-
-  pub drop_over : {e : Refusal} → e ≡ refusal.Place → place_count ≤ k → Drops store k (number_of e) store
-  unfolding drop_number
-  drop_over q h =
-      subst (λ (x : Refusal). Drops store k (number_of x) store) (sym q)
-      (drop_refused 8 (λ sheet staged. simp (le-ltb k place_count h)) (λ e. omega arith))
-
-  module _ {at : ℕ} (there : at ≡ k) (below : at < place_count) {bytes : List ℕ} (holds : bytes ≡ held (records_in store) at) where
-    h : k < place_count
-    h = omega arith
-
-    same : bytes ≡ held (records_in store) k
-    same = holds ∙ ap (held (records_in store)) there
-
-    pub drop_none : length bytes ≡ 0 → Drops store k 9 store
-    unfolding drop_number
-    drop_none z = drop_refused 9 (λ sheet staged. simp (lt-ltb k place_count h, empty_true (held (records_in store) k) (ap length (sym same) ∙ z))) (λ e. omega arith)
-
-    pub drop_done : {later : List ℕ} → (length bytes ≡ 0 → ⊥) → Enters store at [] later → Drops store k 0 later
-    unfolding drop_number places_after_drop
-    drop_done {later} n w' =
-        let w : Enters store k [] later = subst (λ (i : ℕ). Enters store i [] later) there w' in
-        record {
-          changes = λ sheet staged.
-              let zero : drop_number (panel sheet staged (records_in store)) k ≡ 0 = simp (lt-ltb k place_count h, empty_false (held (records_in store) k) (λ z. n (ap length same ∙ z))) in
-              record { numbered = sym zero; stands = rw zero (ap (panel sheet staged) (w.holds (omega arith))); kept = λ e. absurd (e refl) };
-        }
-
-pub ruleset drop_ways = (drop_over, drop_none, drop_done, rules)

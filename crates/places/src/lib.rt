@@ -42,7 +42,8 @@ impl Store {
         }
     }
 
-    // The record at a place, as that part of the store; no bytes where the place is empty.
+    // The record at a place, as that part of the store. No `Option`: an empty place holds the empty list in the specification, and the tests of
+    // held trees take it so.
     pub fn held_record(&self, place: Place) -> &[u8]
         ensures { result.now ≡ held (records_in self.now) place.at }
     {

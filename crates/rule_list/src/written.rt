@@ -21,7 +21,7 @@ pub fn put_rule(bytes: &mut [u8; BUFFER_BYTES], i: usize, rule: Rule)
     bytes[at + 2] = rule.second;
 }
 
-// Stages the kinds, and the first `count` rules whose bytes are in the buffer.
+// Stages the kinds, and the first `count` rules whose bytes are in the buffer. No struct of the two: the count is the length of C's list.
 #[tactic(auto, using(crate::proofs::WrittenWays::stage_written_ways))]
 pub fn stage_written(
     staged: &mut Sheet,

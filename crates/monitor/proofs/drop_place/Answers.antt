@@ -1,5 +1,5 @@
 -- The answers of `monitor::drop_place`. Assumes nothing.
-use Rattle.monitor.proofs.StoreWays.{drop_ways}
+use Rattle.monitor.proofs.DropWays.{drop_ways}
 use Rattle.monitor.proofs.drop_place.Goals as goal
 
 pub returns-in_err-place : goal.returns-in_err-place
