@@ -38,10 +38,3 @@ pub fn shortest_row(sheet: &Sheet, bytes: &[u8], out: &mut [u8]) -> Result<usize
     bytes::copy(&row[0..length], out);
     Ok(length)
 }
-
-// The same for callers that take the number; for the time of the move.
-pub fn shortest_row_numbered(sheet: &Sheet, bytes: &[u8], out: &mut [u8]) -> Answer
-    ensures { AnswersShortest sheet.now bytes.now out.old out.new result }
-{
-    shortest_row(sheet, bytes, out).into()
-}

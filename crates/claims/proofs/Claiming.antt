@@ -18,7 +18,7 @@ use Rattle.expression.proofs.Numbers.{first_refused, rest_first, row_numbered, r
 use Rattle.sheet.specs.Layout.{operators_of}
 use Rattle.record.specs.Answers.{Yields, count_in, judgement}
 use Rattle.record.specs.declared.Judgement.{Judgement}
-use Rattle.parser.proofs.Outcomes.{not_accepted}
+use Rattle.expression.proofs.Outcomes.{not_accepted}
 use Rattle.parser.proofs.RepairWays.{number_is, laid, repair_part}
 use Rattle.claims.specs.Claims.{same_bytes, claim_checks, beside_checks, beside_number_in, claim_number_in}
 use Rattle.claims.proofs.SameBytes.{same_exactly_if}

@@ -69,26 +69,6 @@ module _ (n : ℕ) (bytes : List ℕ) {before after : List ℕ} {t : Answer} (a 
       let number : t.number ≡ first (order_checks n bytes) = a.numbered ∙ never_short n bytes (length before) (omega arith) in
       says w (sheet_bytes n bytes) (ap₂ ◌∷◌ (sym number) (ap (λ m. cond (eqb m accepted) (explained n bytes) []) (sym number) ∙ sym answer_front)) (omega (arith, answer_short, length-take t.length after))
 
--- the number of a refusal, as it is cast
-pub cast_is : (r : Refusal) → tag_of the_type r + 1 ≡ number_of r
-cast_is Oversize = refl
-cast_is Torn = refl
-cast_is Stranger = refl
-cast_is Dead = refl
-cast_is Double = refl
-cast_is NoRow = refl
-cast_is NoTree = refl
-cast_is Place = refl
-cast_is Empty = refl
-cast_is Short = refl
-cast_is InUse = refl
-cast_is Frame = refl
-cast_is NoMeaning = refl
-cast_is NoReading = refl
-cast_is NothingStaged = refl
-cast_is OtherRow = refl
-cast_is Conflict = refl
-
 -- ---- reply_to_frame
 short_frame_lem : (bytes : List ℕ) → length bytes < 2 → frame_bytes bytes ≡ 12 ∷ []
 unfolding frame_bytes

@@ -5,7 +5,7 @@ ghost use Rattle.frame.specs.CallContracts.{most_reply};
 ghost use Rattle.explain.specs.Replies.{sheet_bytes, frame_bytes, line_bytes};
 ghost use Rattle.explain.specs.CallContracts.{Says};
 
-use expression::refusal;
+use expression::refusal::{ACCEPTED, Refusal};
 use frame::limits;
 use witness::limits::MOST_EXPLAINED;
 
@@ -19,8 +19,8 @@ fn reply_to_sheet(n: u8, bytes: &[u8], out: &mut [u8]) -> usize
 {
     let mut answer = [0u8; MOST_EXPLAINED];
     match witness::explain(n as u32, bytes, &mut answer) {
-        Ok(length) => frame::write_reply(refusal::ACCEPTED, &answer[..length], out),
-        Err(refusal) => frame::write_number(refusal as u8, out),
+        Ok(length) => frame::write_reply(ACCEPTED, &answer[..length], out),
+        Err(refusal) => frame::write_refusal(refusal, out),
     }
 }
 
@@ -31,7 +31,7 @@ fn reply_to_frame(bytes: &[u8], out: &mut [u8]) -> usize
 {
     match bytes {
         [kind, n, rest @ ..] if *kind == SHEET => reply_to_sheet(*n, rest, out),
-        _ => frame::write_number(refusal::FRAME, out),
+        _ => frame::write_refusal(Refusal::Frame, out),
     }
 }
 
@@ -42,7 +42,7 @@ fn reply_within(line: &[u8], out: &mut [u8]) -> usize
 {
     let mut bytes = [0u8; limits::MOST_FRAME];
     let Ok(length) = hexadecimal::decode(line, &mut bytes) else {
-        return frame::write_number(refusal::FRAME, out);
+        return frame::write_refusal(Refusal::Frame, out);
     };
     reply_to_frame(&bytes[0..length], out)
 }
@@ -53,7 +53,7 @@ pub fn reply(line: &[u8], out: &mut [u8]) -> usize
     ensures { Says (line_bytes line.now) out.old out.new result }
 {
     if limits::MOST_CHARACTERS < line.len() {
-        return frame::write_number(refusal::OVERSIZE, out);
+        return frame::write_refusal(Refusal::Oversize, out);
     }
     reply_within(line, out)
 }

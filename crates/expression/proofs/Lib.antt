@@ -10,3 +10,4 @@ pub mod Examples
 pub mod Looking
 pub mod Tests
 pub mod Stores
+pub mod Outcomes

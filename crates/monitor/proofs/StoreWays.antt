@@ -28,7 +28,7 @@ use Rattle.record.specs.Outcome.{answer_of}
 use Rattle.parser.specs.Build.{built}
 use Rattle.parser.specs.Answers.{AnswersBuild, AnswersRepair}
 use Rattle.parser.proofs.BuildLaws.{built_length, built_length_accepted}
-use Rattle.parser.proofs.Outcomes.{not_accepted}
+use Rattle.expression.proofs.Outcomes.{not_accepted}
 use Rattle.parser.proofs.RepairWays.{accepted_record}
 use Rattle.claims.specs.Claims.{same_bytes, claim_checks, beside_checks, pair_checks_in, claim_number_in}
 use Rattle.run.specs.Places.{place_count, held, stored}

@@ -16,7 +16,6 @@ use record::operands::Part;
 use sheet::Sheet;
 
 mod in_use;
-pub mod numbered;
 mod rebuild;
 
 // The sheet of n operators, their kinds and the rules is judged, and staged in place of an earlier one.

@@ -25,7 +25,7 @@ use Rattle.sheet.specs.Relation.{closes_in}
 use Rattle.parser.specs.Build.{built}
 use Rattle.parser.specs.Reading.{share, Buildable}
 use Rattle.parser.specs.Answers.{AnswersBuild}
-use Rattle.parser.proofs.Outcomes.{not_accepted}
+use Rattle.expression.proofs.Outcomes.{not_accepted}
 use Rattle.parser.proofs.BuildLaws.{built_length_accepted, accepted_buildable}
 use Rattle.parser.proofs.Shares.{share_small}
 

@@ -1,4 +1,3 @@
-pub mod Outcomes
 pub mod Shares
 pub mod NoteLaws
 pub mod Laying

@@ -79,13 +79,6 @@ pub fn check_record(sheet: &Sheet, bytes: &[u8]) -> Result<(), Refusal>
     Ok(())
 }
 
-// Its number; for the time of the move.
-pub fn record_number(sheet: &Sheet, bytes: &[u8]) -> u8
-    ensures { result ≡ record_number (operators_of sheet.now) bytes.now }
-{
-    refusal::number(&check_record(sheet, bytes))
-}
-
 // The number of a call that writes an answer, and the answer's length; 0 after a refusal.
 #[repr(C)]
 #[derive(Drop)]
@@ -124,13 +117,6 @@ pub fn yield_row(sheet: &Sheet, bytes: &[u8], out: &mut [u8]) -> Result<usize, R
     Ok(tokens.len())
 }
 
-// The same for callers that take the number; for the time of the move.
-pub fn yield_row_numbered(sheet: &Sheet, bytes: &[u8], out: &mut [u8]) -> Answer
-    ensures { Yields (operators_of sheet.now) bytes.now out.old out.new result }
-{
-    yield_row(sheet, bytes, out).into()
-}
-
 // The number of a record, and the conflict count of its tree; 0 after a refusal.
 #[repr(C)]
 #[derive(Drop)]
@@ -165,13 +151,6 @@ pub fn judge(sheet: &Sheet, bytes: &[u8]) -> Result<u8, Refusal>
         return Err(Refusal::Oversize);
     }
     Ok(count)
-}
-
-// The same for callers that take the number; for the time of the move.
-pub fn judge_numbered(sheet: &Sheet, bytes: &[u8]) -> Judgement
-    ensures { result ≡ judgement sheet.now bytes.now }
-{
-    judge(sheet, bytes).into()
 }
 
 // The record of the left or of the right operand of the top node: that part of `bytes`. Its number is that of `check_record`.

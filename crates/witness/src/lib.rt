@@ -86,10 +86,3 @@ pub fn explain(n: u32, bytes: &[u8], out: &mut [u8]) -> Result<usize, Refusal>
     bytes::copy(told, out);
     Ok(told.len())
 }
-
-// The same, as a number and a length.
-pub fn explain_numbered(n: u32, bytes: &[u8], out: &mut [u8]) -> Answer
-    ensures { Explains n bytes.now out.old out.new result }
-{
-    explain(n, bytes, out).into()
-}

@@ -7,8 +7,13 @@ ghost use Rattle.witness.specs.Explaining.{most_explained};
 ghost use Rattle.witness.specs.Shapes.{fitted};
 
 use crate::text::Text;
-use expression::refusal;
+use expression::refusal::{ACCEPTED, Refusal};
 use expression::token::FIRST_READING;
+
+// The first byte of a witness: the number of the verdict.
+const DEAD: u8 = Refusal::Dead as u8;
+
+const DOUBLE: u8 = Refusal::Double as u8;
 
 // The readings of a row of infix operators.
 const X: u8 = FIRST_READING;
@@ -24,7 +29,7 @@ pub fn sound() -> Text
     ensures { result ≡ witness_bytes sound }
 {
     let mut text = Text::new();
-    text.push(refusal::ACCEPTED);
+    text.push(ACCEPTED);
     text
 }
 
@@ -55,7 +60,7 @@ impl Pair {
         ensures { result ≡ witness_bytes (no_tree (first_over_pair self.prefix self.a self.b)) }
     {
         let mut text = Text::new();
-        text.fit(self.prefix, &[refusal::DEAD, X, self.a, Y, self.b, Z]);
+        text.fit(self.prefix, &[DEAD, X, self.a, Y, self.b, Z]);
         text
     }
 
@@ -64,7 +69,7 @@ impl Pair {
         ensures { result ≡ witness_bytes (two_trees (first_over_pair self.prefix self.a self.b) (last_over_pair self.prefix self.a self.b)) }
     {
         let Pair { prefix, a, b } = self;
-        let row = [refusal::DOUBLE, X, a, Y, b, Z];
+        let row = [DOUBLE, X, a, Y, b, Z];
         let of_a = [a, X, b, Y, Z];
         let of_b = [b, a, X, Y, Z];
         two(prefix, &row, &of_a, &of_b)
@@ -95,7 +100,7 @@ impl Triple {
             b,
             c,
         } = self;
-        let row = [refusal::DOUBLE, X, a, Y, b, Z, c, W];
+        let row = [DOUBLE, X, a, Y, b, Z, c, W];
         if closes {
             two(prefix, &row, &[a, X, c, b, Y, Z, W], &[c, b, a, X, Y, Z, W])
         } else {

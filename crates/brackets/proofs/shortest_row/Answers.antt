@@ -1,7 +1,7 @@
 -- What `shortest_row` returns, and what its walks need. Assumes nothing.
 use Rattle.std.proofs.Common.{refl, rules}
 use Rattle.std.proofs.lemmas.Result.{err_from_is_err_and}
-use Rattle.parser.proofs.Outcomes.{not_accepted}
+use Rattle.expression.proofs.Outcomes.{not_accepted}
 use Rattle.brackets.proofs.Answering.{shortest_refused, front_fills, front_stands, shortest_short, shortest_done}
 use Rattle.brackets.proofs.shortest_row.Goals as goal
 

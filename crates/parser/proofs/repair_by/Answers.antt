@@ -1,7 +1,7 @@
 -- What `parser::repair_by` needs and returns. Assumes nothing.
 use Rattle.std.proofs.Common.{refl}
 use Rattle.std.proofs.lemmas.Result.{err_from_is_err_and}
-use Rattle.parser.proofs.Outcomes.{not_accepted}
+use Rattle.expression.proofs.Outcomes.{not_accepted}
 use Rattle.parser.proofs.RepairWays.{repair_refused, repair_short, repair_few, repair_room, repair_buildable, repair_done}
 use Rattle.parser.proofs.repair_by.Goals as goal
 
