@@ -2,10 +2,12 @@
 #![tactic(auto)]
 
 ghost use Rattle.std.specs.Prelude.{◌≡◌, [], false, length};
-ghost use Rattle.places.specs.Memory.{memory, panel_in};
+ghost use Rattle.places.specs.Memory.{panel_in};
+ghost use Rattle.frame.specs.Lent.{memory_in};
 ghost use Rattle.panel.specs.CallContracts.{Hands};
 ghost use Rattle.panel.specs.Runs.{is_full, handed_in, Steps, Turns, Runs};
 
+use frame::panel::Panel;
 use input::Input;
 use limits::MOST_FILLED;
 use line_io::Buffer;
@@ -21,27 +23,20 @@ mod lines;
 
 // One read, and the replies to the lines that it completes, as many as the output has room for; whether to go on. At the end of the
 // input the unfinished line is the last one; where the read failed that line is not complete and is not run.
-fn take_read(
-    stdin: Stdin,
-    sheet: &mut Sheet,
-    staged: &mut Sheet,
-    places: &mut Store,
-    input: &mut Input,
-    out: &mut Output,
-) -> bool
+fn take_read(stdin: Stdin, panel: &mut Panel<'_>, input: &mut Input, out: &mut Output) -> bool
     requires { out.old ≡ [] }
     ensures { Steps
-        (panel_in (memory sheet.old staged.old places.old))
+        (panel_in (memory_in panel.old))
         input.old false input.new out.new result
-        (panel_in (memory sheet.new staged.new places.new)) }
+        (panel_in (memory_in panel.new)) }
 {
     match input.read(stdin) {
         Ok(0) => {
-            lines::finish(sheet, staged, places, input.as_slice(), out);
+            lines::finish(panel, input.as_slice(), out);
             false
         }
         Ok(_) => {
-            lines::answer_lines(sheet, staged, places, input, out);
+            lines::answer_lines(panel, input, out);
             true
         }
         Err(_) => false,
@@ -52,24 +47,22 @@ fn take_read(
 // Whether to go on.
 fn step(
     stdin: Stdin,
-    sheet: &mut Sheet,
-    staged: &mut Sheet,
-    places: &mut Store,
+    panel: &mut Panel<'_>,
     input: &mut Input,
     out: &mut Output,
     handed: usize,
 ) -> bool
     ensures { Steps
-        (panel_in (memory sheet.old staged.old places.old))
+        (panel_in (memory_in panel.old))
         input.old (is_full handed) input.new out.new result
-        (panel_in (memory sheet.new staged.new places.new)) }
+        (panel_in (memory_in panel.new)) }
 {
     out.clear();
     if MOST_FILLED < handed {
-        lines::answer_lines(sheet, staged, places, input, out);
+        lines::answer_lines(panel, input, out);
         return true;
     }
-    take_read(stdin, sheet, staged, places, input, out)
+    take_read(stdin, panel, input, out)
 }
 
 // Hands bytes to the write call: how many, and whether to go on. What that call does with them is in no contract.
@@ -86,19 +79,17 @@ fn write_out(stdout: Stdout, bytes: &[u8]) -> ControlFlow<usize, usize>
 fn turn(
     stdin: Stdin,
     stdout: Stdout,
-    sheet: &mut Sheet,
-    staged: &mut Sheet,
-    places: &mut Store,
+    panel: &mut Panel<'_>,
     input: &mut Input,
     out: &mut Output,
     handed: usize,
 ) -> ControlFlow<usize, usize>
     ensures { Turns
-        (panel_in (memory sheet.old staged.old places.old))
+        (panel_in (memory_in panel.old))
         input.old (is_full handed) input.new out.new result
-        (panel_in (memory sheet.new staged.new places.new)) }
+        (panel_in (memory_in panel.new)) }
 {
-    let go = step(stdin, sheet, staged, places, input, out, handed);
+    let go = step(stdin, panel, input, out, handed);
     let count = write_out(stdout, out.as_slice())?;
     if go {
         ControlFlow::Continue(count)
@@ -111,21 +102,19 @@ fn turn(
 fn run(
     stdin: Stdin,
     stdout: Stdout,
-    sheet: &mut Sheet,
-    staged: &mut Sheet,
-    places: &mut Store,
+    panel: &mut Panel<'_>,
     input: &mut Input,
     out: &mut Output,
 ) -> ControlFlow<usize, usize>
     requires { (input.old ≡ []) × (out.old ≡ []) }
     ensures { Runs
-        (panel_in (memory sheet.old staged.old places.old))
+        (panel_in (memory_in panel.old))
         input.new out.new result
-        (panel_in (memory sheet.new staged.new places.new)) }
+        (panel_in (memory_in panel.new)) }
 {
     let mut handed = 0;
     for _turn in 0..u64::MAX {
-        handed = turn(stdin, stdout, sheet, staged, places, input, out, handed)?;
+        handed = turn(stdin, stdout, panel, input, out, handed)?;
     }
     ControlFlow::Continue(handed)
 }
@@ -134,15 +123,12 @@ fn main(rt: HostRuntime) {
     let mut sheet = Sheet::fresh();
     let mut staged = Sheet::fresh();
     let mut places = Store::fresh();
+    let mut panel = Panel {
+        sheet: &mut sheet,
+        staged: &mut staged,
+        places: &mut places,
+    };
     let mut input = Input::new();
     let mut out = Buffer::new();
-    let _ = run(
-        rt.stdin(),
-        rt.stdout(),
-        &mut sheet,
-        &mut staged,
-        &mut places,
-        &mut input,
-        &mut out,
-    );
+    let _ = run(rt.stdin(), rt.stdout(), &mut panel, &mut input, &mut out);
 }
