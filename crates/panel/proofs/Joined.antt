@@ -27,7 +27,8 @@ left_by_turn ended p left laid left' later g a h = absurd (true≢false (sym g))
 left_by_turn (gave bytes) p left laid left' later g a h = a.all h
 
 -- Taken byte by byte, what the reads gave so far leads to where the answered lines and the bytes that are left lead.
-more_by_turn : (e : Event) (r : Progress) (p : Panel) (w s left laid left' : List ℕ) (later : Panel) → goes_on_after e ≡ true → (is_more e ≡ false → Plain left)
+more_by_turn : (e : Event) (r : Progress) (p : Panel) (w s left laid left' : List ℕ) (later : Panel)
+    → goes_on_after e ≡ true → (is_more e ≡ false → Plain left)
     → Takes p left e laid left' later → with_bytes r s ≡ with_bytes (progress p w []) left
     → with_bytes r (s ++ bytes_of e) ≡ with_bytes (progress later (w ++ laid) []) left'
 unfolding Takes

@@ -32,7 +32,8 @@ module _ {s : List ℕ} {end : ℕ} (f : Ends s 0 (Some end)) where
   line_first : s ≡ (take end s ++ line_feed ∷ []) ++ drop (end + 1) s
   line_first =
       sym (take-append-drop (end + 1) s)
-      ∙ ap (λ l. l ++ drop (end + 1) s) (ap (λ n. take n s) (add-one end) ∙ take-suc s end 0 (omega (arith, f.inside)) ∙ ap (λ c. take end s ++ c ∷ []) line_feed_lem)
+      ∙ ap (λ l. l ++ drop (end + 1) s) (
+      ap (λ n. take n s) (add-one end) ∙ take-suc s end 0 (omega (arith, f.inside)) ∙ ap (λ c. take end s ++ c ∷ []) line_feed_lem)
 
 -- where there is no line end, none is left
 none_left : {s : List ℕ} → Ends s 0 None → Plain s
@@ -61,7 +62,9 @@ module _ {p : Panel} {s out left : List ℕ} {later : Panel} (t : Answering p s 
       let v = rw r at w in
       record {
         lines = line ∷ t.lines;
-        read = t.read ∙ ap (λ a. with_ends t.lines ++ a) (line_first f) ∙ sym (append_assoc (with_ends t.lines) (line ++ line_feed ∷ []) (drop (end + 1) left)) ∙ rw d;
+        read =
+            t.read ∙ ap (λ a. with_ends t.lines ++ a) (line_first f)
+            ∙ sym (append_assoc (with_ends t.lines) (line ++ line_feed ∷ []) (drop (end + 1) left)) ∙ rw d;
         plain = (line_plain f, t.plain);
         written =
             v.written ∙ ap (λ a. a ++ (line_reply later line ++ line_feed ∷ [])) t.written

@@ -48,11 +48,12 @@ module _ {p : Panel} {left out : List ℕ} {handed : ℕ} {later : Panel} {count
         omega (arith, r.counted),
       )
 
-  pub runs_more : {left' out' : List ℕ} {later' : Panel} {n : ℕ} → Turns later left (ltb most_filled handed) left' out' (Continue n) later' → Running p left' out' n later' (count + 1)
+  pub runs_more : {left' out' : List ℕ} {later' : Panel} {n : ℕ} → Turns later left (ltb most_filled handed) left' out' (Continue n) later'
+      → Running p left' out' n later' (count + 1)
   runs_more t = let (m, n) = more_made t in record { made = m; counted = n }
 
-  pub run_stopped : {left' out' : List ℕ} {later' : Panel} {n : ℕ} {o : ControlFlow ℕ ℕ} → Turns later left (ltb most_filled handed) left' out' (Break n) later' → o ≡ Break n
-      → Runs p left' out' o later'
+  pub run_stopped : {left' out' : List ℕ} {later' : Panel} {n : ℕ} {o : ControlFlow ℕ ℕ}
+      → Turns later left (ltb most_filled handed) left' out' (Break n) later' → o ≡ Break n → Runs p left' out' o later'
   run_stopped t e = rw e (record { made = (more_made t).0; until = λ e. absurd (true≢false (sym e)) })
 
   pub run_out : most_turns ≤ count → count ≤ most_turns → Runs p left out (Continue handed) later

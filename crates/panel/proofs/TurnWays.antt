@@ -1,5 +1,5 @@
 -- What each way through a read and a turn gives, from what is known on it. Assumes nothing.
-use mathlib.Core.Path.{◌≡◌, refl, sym, ap, ◌∙◌}
+use mathlib.Core.Path.{◌≡◌, refl, sym, ap, ap₂, ◌∙◌}
 use mathlib.Core.Bool.{Bool, true, false, true≢false}
 use mathlib.Core.List.{List, [], ◌∷◌, ◌++◌, append-nil}
 use Prim.Native.Nat.{ℕ, zero, suc, ◌+◌, ◌-◌, ◌<◌, ◌≤◌, min}
@@ -7,14 +7,15 @@ use native.Mathlib.Omega.{arith}
 use borrow.Author.Tests.{le-leb, lt-ltb, le-ltb, ltb-true, ltb-false}
 use borrow.Rule.Slice.PartMut.{put_mid, take_put}
 use lib.Dec.{ltb}
-use lib.ListN.{length, take, drop, length-take, length-drop}
-use lib.Seq.{take-take, take-nil, take_all, take_at, take-add, length-take-le}
+use lib.ListN.{length, take, drop, length-drop}
+use lib.Seq.{take-take, take-nil, take_all, take_at, drop_at, take-append-le, take-add, length-take-le}
 use Rattle.std.specs.Prelude.{Ok, Err}
+use Rattle.std.proofs.lemmas.List.{nil_from_length}
 use Rattle.std.specs.declared.ops.ControlFlow.TheVariants.{Continue, Break}
 use Rattle.run.specs.Panel.{Panel}
 use Rattle.line_io.specs.Moves.{moved_to_front}
 use Rattle.panel.specs.Lines.{panel_at_end, last_reply}
-use Rattle.panel.specs.CallContracts.{most_kept, most_filled, Answers, Fetches, Finishes, Hands}
+use Rattle.panel.specs.CallContracts.{block, most_kept, most_filled, Answers, Fetches, Finishes, Hands}
 use Rattle.panel.specs.Runs.{more, failed, ended, gave, Takes, Steps, Turns}
 
 -- ---- read
@@ -31,6 +32,14 @@ unfolding moved_to_front
 moved_front s from to k h e =
     let l : length (take (to - from) (drop from s)) ≡ to - from = length-take-le (to - from) (drop from s) (rw length-drop (omega arith)) in
     rw (le-leb to (length s) h) (take_at (take (to - from) (drop from s)) (drop (to - from) s) k (l ∙ sym e) ∙ ap (λ n. take n (drop from s)) (sym e))
+
+-- what stands before a part that was written, and the part's first elements
+take-put_more : (a n : ℕ) (l part : List ℕ) (count : ℕ) → a ≤ length l → count ≤ length part
+    → take (a + count) (put_mid a n l part) ≡ take a l ++ take count part
+take-put_more a n l part count i h =
+    take-add a count (put_mid a n l part)
+    ∙ ap₂ (λ x y. x ++ take count y) (take_put a n l part i) (drop_at (take a l) (part ++ drop n (drop a l)) a (length-take-le a l i))
+    ∙ ap (λ y. take a l ++ y) (take-append-le count part (drop n (drop a l)) h)
 
 module _ (bytes : List ℕ) (rest to : ℕ) {left mid : List ℕ} {to' : ℕ} (v : left ≡ drop rest (take to bytes)) (h : rest ≤ to) (l : to ≤ length bytes)
     (m : to' ≡ min to (rest + most_kept)) (e : mid ≡ moved_to_front rest to' bytes) where
@@ -51,21 +60,17 @@ module _ (bytes : List ℕ) (rest to : ℕ) {left mid : List ℕ} {to' : ℕ} (v
     pub fetched_none : {E : Type 0} (error : E) → Fetches left (take (to' - rest) (put_mid (to' - rest) n mid part)) (Err error)
     fetched_none error = record { bytes = []; front = take_put (to' - rest) n mid part i ∙ kept_front ∙ sym (append-nil (take most_kept left)); gave = refl }
 
-    pub fetched : {E : Type 0} (count : ℕ) → Fetches {E = E} left (take (to' - rest + count) (put_mid (to' - rest) n mid part)) (Ok count)
-    fetched count =
-        let buf = put_mid (to' - rest) n mid part in
-        record {
-          bytes = take count (drop (to' - rest) buf);
-          front = take-add (to' - rest) count buf ∙ ap (λ l. l ++ take count (drop (to' - rest) buf)) (take_put (to' - rest) n mid part i ∙ kept_front);
-          gave = omega (arith, length-take count (drop (to' - rest) buf));
-        }
+    pub fetched : {E : Type 0} (count : ℕ) → count ≤ length part → count ≤ block
+        → Fetches {E = E} left (take (to' - rest + count) (put_mid (to' - rest) n mid part)) (Ok count)
+    fetched count h b = record {
+      bytes = take count part;
+      front = take-put_more (to' - rest) n mid part count i h ∙ ap (λ l. l ++ take count part) kept_front;
+      gave = (length-take-le count part h, b);
+    }
 
 -- ---- take_read
-no_bytes : (bytes : List ℕ) → length bytes ≤ 0 → bytes ≡ []
-no_bytes [] h = refl
-no_bytes (c ∷ bytes) h = absurd (omega arith)
-
-pub read_failed : {p : Panel} {left mid out left' : List ℕ} {E : Type 0} {error : E} → Fetches left mid (Err error) → out ≡ [] → Steps p left false left' out false p
+pub read_failed : {p : Panel} {left mid out left' : List ℕ} {E : Type 0} {error : E} → Fetches left mid (Err error) → out ≡ []
+    → Steps p left false left' out false p
 unfolding Takes
 read_failed f e = record { event = failed; kind = refl; takes = (e, refl); goes = refl }
 
@@ -73,8 +78,8 @@ module _ {p : Panel} {left mid out left' : List ℕ} {later : Panel} {E : Type 0
   pub read_ended : {line : List ℕ} → count ≡ 0 → line ≡ mid → Finishes p line out later → Steps p left false left' out false later
   unfolding Takes
   read_ended z l w =
-      let none : length f.bytes ≤ 0 = omega (arith, f.gave) in
-      let front = l ∙ f.front ∙ ap (λ l. take most_kept left ++ l) (no_bytes f.bytes none) ∙ append-nil (take most_kept left) in
+      let none : f.bytes ≡ [] = nil_from_length f.bytes (f.gave.0 ∙ z) in
+      let front = l ∙ f.front ∙ ap (λ l. take most_kept left ++ l) none ∙ append-nil (take most_kept left) in
       record { event = ended; kind = refl; takes = (w.written ∙ ap (last_reply p) front, w.stands ∙ ap (panel_at_end p) front); goes = refl }
 
   pub read_gave : Answers p mid out left' later → Steps p left false left' out true later
@@ -91,7 +96,8 @@ module _ {p : Panel} {left out left' : List ℕ} {later : Panel} (handed : ℕ) 
   stepped_read t h = rw (le-ltb most_filled handed h) t
 
 -- ---- turn
-module _ {p : Panel} {left left' out : List ℕ} {full go : Bool} {later : Panel} (t : Steps p left full left' out go later) {count : ℕ} (h : Hands out count) where
+module _ {p : Panel} {left left' out : List ℕ} {full go : Bool} {later : Panel} (t : Steps p left full left' out go later)
+    {count : ℕ} (h : Hands out count) where
   pub turned_on : go ≡ true → Turns p left full left' out (Continue count) later
   turned_on e = record { goes_on = go; steps = t; handed = h.all; goes = λ _. e }
 

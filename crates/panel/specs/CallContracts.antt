@@ -23,9 +23,9 @@ pub record Answers (p : Panel) (s laid left : List ℕ) (later : Panel) : Type 0
   pub stands : later ≡ after_lines p lines
   pub all : length laid ≤ most_filled → Plain left
 
--- what a read gave: no more bytes than it answers, and none where it failed
+-- what a read gave: as many bytes as it answers, no more than a block, and none where it failed
 abbrev pub Gave : {E : Type 0} → Result ℕ E → List ℕ → Type 0
-Gave (Ok count) bytes = length bytes ≤ count
+Gave (Ok count) bytes = (length bytes ≡ count) × (count ≤ block)
 Gave (Err e) bytes = bytes ≡ []
 
 -- Of the bytes that are left, no more than is kept of an unfinished line, and behind them what a read gave.

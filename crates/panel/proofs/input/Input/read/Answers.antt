@@ -7,7 +7,9 @@ pub returns-in-Ok : goal.returns-in-Ok
 returns-in-Ok c =
     let i = c.self.inside in
     let v : c.args.self.now ≡ drop i.rest (take i.to i.bytes) = cc in
-    fetched i.bytes i.rest i.to v (omega arith) (omega arith) (omega arith) c.move_to_front.ensures c.read.new.buf _ (omega arith) c.in-Ok.count
+    let b = c.in-Ok.ensures.bound.0 in
+    fetched i.bytes i.rest i.to v (omega arith) (omega arith) (omega arith) c.move_to_front.ensures c.read.new.buf _ (omega arith) c.in-Ok.count b
+    (omega (arith, b))
 
 pub returns-in-Err : goal.returns-in-Err
 returns-in-Err c =
