@@ -2,7 +2,7 @@
 use Prim.Native.Nat.{ℕ, ◌+◌, ◌-◌, ◌%◌, ◌≤◌, ◌<◌}
 use native.Mathlib.Omega.{arith}
 use mathlib.Core.Path.{◌≡◌, refl, ap, sym, subst, ◌∙◌}
-use mathlib.Core.Bool.{true}
+use mathlib.Core.Bool.{Bool, true}
 use mathlib.Core.List.{List, [], ◌∷◌, ◌++◌}
 use lib.ListN.{length, take, drop, length-append}
 use lib.Seq.{sets, sets-eq, take_at, drop-append_seam}
@@ -11,7 +11,7 @@ use borrow.Author.Tests.{ne_eqb}
 use Rattle.expression.specs.Limits.{most_tokens, most_record_bytes}
 use Rattle.expression.specs.Refusal.{accepted, short}
 use Rattle.expression.specs.Lent.{output_after, length_after}
-use Rattle.expression.specs.Token.{Operators, opening, class}
+use Rattle.expression.specs.Token.{Operators, class}
 use Rattle.expression.specs.Tree.{Tree, record_of}
 use Rattle.expression.specs.Decode.{tree_of}
 use Rattle.expression.specs.Operand.{row_of}
@@ -31,7 +31,9 @@ use Rattle.parser.proofs.BuildLaws.{BuiltTree, built_tree}
 use Rattle.parser.proofs.RepairWays.{Accepted, accepted_record}
 use Rattle.brackets.specs.Shortest.{shortened, shortest_of, shortest_number, AnswersShortest}
 use Rattle.brackets.specs.Edges.{base, Marked, Fills}
-use Rattle.brackets.specs.Walk.{right_side, row_under, StandsWithRoom, Shortens}
+use Rattle.brackets.specs.Walk.{row_under, StandsWithRoom, Shortens}
+use Rattle.brackets.specs.declared.walk.Side.TheVariants.{Right}
+use Rattle.std.specs.Prelude.{None}
 use Rattle.brackets.proofs.Fewest.{enclosed_shortens}
 use Rattle.brackets.proofs.OperandRows.{plain_row}
 
@@ -66,7 +68,7 @@ module _ (sheet bytes out zeros : List ℕ) {whole : List ℕ} {y : Answer} (roo
     abbrev tree : Tree
     tree = made.0
 
-    answer_is : shortest_of sheet bytes ≡ row_under sheet opening true tree
+    answer_is : shortest_of sheet bytes ≡ row_under sheet None true tree
     unfolding shortest_of
     answer_is =
         ap (shortened sheet) (ap (tree_of (class ops)) made.1.recorded ∙ tree_of_record (class ops) (brackets ops) tree made.1.over)
@@ -76,7 +78,7 @@ module _ (sheet bytes out zeros : List ℕ) {whole : List ℕ} {y : Answer} (roo
     bytes_fit = let (t, r) = (record_accepted ops bytes).0 (sym number_is ∙ zero) in r.bytes_fit
 
     -- its shortest row has room
-    fits : length (row_under sheet opening true tree) ≤ most_tokens
+    fits : length (row_under sheet None true tree) ≤ most_tokens
     fits =
         omega (
           arith,
@@ -112,11 +114,11 @@ module _ (sheet bytes out zeros : List ℕ) {whole : List ℕ} {y : Answer} (roo
     pub front_fills : Fills sheet whole y.length
     front_fills = record { tree = tree; stands = fills; within = size_fits }
 
-    pub front_stands : {marks : List ℕ} → Marked sheet whole marks 0 y.length → StandsWithRoom sheet whole marks 0 opening right_side 0
+    pub front_stands : {marks : List Bool} → Marked sheet whole marks 0 y.length → StandsWithRoom sheet whole marks 0 None Right 0
     front_stands m = record { tree = tree; to = y.length; stands = fills; within = size_fits; marked = m; sided = refl; room = omega (arith, fits) }
 
     -- the walk wrote it to the front of a buffer with room for every row
-    module _ (blank : List ℕ) {written : List ℕ} {w : ℕ} (walked : Shortens sheet whole 0 opening right_side blank 0 written w) where
+    module _ (blank : List ℕ) {written : List ℕ} {w : ℕ} (walked : Shortens sheet whole 0 None Right blank 0 written w) where
       length_is : w % base ≡ length (shortest_of sheet bytes)
       length_is = (walked.wrote tree (length (record_of tree)) at_front (omega (arith, fits))).1 ∙ omega (arith, ap length answer_is)
 

@@ -8,7 +8,7 @@ use mathlib.Core.List.{List, [], ◌∷◌}
 use lib.ListN.{get_or}
 use borrow.Author.Rules.{rules}
 use borrow.Author.Tests.{not-true}
-use Rattle.expression.specs.Lists.{one_if, any_holds}
+use Rattle.expression.specs.Lists.{any_holds}
 use Rattle.expression.specs.Token.{Infix, Prefix, opening, class}
 use Rattle.expression.specs.Tree.{Tree, reading, bracket, binary, prefix, record_of, Over}
 use Rattle.expression.proofs.Classes.{prefix_byte}
@@ -18,10 +18,12 @@ use Rattle.sheet.specs.Layout.{operators_of, prefix_in, some_prefix}
 use Rattle.sheet.specs.Relation.{closes_in}
 use Rattle.sheet.proofs.Laws.{class_in, none_prefix}
 use Rattle.record.specs.TreeAt.{TreeAt}
+use Rattle.record.specs.Counts.{sees_edge}
+use Rattle.std.specs.Prelude.{Some}
 use Rattle.record.proofs.Trees.{in_bracket}
 use Rattle.brackets.specs.Enclosed.{around}
 use Rattle.brackets.specs.Shortest.{enclosed_in}
-use Rattle.brackets.specs.Edges.{sees_edge, edge_shows, Marked}
+use Rattle.brackets.specs.Edges.{edge_shows, Marked}
 use Rattle.brackets.proofs.OneTree.{operands_at, one_tree_lem}
 
 -- ---- has_prefix
@@ -77,16 +79,16 @@ module _ (sheet : List ℕ) where
       go false f = f
   no_edge (prefix p t) h e = known_prefix p h.0 (both_false (prefix_in sheet p) _ e).0
 
-  module _ (bytes marks : List ℕ) where
+  module _ (bytes : List ℕ) (marks : List Bool) where
     -- no left operand shows a conflict on its edge: the one at the place, and all behind it
     none_here : (t : Tree) (from to : ℕ) → TreeAt (operators_of sheet) bytes from t to → Unprefixed t
-        → (end o : ℕ) (l r : Tree) → TreeAt (operators_of sheet) bytes from (binary o l r) end → edge_shows sheet o (enclosed_in sheet l) ≡ false
+        → (end o : ℕ) (l r : Tree) → TreeAt (operators_of sheet) bytes from (binary o l r) end → edge_shows sheet (Some o) (enclosed_in sheet l) ≡ false
     none_here t from to k none end o l r x =
         let (e, _) = one_tree_lem (operators_of sheet) bytes from t (binary o l r) to end k x in
-        ap (any_holds (sees_edge sheet o)) (no_edge l x.over.1 (left_unprefixed o l r (rw e at none)))
+        ap (any_holds (sees_edge sheet (Some o))) (no_edge l x.over.1 (left_unprefixed o l r (rw e at none)))
 
     none_shown : (t : Tree) (from to : ℕ) → TreeAt (operators_of sheet) bytes from t to → Unprefixed t
-        → (at end o : ℕ) (l r : Tree) → from ≤ at → at < to → TreeAt (operators_of sheet) bytes at (binary o l r) end → edge_shows sheet o (enclosed_in sheet l) ≡ false
+        → (at end o : ℕ) (l r : Tree) → from ≤ at → at < to → TreeAt (operators_of sheet) bytes at (binary o l r) end → edge_shows sheet (Some o) (enclosed_in sheet l) ≡ false
     none_shown (reading a) from to k none at end o l r low high x =
         let same : at ≡ from = omega (arith, k.ends) in
         none_here (reading a) from to k none end o l r (rw same at x)
@@ -103,7 +105,7 @@ module _ (sheet : List ℕ) where
         (λ d. let same : at ≡ from = omega arith in none_here (binary c u v) from to k none end o l r (rw same at x))
     none_shown (prefix p t) from to k none at end o l r low high x = known_prefix p k.over.0 (both_false (prefix_in sheet p) _ none).0
 
-    -- marks that are all 0 are right
-    pub blank_marked : (t : Tree) (from to : ℕ) → TreeAt (operators_of sheet) bytes from t to → Unprefixed t → ((at : ℕ) → get_or marks at 0 ≡ 0) → Marked sheet bytes marks from to
+    -- marks of which none is set are right
+    pub blank_marked : (t : Tree) (from to : ℕ) → TreeAt (operators_of sheet) bytes from t to → Unprefixed t → ((at : ℕ) → get_or marks at false ≡ false) → Marked sheet bytes marks from to
     blank_marked t from to k none blank =
-        record { mark = λ at end o l r low high x. blank at ∙ sym (ap one_if (none_shown t from to k none at end o l r low high x)) }
+        record { mark = λ at end o l r low high x. blank at ∙ sym (none_shown t from to k none at end o l r low high x) }

@@ -3,29 +3,29 @@ use Prim.Native.Nat.{ℕ, ◌+◌, ◌*◌, ◌<◌}
 use native.Mathlib.Numerals.{add-one}
 use native.Mathlib.Omega.{arith}
 use mathlib.Core.Path.{◌≡◌, refl, ap, sym, ◌∙◌}
-use mathlib.Core.Bool.{true}
+use mathlib.Core.Bool.{Bool, true}
 use mathlib.Core.List.{List, [], ◌∷◌}
-use lib.Dec.{ltb}
 use lib.ListN.{length, set}
 use lib.Seq.{sets}
 use mir.Syntax.{w64}
 use mir.Val.{Fits}
-use Rattle.expression.specs.Limits.{most_operators, most_tokens}
+use Rattle.expression.specs.Limits.{most_tokens}
 use Rattle.expression.specs.Tree.{Tree}
-use Rattle.expression.proofs.Tests.{at_most_one}
 use Rattle.sheet.specs.Layout.{operators_of}
 use Rattle.record.specs.Node.{node_at}
 use Rattle.record.specs.TreeAt.{TreeAt}
 use Rattle.record.specs.declared.Node.{Node}
 use Rattle.record.specs.declared.Node.TheVariants as node
 use Rattle.record.proofs.Trees.{a_reading, a_bracket, a_prefix}
-use Rattle.brackets.specs.Walk.{shown_side, right_side, is_right, row_under, side_of, StandsWithRoom, Shortens}
+use Rattle.brackets.specs.Walk.{is_right, row_under, side_of, StandsWithRoom, Shortens}
+use Rattle.brackets.specs.declared.walk.Side.{Side}
+use Rattle.brackets.specs.declared.walk.Side.TheVariants.{Shown, Right}
 use Rattle.brackets.proofs.OperandRows.{leaf_row, prefix_row}
 use Rattle.brackets.proofs.Walking.{marked_within, due, inside, sided_as}
 use Rattle.brackets.specs.Edges.{base}
-use Rattle.std.specs.Prelude.{Some}
+use Rattle.std.specs.Prelude.{Option, Some}
 
-module _ (sheet bytes marks : List ℕ) (from above side at : ℕ) (h : StandsWithRoom sheet bytes marks from above side at) {x : Node} (found : Some x ≡ node_at (operators_of sheet) bytes from) where
+module _ (sheet bytes : List ℕ) (marks : List Bool) (from : ℕ) (above : Option ℕ) (side : Side) (at : ℕ) (h : StandsWithRoom sheet bytes marks from above side at) {x : Node} (found : Some x ≡ node_at (operators_of sheet) bytes from) where
   -- a reading
   pub leaf_room : {a : ℕ} → x ≡ node.Reading a → at < most_tokens
   leaf_room {a} is =
@@ -71,9 +71,9 @@ module _ (sheet bytes marks : List ℕ) (from above side at : ℕ) (h : StandsWi
       }
 
   -- a prefix operator
-  module _ (unshown : side ≡ shown_side → ⊥) {p : ℕ} (is : x ≡ node.Prefix p) where
+  module _ (unshown : side ≡ Shown → ⊥) {p : ℕ} (is : x ≡ node.Prefix p) where
     prefixed_row : (t : Tree) (to : ℕ) → TreeAt (operators_of sheet) bytes from t to
-        → (u : Tree) × TreeAt (operators_of sheet) bytes (from + 1) u to × (row_under sheet above (is_right side) t ≡ p ∷ row_under sheet p true u)
+        → (u : Tree) × TreeAt (operators_of sheet) bytes (from + 1) u to × (row_under sheet above (is_right side) t ≡ p ∷ row_under sheet (Some p) true u)
     prefixed_row t to k =
         let (u, e, y) = a_prefix (operators_of sheet) bytes from found is t k in
         (u, y, ap (row_under sheet above (is_right side)) e ∙ prefix_row sheet above side unshown p u (sided_as sheet bytes marks from above side at h t to k ∙ ap (side_of sheet above (is_right side)) e))
@@ -84,10 +84,10 @@ module _ (sheet bytes marks : List ℕ) (from above side at : ℕ) (h : StandsWi
     pub prefix_fits : Fits w64 (at + 1)
     prefix_fits = let d = prefix_room in omega arith
 
-    pub prefix_falls : {t : ℕ} → due from above ≡ t → due (from + 1) p < t
-    prefix_falls e = let d = inside sheet bytes marks from above side at h in omega (arith, at_most_one (ltb p most_operators))
+    pub prefix_falls : {t : ℕ} → due from above ≡ t → due (from + 1) (Some p) < t
+    prefix_falls e = let d = inside sheet bytes marks from above side at h in omega arith
 
-    pub prefix_stands : StandsWithRoom sheet bytes marks (from + 1) p right_side (at + 1)
+    pub prefix_stands : StandsWithRoom sheet bytes marks (from + 1) (Some p) Right (at + 1)
     prefix_stands =
         let (u, y, row) = prefixed_row h.tree h.to h.stands in
         record {
@@ -100,13 +100,13 @@ module _ (sheet bytes marks : List ℕ) (from above side at : ℕ) (h : StandsWi
           room = omega (arith, h.room, ap length row);
         }
 
-    pub a_prefixed : (before : List ℕ) {after : List ℕ} {r : ℕ} → Shortens sheet bytes (from + 1) p right_side (set before at p) (at + 1) after r → Shortens sheet bytes from above side before at after r
+    pub a_prefixed : (before : List ℕ) {after : List ℕ} {r : ℕ} → Shortens sheet bytes (from + 1) (Some p) Right (set before at p) (at + 1) after r → Shortens sheet bytes from above side before at after r
     a_prefixed before g =
         record {
           wrote = λ t to k room.
               let (u, y, row) = prefixed_row t to k in
               let (a, b, c) = g.wrote u to y (omega (arith, ap length row)) in
-              (a, b ∙ omega (arith, ap length row), c ∙ ap (λ j. sets (set before at p) j (row_under sheet p true u)) (add-one at) ∙ ap (sets before at) (sym row));
+              (a, b ∙ omega (arith, ap length row), c ∙ ap (λ j. sets (set before at p) j (row_under sheet (Some p) true u)) (add-one at) ∙ ap (sets before at) (sym row));
         }
 
 pub ruleset node_ways = (

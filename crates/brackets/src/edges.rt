@@ -1,15 +1,15 @@
 // The marks of a record: which left operands show a conflict by a prefix operator on their right edge.
-ghost use Rattle.std.specs.Prelude.{◌≡◌, Some, length, replicate};
+ghost use Rattle.std.specs.Prelude.{◌≡◌, false, Some, length, replicate};
 ghost use Rattle.expression.specs.Limits.{most_record_bytes};
 ghost use Rattle.expression.specs.Lists.{any_holds};
 ghost use Rattle.sheet.specs.Layout.{operators_of, prefix_in};
 ghost use Rattle.record.specs.Node.{node_at};
-ghost use Rattle.brackets.specs.Edges.{sees_edge, seer_past, Marked, Stands, Fills, MarksEdges};
+ghost use Rattle.brackets.specs.Edges.{closes_under, seer_past, Marked, Stands, Fills, MarksEdges};
 
-use crate::words::BASE;
-use expression::limits::{MOST_OPERATORS, MOST_RECORD_BYTES};
-use expression::{bytes, token};
+use expression::bytes;
+use expression::limits::MOST_RECORD_BYTES;
 use record::Node;
+use record::conflicts::Around;
 use sheet::Sheet;
 
 // Some byte is a prefix operator; with no look at the bytes under a sheet that has none.
@@ -31,78 +31,88 @@ pub fn top_at(sheet: &Sheet, whole: &[u8; MOST_RECORD_BYTES], at: usize) -> Node
     record::node_at(sheet, &whole[..], at).unwrap()
 }
 
-// The operator that sees the edge excludes operator p there. A byte that is no operator sees none.
-#[tactic(auto, using(crate::proofs::MarkingEdges::sees_edge_ways))]
-pub fn sees_edge(sheet: &Sheet, seer: u8, p: u8) -> bool
-    ensures { result ≡ sees_edge sheet.now seer p }
+// Operator o on top of a tree, as a right or only operand, shows a conflict with the operator above, if there is one.
+pub fn closes_under(sheet: &Sheet, above: Option<u8>, o: u8) -> bool
+    ensures { result ≡ closes_under sheet.now above o }
 {
-    if MOST_OPERATORS <= seer {
-        return false;
+    match above {
+        Some(above) => sheet.closes_before(above, o),
+        None => false,
     }
-    !sheet.closes_before(p, seer)
 }
 
 // Who sees the right edge of operator o's tree, which stands under the operator above: none where it is bracketed there.
 #[tactic(auto, using(crate::proofs::MarkingEdges::seer_past_ways))]
-fn seer_past(sheet: &Sheet, above: u8, o: u8, seer: u8) -> u8
-    ensures { result ≡ seer_past sheet.now above o seer }
+fn seer_past(sheet: &Sheet, around: Around, o: u8) -> Option<u8>
+    ensures { result ≡ seer_past sheet.now around.above o around.seer }
 {
-    if sheet.closes_before(above, o) {
-        return token::OPENING;
+    if closes_under(sheet, around.above, o) {
+        return None;
     }
-    seer
+    around.seer
 }
 
-// Marks the tree at the place: at each of its infix operators 1 where the left operand shows it a conflict on its right edge, else 0.
-// The answer is the place after the tree times the base, and 1 where the tree, as the right or only operand of the operator above,
-// shows the seer such a conflict, else 0. A byte that is no operator is given where there is none above, or no seer.
+// Marks the tree at the place: at each of its infix operators, whether the left operand shows it a conflict on its right edge.
+// The answer is the place after the tree, and whether the tree, as the right or only operand of the operator above, shows the seer
+// such a conflict.
 #[tactic(auto, using(crate::proofs::MarkingInfix::ways))]
 pub fn mark_edges(
     sheet: &Sheet,
     whole: &[u8; MOST_RECORD_BYTES],
-    at: usize,
-    above: u8,
-    seer: u8,
-    marks: &mut [u8; MOST_RECORD_BYTES],
-) -> usize
-    requires stands { Stands sheet.now whole.now at }
+    from: usize,
+    outside: Around,
+    marks: &mut [bool; MOST_RECORD_BYTES],
+) -> (usize, bool)
+    requires stands { Stands sheet.now whole.now from }
     requires marks_len { length marks.old ≡ most_record_bytes }
-    ensures { MarksEdges sheet.now whole.now at above seer marks.old marks.new result }
+    ensures { MarksEdges sheet.now whole.now from outside.above outside.seer marks.old marks.new result.0 result.1 }
 {
-    match top_at(sheet, whole, at) {
-        Node::Reading(_) => (at + 1) * BASE,
-        Node::Bracket => mark_edges(sheet, whole, at + 1, above, seer, marks),
-        Node::Prefix(p) => {
-            let inner = mark_edges(sheet, whole, at + 1, p, seer, marks);
-            if sees_edge(sheet, seer, p) {
-                return inner / BASE * BASE + 1;
+    let mut at = from;
+    let mut around = outside;
+    let mut shown = false;
+    loop {
+        match top_at(sheet, whole, at) {
+            Node::Reading(_) => {
+                return (at + 1, shown);
             }
-            inner
-        }
-        Node::Operator(o) => {
-            let left = mark_edges(sheet, whole, at + 1, token::OPENING, o, marks);
-            marks[at] = (left % BASE) as u8;
-            let next = seer_past(sheet, above, o, seer);
-            mark_edges(sheet, whole, left / BASE, o, next, marks)
+            Node::Bracket => {
+                at += 1;
+            }
+            Node::Prefix(p) => {
+                shown |= around.sees_edge(sheet, p);
+                around.above = Some(p);
+                at += 1;
+            }
+            Node::Operator(o) => {
+                let left = Around {
+                    above: None,
+                    seer: Some(o),
+                };
+                let (seam, mark) = mark_edges(sheet, whole, at + 1, left, marks);
+                marks[at] = mark;
+                around.seer = seer_past(sheet, around, o);
+                around.above = Some(o);
+                at = seam;
+            }
         }
     }
 }
 
-// The marks of a record, which is the first `size` bytes. They are all 0 at first, and stay so, without a walk, where the record
-// has no prefix operator.
+// The marks of a record, which is the first `size` bytes. None is set at first, and none is without a walk where the record has no
+// prefix operator.
 #[tactic(auto, using(crate::proofs::MarkedRecord::mark_record_ways))]
 pub fn mark_record(
     sheet: &Sheet,
     whole: &[u8; MOST_RECORD_BYTES],
     size: usize,
-    marks: &mut [u8; MOST_RECORD_BYTES],
+    marks: &mut [bool; MOST_RECORD_BYTES],
 )
     requires fills { Fills sheet.now whole.now size }
-    requires marks_value { marks.old ≡ replicate most_record_bytes 0 }
+    requires marks_value { marks.old ≡ replicate most_record_bytes false }
     ensures { Marked sheet.now whole.now marks.new 0 size }
 {
     let all = &whole[..];
     if has_prefix(sheet, &all[0..size]) {
-        mark_edges(sheet, whole, 0, token::OPENING, token::OPENING, marks);
+        mark_edges(sheet, whole, 0, Around::NOTHING, marks);
     }
 }

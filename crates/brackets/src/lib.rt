@@ -5,10 +5,10 @@ ghost use Rattle.record.specs.Outcome.{answer_of};
 ghost use Rattle.brackets.specs.Shortest.{AnswersShortest};
 
 use expression::refusal::Refusal;
-use expression::{bytes, limits, token};
+use expression::{bytes, limits};
 use record::Answer;
 use sheet::Sheet;
-use walk::Marked;
+use walk::{Marked, Side};
 use words::BASE;
 
 mod edges;
@@ -22,7 +22,7 @@ pub fn shortest_row(sheet: &Sheet, bytes: &[u8], out: &mut [u8]) -> Result<usize
 {
     let mut whole = [0u8; limits::MOST_RECORD_BYTES];
     let size = parser::repair_record(sheet, bytes, &mut whole)?;
-    let mut marks = [0u8; limits::MOST_RECORD_BYTES];
+    let mut marks = [false; limits::MOST_RECORD_BYTES];
     edges::mark_record(sheet, &whole, size, &mut marks);
     let mut row = [0u8; limits::MOST_TOKENS];
     let marked = Marked {
@@ -30,7 +30,7 @@ pub fn shortest_row(sheet: &Sheet, bytes: &[u8], out: &mut [u8]) -> Result<usize
         whole: &whole,
         marks: &marks,
     };
-    let written = marked.write_operand(0, token::OPENING, walk::RIGHT, &mut row, 0);
+    let written = marked.write_operand(0, None, Side::Right, &mut row, 0);
     let length = written % BASE;
     if out.len() < length {
         return Err(Refusal::Short);

@@ -2,20 +2,33 @@
 ghost use Rattle.std.specs.Prelude.{◌≡◌};
 ghost use Rattle.sheet.specs.Layout.{operators_of};
 ghost use Rattle.record.specs.Node.{node_at};
-ghost use Rattle.brackets.specs.Walk.{leaf_byte, shows, StandsWithRoom, Shortens};
+ghost use Rattle.brackets.specs.Walk.{leaf_byte, is_right, left_side, shows, StandsWithRoom, Shortens};
 
-use crate::edges::{sees_edge, top_at};
+use crate::edges::{closes_under, top_at};
 use crate::words::{BASE, set_two};
 use expression::limits::{MOST_RECORD_BYTES, MOST_TOKENS};
 use expression::token;
 use record::Node;
+use record::conflicts::Around;
 use sheet::Sheet;
 
-// The side of a left operand is its mark: this one where its right edge shows a conflict with the operator above it, else 0.
-const SHOWN: u8 = 1;
+// How an operand stands under the operator above it.
+#[derive(Clone, Copy, Debug, PartialEq, Eq)]
+pub enum Side {
+    // On its left.
+    Left,
+    // On its left, with a conflict shown on the right edge, as its mark says.
+    Shown,
+    // On its right or as its only one. A tree with no operator above it stands so too.
+    Right,
+}
 
-// The side of a right or only operand, and of a tree with no operator above it.
-pub const RIGHT: u8 = 2;
+// The side of a left operand with that mark.
+fn left_side(shown: bool) -> Side
+    ensures { result ≡ left_side shown }
+{
+    if shown { Side::Shown } else { Side::Left }
+}
 
 // The byte at a place if it is a reading, else 0. It tells less than the node, and is compiled into the walk.
 #[tactic(auto, using(crate::proofs::WalkingInfix::leaf_at_ways))]
@@ -33,15 +46,19 @@ fn leaf_at(sheet: &Sheet, whole: &[u8; MOST_RECORD_BYTES], at: usize) -> u8
     byte
 }
 
-// An operand with operator o on top shows a conflict with the operator above it, on that side. A byte that is no operator shows none.
+// An operand with operator o on top shows a conflict with the operator above it, on that side. Where there is none, it shows none.
 #[tactic(auto, using(crate::proofs::Walking::shows_ways))]
-fn shows(sheet: &Sheet, above: u8, right: bool, o: u8) -> bool
-    ensures { result ≡ shows sheet.now above right o }
+fn shows(sheet: &Sheet, above: Option<u8>, side: Side, o: u8) -> bool
+    ensures { result ≡ shows sheet.now above (is_right side) o }
 {
-    if right {
-        return sheet.closes_before(above, o);
+    if side == Side::Right {
+        return closes_under(sheet, above, o);
     }
-    sees_edge(sheet, above, o)
+    let left = Around {
+        above: None,
+        seer: above,
+    };
+    left.sees_edge(sheet, o)
 }
 
 // A record of a tree, at the front of as many bytes as a record has at most, and the marks that `edges` makes for it.
@@ -49,7 +66,7 @@ fn shows(sheet: &Sheet, above: u8, right: bool, o: u8) -> bool
 pub struct Marked<'a> {
     pub sheet: &'a Sheet,
     pub whole: &'a [u8; MOST_RECORD_BYTES],
-    pub marks: &'a [u8; MOST_RECORD_BYTES],
+    pub marks: &'a [bool; MOST_RECORD_BYTES],
 }
 
 impl Marked<'_> {
@@ -60,17 +77,17 @@ impl Marked<'_> {
     pub fn write_operand(
         &self,
         at: usize,
-        above: u8,
-        side: u8,
+        above: Option<u8>,
+        side: Side,
         out: &mut [u8; MOST_TOKENS],
         to: usize,
     ) -> usize
         requires { StandsWithRoom self.now.sheet.now self.now.whole.now self.now.marks.now at above side to }
         ensures { Shortens self.now.sheet.now self.now.whole.now at above side out.old to out.new result }
     {
-        if side == SHOWN {
+        if let Side::Shown = side {
             out[to] = token::OPENING;
-            let inner = self.write_operand(at, token::OPENING, RIGHT, out, to + 1);
+            let inner = self.write_operand(at, None, Side::Right, out, to + 1);
             out[inner % BASE] = token::CLOSING;
             return inner + 1;
         }
@@ -82,12 +99,12 @@ impl Marked<'_> {
             Node::Bracket => self.write_operand(at + 1, above, side, out, to),
             Node::Prefix(p) => {
                 out[to] = p;
-                self.write_operand(at + 1, p, RIGHT, out, to + 1)
+                self.write_operand(at + 1, Some(p), Side::Right, out, to + 1)
             }
             Node::Operator(o) => {
-                if shows(self.sheet, above, side == RIGHT, o) {
+                if shows(self.sheet, above, side, o) {
                     out[to] = token::OPENING;
-                    let inner = self.write_operand(at, token::OPENING, RIGHT, out, to + 1);
+                    let inner = self.write_operand(at, None, Side::Right, out, to + 1);
                     out[inner % BASE] = token::CLOSING;
                     return inner + 1;
                 }
@@ -95,12 +112,12 @@ impl Marked<'_> {
                 if a != 0 {
                     let next = to + 1;
                     set_two(out, to, next, a, o);
-                    return self.write_operand(at + 2, o, RIGHT, out, next + 1);
+                    return self.write_operand(at + 2, Some(o), Side::Right, out, next + 1);
                 }
-                let left = self.write_operand(at + 1, o, self.marks[at], out, to);
+                let left = self.write_operand(at + 1, Some(o), left_side(self.marks[at]), out, to);
                 let seam = left % BASE;
                 out[seam] = o;
-                self.write_operand(left / BASE, o, RIGHT, out, seam + 1)
+                self.write_operand(left / BASE, Some(o), Side::Right, out, seam + 1)
             }
         }
     }

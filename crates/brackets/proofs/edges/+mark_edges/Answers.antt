@@ -1,21 +1,22 @@
--- What the ways through `mark_edges` give. Assumes nothing.
-use Rattle.brackets.proofs.MarkingInfix.{ways}
+-- What the steps of `mark_edges` give. Assumes nothing.
+use Rattle.brackets.proofs.MarkingEdges.{a_leaf, a_bracketed, a_prefixed}
+use Rattle.brackets.proofs.MarkingInfix.{left_stands, right_falls, an_infix, ways}
 use Rattle.brackets.proofs.edges.+mark_edges.Goals as goal
 
-pub returns-then-sees_edge : goal.returns-then-sees_edge
-returns-then-sees_edge t c = search ways
-
-pub mark_edges-requires-in-Operator : goal.mark_edges-requires-in-Operator
-mark_edges-requires-in-Operator t c = search ways
-
 pub returns-in-Reading : goal.returns-in-Reading
-returns-in-Reading t c = search ways
+returns-in-Reading t c = a_leaf c.loop-at.invariant c.top_at.ensures c.in-Reading.is
 
-pub returns-in-Bracket : goal.returns-in-Bracket
-returns-in-Bracket t c = search ways
+pub loop-at-preserved-in-Bracket : goal.loop-at-preserved-in-Bracket
+loop-at-preserved-in-Bracket t c = a_bracketed c.loop-at.invariant c.top_at.ensures c.in-Bracket.is
 
-pub returns-else-sees_edge : goal.returns-else-sees_edge
-returns-else-sees_edge t c = search ways
+pub loop-at-preserved-in-Prefix : goal.loop-at-preserved-in-Prefix
+loop-at-preserved-in-Prefix t c = a_prefixed c.loop-at.invariant c.top_at.ensures c.in-Prefix.is c.sees_edge-shown.ensures
 
-pub returns-in-Operator : goal.returns-in-Operator
-returns-in-Operator t c = search ways
+pub mark_edges-seam-requires : goal.mark_edges-seam-requires
+mark_edges-seam-requires t c = (search ways, (left_stands c.loop-at.invariant c.top_at.ensures c.in-Operator.is, c.loop-at.invariant.long))
+
+pub loop-at-smaller : goal.loop-at-smaller
+loop-at-smaller t c = right_falls c.loop-at.invariant c.top_at.ensures c.in-Operator.is c.mark_edges-seam.ensures (search ways)
+
+pub loop-at-preserved : goal.loop-at-preserved
+loop-at-preserved t c = an_infix c.loop-at.invariant c.top_at.ensures c.in-Operator.is c.mark_edges-seam.ensures c.seer_past-around.ensures

@@ -1,4 +1,5 @@
 -- What the ways through `write_operand` give. Assumes nothing.
+use Rattle.std.proofs.Common.{rules}
 use Rattle.brackets.proofs.Walking.{inside}
 use Rattle.brackets.proofs.WalkingNodes.{inner_stands, prefix_stands}
 use Rattle.brackets.proofs.WalkingInfix.{leaf_stands, left_stands, ways}
@@ -13,8 +14,8 @@ bounds-out-inner t c = search ways
 pub overflow_add-result : goal.overflow_add-result
 overflow_add-result t c = search ways
 
-pub returns-then-side-eq-SHOWN : goal.returns-then-side-eq-SHOWN
-returns-then-side-eq-SHOWN t c = search ways
+pub returns-in-Shown : goal.returns-in-Shown
+returns-in-Shown t c = search ways
 
 pub write_operand-inner-requires-then-shows : goal.write_operand-inner-requires-then-shows
 write_operand-inner-requires-then-shows t c = search ways
@@ -56,12 +57,12 @@ pub write_operand-requires : goal.write_operand-requires
 write_operand-requires t c = (search ways, inner_stands _ _ _ _ _ _ _ c.requires c.top_at.ensures c.in-Bracket.is)
 
 pub write_operand-requires-in-Prefix : goal.write_operand-requires-in-Prefix
-write_operand-requires-in-Prefix t c = (search ways, prefix_stands _ _ _ _ _ _ _ c.requires c.top_at.ensures c.if-side-eq-SHOWN.false c.in-Prefix.is)
+write_operand-requires-in-Prefix t c = (search ways, prefix_stands _ _ _ _ _ _ _ c.requires c.top_at.ensures (search rules) c.in-Prefix.is)
 
 pub write_operand-requires-then-a-ne0 : goal.write_operand-requires-then-a-ne0
 write_operand-requires-then-a-ne0 t c = (
   search ways,
-  leaf_stands _ _ _ _ _ _ _ c.requires c.top_at.ensures c.in-Operator.is c.if-side-eq-SHOWN.false c.shows.ensures c.if-shows.false c.leaf_at-a.ensures
+  leaf_stands _ _ _ _ _ _ _ c.requires c.top_at.ensures c.in-Operator.is (search rules) c.shows.ensures c.if-shows.false c.leaf_at-a.ensures
       c.if-a-ne0.true,
 )
 
@@ -71,5 +72,5 @@ bounds-self-at t c = inside _ _ _ _ _ _ _ c.requires
 pub write_operand-left-requires : goal.write_operand-left-requires
 write_operand-left-requires t c = (
   search ways,
-  left_stands _ _ _ _ _ _ _ c.requires c.top_at.ensures c.in-Operator.is c.if-side-eq-SHOWN.false c.shows.ensures c.if-shows.false,
+  left_stands _ _ _ _ _ _ _ c.requires c.top_at.ensures c.in-Operator.is (search rules) c.shows.ensures c.if-shows.false c.left_side.ensures,
 )
