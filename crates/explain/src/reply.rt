@@ -9,7 +9,7 @@ use expression::refusal::{ACCEPTED, Refusal};
 use frame::limits;
 use witness::limits::MOST_EXPLAINED;
 
-// The kind of a frame that has a sheet.
+// The kind of a frame that has a sheet, the only one there is here: an enum of one would be no plainer.
 const SHEET: u8 = 1;
 
 // The sheet of n operators, with the bytes after n.

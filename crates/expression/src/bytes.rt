@@ -2,7 +2,8 @@
 ghost use Rattle.std.specs.Prelude.{◌≡◌, ℕ, Bool, ◌≤◌, ◌++◌, drop, length};
 ghost use Rattle.expression.specs.Lists.{any_holds};
 
-// The bytes, copied to the front of the others.
+// The bytes, copied to the front of the others. By a loop, which becomes memcpy: the library's copy becomes memmove where both are lent, and the
+// archive would want one symbol more of C.
 pub fn copy(from: &[u8], to: &mut [u8])
     requires { length from.now ≤ length to.old }
     ensures { to.new ≡ from.now ++ drop (length from.now) to.old }

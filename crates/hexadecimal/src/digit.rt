@@ -1,4 +1,4 @@
-// One hexadecimal digit, and the byte of two.
+// One hexadecimal digit, and the byte of two. The library's digits are characters and 32-bit numbers, with an answer for what is none: no plainer here.
 ghost use Rattle.std.specs.Prelude.{◌≡◌, true, ◌<◌};
 ghost use Rattle.hexadecimal.specs.Digits.{is_digit, Valued, byte_of, character_of};
 

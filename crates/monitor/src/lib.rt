@@ -1,4 +1,5 @@
 // The panel's calls: the sheet in force, the staged one and the sixteen places are lent. After a refusal the panel and a lent output are as they were.
+// A call is lent what it uses and nothing else, as in C, so the three are no struct here.
 #![tactic(auto)]
 
 ghost use Rattle.run.specs.Call.{stage, switch, put_row, put_record, put_claim, fetch_record, fetch_row, image, build, repair, yield, shortest_row};

@@ -12,7 +12,7 @@ use expression::bytes;
 use relation::count::Count;
 use relation::scan;
 
-// The kind of a prefix operator, which is the last one.
+// The kind of a prefix operator, which is the last one. A byte, and no enum: one comparison tells, and bytes are tested side by side.
 const PREFIX: u8 = 1;
 
 // The kind is neither 00 nor 01.
