@@ -9,7 +9,7 @@ use borrow.Author.Rules.{rules}
 use lib.ListN.{length, get_or, take}
 use lib.Seq.{take-suc, take_all}
 use Rattle.explain.specs.Lines.{said, last_said, Progress, progress, with_byte, with_bytes, after_read, after_reads, GoOn}
-use Rattle.explain.specs.CallContracts.{block, out_bytes, most_said, Puts, Takes, Ends, Turns, Runs}
+use Rattle.explain.specs.CallContracts.{Steps, block, out_bytes, most_said, Puts, Takes, Ends, Turns, Runs}
 use Rattle.explain.proofs.Laws.{bytes_append}
 
 -- ---- take_bytes
@@ -76,20 +76,23 @@ and_left : (a b : Bool) → (a && b) ≡ true → a ≡ true
 and_left true b e = refl
 and_left false b e = absurd (true≢false (sym e))
 
--- each way ends with a line, an output, and whether to go on
-module _ (before : List ℕ) {line out line' out' : List ℕ} (k : line ≡ line') (o : out ≡ out') where
-  pub turn_failed : (go ok : Bool) → go ≡ false → line' ≡ [] → out' ≡ [] → Turns before line out (go && ok)
-  unfolding after_read
-  turn_failed go ok g f e = record { failed = true; bytes = []; keeps = k ∙ f; writes = o ∙ e; goes = λ h. absurd (true≢false (sym (and_left go ok h) ∙ g)) }
+pub step_failed : (before bytes : List ℕ) {line out : List ℕ} → line ≡ [] → out ≡ [] → Steps (after_read true before bytes) line out false
+unfolding after_read
+step_failed before bytes k o = record { keeps = k; writes = o; goes = refl }
 
-  pub turn_ended : (go ok : Bool) → go ≡ false → Ends before line' out' → Turns before line out (go && ok)
-  unfolding after_read
-  turn_ended go ok g w = record { failed = false; bytes = []; keeps = k ∙ w.keeps; writes = o ∙ w.writes; goes = λ h. absurd (true≢false (sym (and_left go ok h) ∙ g)) }
+pub step_ended : {before line out : List ℕ} → Ends before line out → Steps (after_read false before []) line out false
+unfolding after_read
+step_ended w = record { keeps = w.keeps; writes = w.writes; goes = refl }
 
-  pub turn_gave : (go ok : Bool) (bytes : List ℕ) {count : ℕ} → Takes (with_bytes (progress [] before) bytes) line' out' 0 count → (length bytes ≡ 0 → ⊥) → Turns before line out (go && ok)
-  unfolding after_read
-  turn_gave go ok [] w h = absurd (h refl)
-  turn_gave go ok (c ∷ bytes) w h = record { failed = false; bytes = c ∷ bytes; keeps = k ∙ w.keeps; writes = o ∙ w.writes; goes = λ _. refl }
+pub step_gave : (before bytes : List ℕ) {line out : List ℕ} {count : ℕ} → Takes (with_bytes (progress [] before) bytes) line out 0 count → (length bytes ≡ 0 → ⊥)
+    → Steps (after_read false before bytes) line out true
+unfolding after_read
+step_gave before [] w h = absurd (h refl)
+step_gave before (c ∷ bytes) w h = record { keeps = w.keeps; writes = w.writes; goes = refl }
+
+-- the program goes on only if the write succeeds too
+pub turn_made : (failed : Bool) (before bytes : List ℕ) {line out : List ℕ} {go : Bool} (ok : Bool) → Steps (after_read failed before bytes) line out go → Turns before line out (go && ok)
+turn_made failed before bytes {go = go} ok s = record { failed = failed; bytes = bytes; keeps = s.keeps; writes = s.writes; goes = λ h. sym s.goes ∙ and_left go ok h }
 
 -- ---- run
 pub runs_none : {line out : List ℕ} → line ≡ [] → out ≡ [] → Runs line out true

@@ -1,9 +1,9 @@
 -- What answering a line, and taking the bytes of a read, promise. Assumes nothing.
-use Rattle.std.specs.Prelude.{ℕ, ◌+◌, ◌*◌, ◌≤◌, ◌≡◌, Bool, true, List, [], ◌++◌, length}
+use Rattle.std.specs.Prelude.{ℕ, ◌+◌, ◌*◌, ◌≤◌, ◌≡◌, Bool, true, List, [], ◌++◌, length, take, Result, Ok, Err}
 use Rattle.hexadecimal.specs.Text.{text_of, with_front}
 use Rattle.frame.specs.CallContracts.{most_reply}
 use Rattle.witness.specs.Explaining.{most_explained}
-use Rattle.explain.specs.Lines.{said, last_said, Progress, after_read, Read, after_reads, GoOn}
+use Rattle.explain.specs.Lines.{said, last_said, Progress, Step, after_read, Read, after_reads, GoOn}
 
 -- bytes of a read
 abbrev pub block : ℕ
@@ -39,6 +39,17 @@ pub record Ends (line after out : List ℕ) : Type 0 where
   pub keeps : after ≡ []
   pub writes : out ≡ last_said line
   pub inside : length out ≤ most_said
+
+-- the bytes that a read gave
+abbrev pub given : {E : Type 0} → Result ℕ E → List ℕ → List ℕ
+given (Ok count) buf = take count buf
+given (Err e) buf = []
+
+-- What follows a read is in the line and the output, and tells whether to go on.
+pub record Steps (s : Step) (line out : List ℕ) (go : Bool) : Type 0 where
+  pub keeps : line ≡ s.made.kept
+  pub writes : out ≡ s.made.written
+  pub goes : go ≡ s.goes
 
 -- A turn: some read was made, and what follows it is in the line and the output. The program goes on only if the write succeeds.
 pub record Turns (before line out : List ℕ) (go : Bool) : Type 0 where

@@ -2,26 +2,27 @@
 // why the sheet is refused.
 #![tactic(auto)]
 
-ghost use Rattle.std.specs.Prelude.{◌≡◌, [], length};
-ghost use Rattle.explain.specs.CallContracts.{block, Turns, Runs};
+ghost use Rattle.std.specs.Prelude.{◌≡◌, ◌≤◌, [], length, IfOk, is_err};
+ghost use Rattle.explain.specs.Lines.{after_read};
+ghost use Rattle.explain.specs.CallContracts.{block, given, Steps, Turns, Runs};
 
 use limits::BLOCK;
 use line_io::Buffer;
 use lines::{Line, Output};
+use std::io;
 use std::io::{Print, Read, Stdin, Stdout};
 
 mod limits;
 mod lines;
 mod reply;
 
-// One read, and the replies to the lines that it ends, written out; whether to go on. At the end of the input the unfinished line is
-// the last one; where the read failed that line is not complete and is not run.
-fn turn(mut stdin: Stdin, stdout: Stdout, buf: &mut [u8], line: &mut Line, out: &mut Output) -> bool
-    requires { length buf.old ≡ block }
-    ensures { Turns line.old line.new out.new result }
+// What a read gave is taken; whether to go on. Where it failed, the unfinished line is not complete and is not run; where it gave
+// nothing, the input has ended and that line is the last one.
+fn take_read(read: io::Result<usize>, buf: &[u8], line: &mut Line, out: &mut Output) -> bool
+    requires { IfOk read (λ count. count ≤ length buf.now) × (length buf.now ≡ block) × (out.old ≡ []) }
+    ensures { Steps (after_read (is_err read) line.old (given read buf.now)) line.new out.new result }
 {
-    out.clear();
-    let go = match stdin.read(buf) {
+    match read {
         Ok(0) => {
             lines::finish(line, out);
             false
@@ -34,7 +35,17 @@ fn turn(mut stdin: Stdin, stdout: Stdout, buf: &mut [u8], line: &mut Line, out: 
             line.clear();
             false
         }
-    };
+    }
+}
+
+// One read, and the replies to the lines that it ends, written out; whether to go on.
+fn turn(mut stdin: Stdin, stdout: Stdout, buf: &mut [u8], line: &mut Line, out: &mut Output) -> bool
+    requires { length buf.old ≡ block }
+    ensures { Turns line.old line.new out.new result }
+{
+    out.clear();
+    let read = stdin.read(buf);
+    let go = take_read(read, buf, line, out);
     go & stdout.write_all(out.as_slice()).is_ok()
 }
 

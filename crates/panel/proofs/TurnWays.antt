@@ -1,5 +1,5 @@
 -- What each way through a read and a turn gives, from what is known on it. Assumes nothing.
-use mathlib.Core.Path.{◌≡◌, refl, sym, ap, ap₂, ◌∙◌}
+use mathlib.Core.Path.{◌≡◌, refl, sym, ap, ap₂, subst, ◌∙◌}
 use mathlib.Core.Bool.{Bool, true, false, true≢false}
 use mathlib.Core.List.{List, [], ◌∷◌, ◌++◌, append-nil}
 use Prim.Native.Nat.{ℕ, zero, suc, ◌+◌, ◌-◌, ◌<◌, ◌≤◌, min}
@@ -9,13 +9,13 @@ use borrow.Rule.Slice.PartMut.{put_mid, take_put}
 use lib.Dec.{ltb}
 use lib.ListN.{length, take, drop, length-drop}
 use lib.Seq.{take-take, take-nil, take_all, take_at, drop_at, take-append-le, take-add, length-take-le}
-use Rattle.std.specs.Prelude.{Ok, Err}
+use Rattle.std.specs.Prelude.{Result, Ok, Err}
 use Rattle.std.proofs.lemmas.List.{nil_from_length}
 use Rattle.std.specs.declared.ops.ControlFlow.TheVariants.{Continue, Break}
 use Rattle.run.specs.Panel.{Panel}
 use Rattle.line_io.specs.Moves.{moved_to_front}
 use Rattle.panel.specs.Lines.{panel_at_end, last_reply}
-use Rattle.panel.specs.CallContracts.{block, most_kept, most_filled, Answers, Fetches, Finishes, Hands}
+use Rattle.panel.specs.CallContracts.{AnswersRead, block, most_kept, most_filled, Answers, Fetches, Finishes, Hands}
 use Rattle.panel.specs.Runs.{more, failed, ended, gave, Takes, Steps, Turns}
 
 -- ---- read
@@ -85,6 +85,32 @@ module _ {p : Panel} {left mid out left' : List ℕ} {later : Panel} {E : Type 0
   pub read_gave : Answers p mid out left' later → Steps p left false left' out true later
   unfolding Takes
   read_gave w = record { event = gave f.bytes; kind = refl; takes = rw f.front at w; goes = refl }
+
+-- what a read gave, answered
+module _ {p : Panel} {mid out left' : List ℕ} {E : Type 0} {r : Result ℕ E} where
+  pub answered_cut : (e : E) → r ≡ Err e → out ≡ [] → AnswersRead p mid r out left' false p
+  answered_cut e q o = record { cut = λ _ _. (o, refl, refl); ended = λ z. absurd (let k : Err e ≡ Ok 0 = sym q ∙ z in cc); went_on = λ count z h. absurd (let k : Err e ≡ Ok count = sym q ∙ z in cc) }
+
+  module _ {later : Panel} (count : ℕ) (q : r ≡ Ok count) where
+    pub answered_end : {line : List ℕ} → count ≡ 0 → line ≡ mid → Finishes p line out later → AnswersRead p mid r out left' false later
+    answered_end z l w =
+        record {
+          cut = λ e y. absurd (let k : Ok count ≡ Err e = sym q ∙ y in cc);
+          ended = λ _. (subst (λ s. Finishes p s out later) l w, refl);
+          went_on = λ n y h. absurd (h cc);
+        }
+
+    pub answered_more : (count ≡ 0 → ⊥) → Answers p mid out left' later → AnswersRead p mid r out left' true later
+    answered_more n w = record { cut = λ e y. absurd (let k : Ok count ≡ Err e = sym q ∙ y in cc); ended = λ y. absurd (n cc); went_on = λ _ _ _. (w, refl) }
+
+pub read_answered : {p : Panel} {left mid out left' : List ℕ} {later : Panel} {E : Type 0} {go : Bool} (r : Result ℕ E) → Fetches left mid r
+    → AnswersRead p mid r out left' go later → Steps p left false left' out go later
+read_answered {p} {left} {mid} {out} {left'} {later} {E} {go} (Err e) f a =
+    let (o, s, g) = a.cut e refl in
+    subst (λ b. Steps p left false left' out b later) (sym g) (subst (λ l. Steps p left false left' out false l) (sym s) (read_failed f o))
+read_answered {p} {left} {mid} {out} {left'} {later} (Ok zero) f a = let (w, g) = a.ended refl in subst (λ b. Steps p left false left' out b later) (sym g) (read_ended f refl refl w)
+read_answered {p} {left} {mid} {out} {left'} {later} (Ok (suc n)) f a =
+    let (w, g) = a.went_on (suc n) refl (λ z. omega arith) in subst (λ b. Steps p left false left' out b later) (sym g) (read_gave f w)
 
 -- ---- step
 module _ {p : Panel} {left out left' : List ℕ} {later : Panel} (handed : ℕ) where

@@ -1,5 +1,5 @@
 -- What answering lines and keeping the unfinished one promise. Assumes nothing.
-use Rattle.std.specs.Prelude.{ℕ, ◌+◌, ◌<◌, ◌≤◌, ◌≡◌, List, [], ◌∷◌, ◌++◌, length, take, Result, Ok, Err}
+use Rattle.std.specs.Prelude.{ℕ, ◌+◌, ◌<◌, ◌≤◌, ◌≡◌, Bool, true, false, List, [], ◌∷◌, ◌++◌, length, take, Result, Ok, Err}
 use Rattle.run.specs.Panel.{Panel}
 use Rattle.line_io.specs.Lines.{line_feed}
 use Rattle.frame.specs.Lines.{line_reply, line_after}
@@ -38,6 +38,15 @@ pub record Fetches {E : Type 0} (left after : List ℕ) (r : Result ℕ E) : Typ
 pub record Finishes (p : Panel) (line out : List ℕ) (later : Panel) : Type 0 where
   pub written : out ≡ last_reply p line
   pub stands : later ≡ panel_at_end p line
+
+-- What a read gave was answered: `input` is what was left with the bytes of the read behind it.
+pub record AnswersRead {E : Type 0} (p : Panel) (input : List ℕ) (r : Result ℕ E) (out left : List ℕ) (go : Bool) (later : Panel) : Type 0 where
+  -- it failed: nothing is run
+  pub cut : (e : E) → r ≡ Err e → (out ≡ []) × (later ≡ p) × (go ≡ false)
+  -- it gave nothing: the input ended, and what is kept is the last line
+  pub ended : r ≡ Ok 0 → Finishes p input out later × (go ≡ false)
+  -- it gave some bytes
+  pub went_on : (count : ℕ) → r ≡ Ok count → (count ≡ 0 → ⊥) → Answers p input out left later × (go ≡ true)
 
 -- So many bytes as these were handed to the write call. What it does with them is in no contract.
 pub record Hands (bytes : List ℕ) (count : ℕ) : Type 0 where

@@ -4,7 +4,7 @@
 ghost use Rattle.std.specs.Prelude.{◌≡◌, [], false, length};
 ghost use Rattle.places.specs.Memory.{panel_in};
 ghost use Rattle.frame.specs.Lent.{memory_in};
-ghost use Rattle.panel.specs.CallContracts.{Hands};
+ghost use Rattle.panel.specs.CallContracts.{AnswersRead, Hands};
 ghost use Rattle.panel.specs.Runs.{is_full, handed_in, Steps, Turns, Runs};
 
 use frame::panel::Panel;
@@ -14,6 +14,7 @@ use line_io::Buffer;
 use lines::Output;
 use places::Store;
 use sheet::Sheet;
+use std::io;
 use std::io::{Print, Stdin, Stdout};
 use std::ops::ControlFlow;
 
@@ -21,16 +22,18 @@ mod input;
 mod limits;
 mod lines;
 
-// One read, and the replies to the lines that it completes, as many as the output has room for; whether to go on. At the end of the
-// input the unfinished line is the last one; where the read failed that line is not complete and is not run.
-fn take_read(stdin: Stdin, panel: &mut Panel<'_>, input: &mut Input, out: &mut Output) -> bool
+// What a read gave is answered, as many lines as the output has room for; whether to go on. Where it failed, the unfinished line is
+// not complete and is not run; where it gave nothing, the input has ended and that line is the last one.
+fn answer_read(
+    read: io::Result<usize>,
+    panel: &mut Panel<'_>,
+    input: &mut Input,
+    out: &mut Output,
+) -> bool
     requires { out.old ≡ [] }
-    ensures { Steps
-        (panel_in (memory_in panel.old))
-        input.old false input.new out.new result
-        (panel_in (memory_in panel.new)) }
+    ensures { AnswersRead (panel_in (memory_in panel.old)) input.old read out.new input.new result (panel_in (memory_in panel.new)) }
 {
-    match input.read(stdin) {
+    match read {
         Ok(0) => {
             lines::finish(panel, input.as_slice(), out);
             false
@@ -41,6 +44,18 @@ fn take_read(stdin: Stdin, panel: &mut Panel<'_>, input: &mut Input, out: &mut O
         }
         Err(_) => false,
     }
+}
+
+// One read behind what is left, and the replies to the lines that it completes; whether to go on.
+fn take_read(stdin: Stdin, panel: &mut Panel<'_>, input: &mut Input, out: &mut Output) -> bool
+    requires { out.old ≡ [] }
+    ensures { Steps
+        (panel_in (memory_in panel.old))
+        input.old false input.new out.new result
+        (panel_in (memory_in panel.new)) }
+{
+    let read = input.read(stdin);
+    answer_read(read, panel, input, out)
 }
 
 // The replies that are to be written next: where the output was full, to lines that are left in the input; else a read is made.
