@@ -6,7 +6,6 @@ ghost use Rattle.brackets.specs.Shortest.{AnswersShortest};
 
 use expression::refusal::Refusal;
 use expression::{bytes, limits};
-use record::Answer;
 use sheet::Sheet;
 use walk::{Marked, Side};
 use words::BASE;

@@ -69,7 +69,7 @@ module _ (ops : Operators) (rules : List Rule) (row bytes : List ℕ) where
     claim_passes =
         let q = read_as ops bytes t c.over e in
         rest_first (row_checks ops row) (beside_checks ops row bytes count) (row_numbered ops row)
-            ((row_accepted ops row).1 (fits, (row_exactly_if_yielded ops row).1 (t, c.over, c.yields)))
+        ((row_accepted ops row).1 (fits, (row_exactly_if_yielded ops row).1 (t, c.over, c.yields)))
         ∙ rest_first (record_checks ops bytes) (claim_checks same count) (record_numbered ops bytes)
         ((record_accepted ops bytes).1 (t, record { over = c.over; recorded = e; bytes_fit = bytes_fit; tokens_fit = rw c.yields fits }))
         ∙ first_passed (claim_checks same count) (
@@ -83,9 +83,13 @@ module _ (ops : Operators) (rules : List Rule) (row bytes : List ℕ) where
   conflict_in_row z =
       let (_, beside) = given_after conflict (row_checks ops row) (beside_checks ops row bytes count) refl z in
       let (passed, last) = given_after conflict (record_checks ops bytes) (claim_checks same count) refl beside in
-      let (t, r) = (record_accepted ops bytes).0 (first_passed (record_checks ops bytes) passed) in
-      (t, r.over, r.recorded, sym (ap row_of (read_as ops bytes t r.over r.recorded))
-          ∙ (same_exactly_if (row_of (tree_of (class ops) bytes)) row).0 (rows_same same last))
+      let (t, r) = (record_accepted ops bytes).0 (first_passed (record_checks ops bytes) passed) in (
+        t,
+        r.over,
+        r.recorded,
+        sym (ap row_of (read_as ops bytes t r.over r.recorded))
+            ∙ (same_exactly_if (row_of (tree_of (class ops) bytes)) row).0 (rows_same same last),
+      )
     where
       rows_same : (x : Bool) → first (claim_checks x count) ≡ conflict → x ≡ true
       rows_same true e = refl

@@ -47,7 +47,7 @@ module _ (row : List ℕ) where
         counts =
             ap₂ ◌+◌ k.counts e
             ∙ sym (ap (λ x. record_bytes (take x row)) (add-one i) ∙ ap record_bytes (take-suc row i 0 h)
-                ∙ count_append (λ c. not (eqb c closing)) (take i row) (get_or row i 0 ∷ []) ∙ omega arith);
+            ∙ count_append (λ c. not (eqb c closing)) (take i row) (get_or row i 0 ∷ []) ∙ omega arith);
         small = omega (arith, k.small, e, share_small (get_or row i 0));
         inside = omega arith;
       }
@@ -90,7 +90,7 @@ module _ (sheet row out : List ℕ) where
     unfolding row_number build_number
     build_done h same =
         let long : length (built (operators_of sheet) (closes_in sheet) row) ≡ m = built_length_accepted (closes_in sheet) (operators_of sheet) row
-            (sym e) ∙ sym b in
+        (sym e) ∙ sym b in
         let ends : m - 0 ≡ length (built (operators_of sheet) (closes_in sheet) row) = omega (arith, long) in
         record {
           numbered = sym (first_roomy (row_checks (operators_of sheet) row) (record_bytes row) (length out) (sym e)

@@ -70,7 +70,7 @@ module _ (ops : Operators) (closes : ℕ → ℕ → Bool) (row : List ℕ) wher
       ap (λ tokens. tokens ++ b.rest) (split_at row i 0 h) ∙ append_assoc (take i row) (get_or row i 0 ∷ drop (suc i) row) b.rest in
       goes_on ops closes (next ops closes (get_or row i 0) (after ops closes (take i row))) ahead b.tree
       (sym (ap (λ tokens. finish (after ops closes tokens)) split
-          ∙ ap finish (run_append closes (class ops) (take i row) (get_or row i 0 ∷ ahead) (due bottom)))
+      ∙ ap finish (run_append closes (class ops) (take i row) (get_or row i 0 ∷ ahead) (due bottom)))
       ∙ made_finishes ops closes (row ++ b.rest) b.tree b.makes)
 
   module _ {h : Held} {i : ℕ} (r : Reading h i) where

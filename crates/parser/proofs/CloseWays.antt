@@ -42,7 +42,7 @@ module _ (ops : Operators) (closes : ℕ → ℕ → Bool) (c : ℕ) (words : Li
 
       lower_stack : ends closes c byte ≡ true → (s : Stack) → Waits ops words first s
           → (u : Stack) × Waits ops words (first - 1 - back_in here) u × (back_in here < first) ×
-              (remains (closed_by closes c) u ≡ remains (closed_by closes c) s)
+          (remains (closed_by closes c) u ≡ remains (closed_by closes c) s)
       unfolding ends
       lower_stack e bottom w = absurd (top_note ops words first positive bottom w)
       lower_stack e (opened s) w =
@@ -51,7 +51,7 @@ module _ (ops : Operators) (closes : ℕ → ℕ → Bool) (c : ℕ) (words : Li
       lower_stack e (waiting f s) w =
           let (is, small, low, below) = top_note ops words first positive (waiting f s) w in
           let closed : closed_by closes c (operator_of f) ≡ true = ap (closed_by closes c) (sym (is_byte_lem ∙ is))
-              ∙ (and_true (ltb byte most_operators) (closed_by closes c byte) e).1 in
+          ∙ (and_true (ltb byte most_operators) (closed_by closes c byte) e).1 in
           (s, below, low, sym (rw closed refl))
 
       pub back_inside : {r : ℕ} → b ≡ true → r ≡ back_in word → r ≤ first - 1
@@ -82,7 +82,7 @@ module _ (ops : Operators) (closes : ℕ → ℕ → Bool) (c : ℕ) (words : Li
       stays e (waiting f s) w =
           let (is, small, low, below) = top_note ops words first positive (waiting f s) w in
           let e' : (ltb (operator_of f) most_operators && closed_by closes c (operator_of f)) ≡ false = ap
-              (λ x. ltb x most_operators && closed_by closes c x) (sym (is_byte_lem ∙ is)) ∙ e in
+          (λ x. ltb x most_operators && closed_by closes c x) (sym (is_byte_lem ∙ is)) ∙ e in
           let open_still : closed_by closes c (operator_of f) ≡ false = rw (lt-ltb (operator_of f) most_operators small) at e' in
           rw open_still refl
 

@@ -53,7 +53,7 @@ laid_notes ops (prefix p t) v free at rest out h =
     let e : suc (at + free) + 0 + n ≡ at + free + suc n = omega arith in
     let f : suc (at + free) + 0 ≡ suc (at + free) = omega arith in
     laid_note p (suc free) 0 (omega (arith, prefix_byte ops p v.0)) (omega arith) at (suc (at + free)) (at + free) (omega arith) (omega arith)
-        (notes_of 0 t ++ rest) out
+    (notes_of 0 t ++ rest) out
     ∙ laid_notes ops t v.1 0 (suc (at + free)) rest (set out (at + free) p) (omega arith)
     ∙ cc
 laid_notes ops (binary o l r) v free at rest out h =
@@ -68,8 +68,11 @@ laid_notes ops (binary o l r) v free at rest out h =
     ∙ laid_note o 0 m (omega (arith, infix_byte ops o v.0)) (omega arith) (at + suc free + m) (suc (at + free) + m) (at + free) (omega arith) (omega arith)
     (notes_of 0 r ++ rest) (sets out (at + suc free) (record_of l))
     ∙ laid_notes ops r v.2 0 (suc (at + free) + m) rest (set (sets out (at + suc free) (record_of l)) (at + free) o) (omega arith)
-    ∙ cc (set_sets out (at + free) (suc (at + free)) o (record_of l) (omega arith), sets_append (set out (at + free) o) (suc (at + free))
-        (record_of l) (record_of r))
+    ∙ cc (
+      set_sets out (at + free) (suc (at + free)) o (record_of l) (omega arith),
+      sets_append (set out (at + free) o) (suc (at + free))
+          (record_of l) (record_of r),
+    )
 
 -- All of it has a place, if there is room for it.
 pub inside_notes : (ops : Operators) (t : Tree) → Over (class ops) t → (room free at : ℕ) (rest : List ℕ) → free + length (record_of t) ≤ most_tokens
@@ -88,7 +91,7 @@ inside_notes ops (prefix p t) v room free at rest h g k =
     let n : ℕ = length (record_of t) in
     let e : at + free + suc n ≡ suc (at + free) + 0 + n = omega arith in
     inside_note p (suc free) 0 (omega (arith, prefix_byte ops p v.0)) (omega arith) at (suc (at + free)) (at + free) (omega arith) (omega arith)
-        (notes_of 0 t ++ rest)
+    (notes_of 0 t ++ rest)
     room (omega arith) (omega arith)
     (inside_notes ops t v.1 room 0 (suc (at + free)) rest (omega arith) (omega arith) (rw e at k))
 inside_notes ops (binary o l r) v room free at rest h g k =

@@ -41,13 +41,13 @@ module _ (sheet : List ℕ) (closes : ℕ → ℕ → Bool) (c : ℕ) (h : Held)
   due_stuck s =
       by_class ops (λ k. Goes (where_due k c s) → ⊥) c (λ _ _ _ g. g)
       (λ _ below e _. let prefix-too = sym (class_in sheet c operator below ∙ ap (λ q. cond q Prefix Infix) no_prefix)
-          ∙ class_operator ops c operator below ∙ ap (λ q. cond q Prefix Infix) e in let clash : ◌≡◌ {A = ℕ} 0 1 = cc in omega arith)
+      ∙ class_operator ops c operator below ∙ ap (λ q. cond q Prefix Infix) e in let clash : ◌≡◌ {A = ℕ} 0 1 = cc in omega arith)
       (λ e _. omega arith) (λ e g. g) (λ h _ _. omega arith) (λ g. g)
 
   is_infix_lem : (s : Stack) (t : Tree) → Goes (where_read closes (class ops c) c s t) → class ops c ≡ Infix
   is_infix_lem s t =
       by_class ops (λ k. Goes (where_read closes k c s t) → k ≡ Infix) c (λ _ _ _ _. refl) (λ _ _ _ g. absurd g) (λ _ g. absurd g)
-          (λ e _. absurd (omega arith)) (λ _ _ g. absurd g)
+      (λ e _. absurd (omega arith)) (λ _ _ g. absurd g)
       (λ g. absurd g)
 
   pub operator_waits : Takeable ops closes c h → SomeWait ops h.words h.first
@@ -123,7 +123,7 @@ module _ (sheet : List ℕ) (closes : ℕ → ℕ → Bool) (c : ℕ) (h : Held)
               let x : ℕ = raised (get_or h.words first 0) in
               let freed : set (take h.count h.words) first x ≡ notes_below u ++ notes_of 1 v =
               ap (λ w. set w first x) (l.noted ∙ ap (λ w. notes_below u ++ w) l.begins)
-                  ∙ set_at (notes_below u) l.first_word l.words_after x first (sym l.first_is)
+              ∙ set_at (notes_below u) l.first_word l.words_after x first (sym l.first_is)
               ∙ ap (λ w. notes_below u ++ raised w ∷ l.words_after) l.is_word ∙ ap (λ w. notes_below u ++ w) (sym l.raised_to) in
               record {
                 noted =
@@ -176,7 +176,7 @@ module _ (ops : Operators) (closes : ℕ → ℕ → Bool) (h : Held) where
         → (1 ≤ inside) × Noted ops shorter (shut (close everything s t).0 (close everything s t).1)
     shuts s t n =
         go (close everything s t).0 (close everything s t).1 (subst (λ x. Waits ops h.words inside x) (sym (close_remains everything s t))
-            (closed.left s (waits_before n)))
+        (closed.left s (waits_before n)))
         (n.noted ∙ close_notes everything s t) (close_over ops everything s t n.over.0 n.over.1)
       where
         go : (u : Stack) (v : Tree) → Waits ops h.words inside u → take h.count h.words ≡ notes_at (have u v) → OverBelow ops u × Over (class ops) v

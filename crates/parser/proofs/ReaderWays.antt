@@ -56,7 +56,7 @@ module _ (ops : Operators) (row : List ℕ) where
             inside = omega (arith, k.inside);
             same = λ d.
                 enters d ∙ h.passes.same (suc d) ∙ scan_found ops row next k (done (suc d))
-                    ∙ ap (λ x. scan (class ops) (where_done x (suc d)) (drop (next + 1) row)) k.class_is;
+                ∙ ap (λ x. scan (class ops) (where_done x (suc d)) (drop (next + 1) row)) k.class_is;
           }
 
       pub operand_unclosed : {next : ℕ} → Ends ops row (at + 1) next → (token_at ops row next ≡ Some Closing → ⊥) → Refuses ops row at

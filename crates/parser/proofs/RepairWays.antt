@@ -105,8 +105,15 @@ module _ (sheet bytes out row : List ℕ) {row' : List ℕ} {y : Answer} (room :
     repair_buildable = rw laid (row_buildable (closes_in sheet) (operators_of sheet) (row_here (operators_of sheet) bytes) known.is_row)
 
     pub repair_part : y.length ≤ length row'
-    repair_part = omega (arith, tokens_are, known.fits, room, ap length filled, length-append (row_here (operators_of sheet) bytes)
-        (drop (length (row_here (operators_of sheet) bytes)) row))
+    repair_part = omega (
+      arith,
+      tokens_are,
+      known.fits,
+      room,
+      ap length filled,
+      length-append (row_here (operators_of sheet) bytes)
+          (drop (length (row_here (operators_of sheet) bytes)) row),
+    )
 
     pub repair_done : {part : List ℕ} → length bytes ≤ length out → part ≡ built (operators_of sheet) (closes_in sheet) (take (y.length - 0) row')
         → AnswersRepair sheet bytes out (part ++ drop (length bytes - 0) out) (record { number = 0; length = length bytes })

@@ -34,11 +34,26 @@ module _ (n c : ℕ) where
       go (no h) g (yes e) s r = rw e (ap (λ x. x || false) (and-false (leb n opening)))
       go (no h) g (no e) (yes k) r = rw k (ap (λ x. x || false) (and-false (leb n closing)))
       go (no h) g (no e) (no k) (yes r) =
-          simp (le-ltb c most_operators (omega arith), lt-ltb closing c
-              (omega arith), lt-ltb c first_reading r, ne_eqb c opening e, ne_eqb c closing k, and-false (leb n c))
+          simp (
+            le-ltb c most_operators (omega arith),
+            lt-ltb closing c
+                (omega arith),
+            lt-ltb c first_reading r,
+            ne_eqb c opening e,
+            ne_eqb c closing k,
+            and-false (leb n c),
+          )
       go (no h) g (no e) (no k) (no r) =
-          simp (le-ltb c most_operators (omega arith), lt-ltb closing c (omega arith), le-ltb c first_reading
-              (omega arith), ne_eqb c opening e, ne_eqb c closing k, le-ltb last_reading c (omega arith), and-false (leb n c))
+          simp (
+            le-ltb c most_operators (omega arith),
+            lt-ltb closing c (omega arith),
+            le-ltb c first_reading
+                (omega arith),
+            ne_eqb c opening e,
+            ne_eqb c closing k,
+            le-ltb last_reading c (omega arith),
+            and-false (leb n c),
+          )
 
 pub ruleset strange_ways = (strange_test, rules)
 

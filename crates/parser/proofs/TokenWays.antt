@@ -28,8 +28,14 @@ module _ (ops : Operators) (c : ℕ) where
   pub is_reading : Fits w8 c → first_reading ≤ c → Some Reading ≡ token_of (class ops c)
   unfolding class
   is_reading f h =
-      simp (le-ltb c most_operators (omega arith), ne_eqb c opening (λ e. omega arith), ne_eqb c closing
-          (λ e. omega arith), le-ltb c first_reading h, le-ltb last_reading c (omega arith))
+      simp (
+        le-ltb c most_operators (omega arith),
+        ne_eqb c opening (λ e. omega arith),
+        ne_eqb c closing
+            (λ e. omega arith),
+        le-ltb c first_reading h,
+        le-ltb last_reading c (omega arith),
+      )
 
   -- an operator that is no stranger is below n
   known_below : strange_in_row (class ops c) ≡ false → c < most_operators → c < ops.count

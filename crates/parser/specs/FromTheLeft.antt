@@ -23,6 +23,6 @@ module _ (sheet : List ℕ) (ops : Operators) where
     -- Wherever a beginning of the tokens is itself a row, closing all that waits there gives that beginning's conflict-free tree, and the rest is read on from there.
     pub beginnings : (beginning rest : List ℕ) → Row ops beginning
         → (t : Tree) × ConflictFreeTree ops rules beginning t × (finish (state beginning) ≡ some t) ×
-            (state (beginning ++ rest) ≡ onwards rest (state beginning))
+        (state (beginning ++ rest) ≡ onwards rest (state beginning))
     -- What is built of a row is the record of the tree that the machine makes of it.
     pub written : (row : List ℕ) → Row ops row → (t : Tree) × (finish (state row) ≡ some t) × (built ops (closes_in sheet) row ≡ record_of t)

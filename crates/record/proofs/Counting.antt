@@ -36,6 +36,9 @@ module _ (sheet : List ℕ) where
   pub alone : (t : Tree) → shown sheet None None t ≡ conflicts_in sheet t
   alone t = omega (arith, unseen_top (on_top t), unseen_edge (prefixes t))
 
+  prefix_shows : (above seer : Option ℕ) (p : ℕ) (t : Tree) → shown sheet above seer (prefix p t) ≡ one_if (sees_edge sheet seer p) + shown sheet (Some p) seer t
+  prefix_shows above seer p t = omega arith
+
   infix_shows : (above seer : Option ℕ) (o : ℕ) (l r : Tree)
       → shown sheet above seer (binary o l r) ≡ one_if (shows_top sheet above seer o) + (shown sheet None (Some o) l + shown sheet (Some o) seer r)
   infix_shows above seer o l r = omega (arith, count_append (excluded_left sheet o) (on_top l) (prefixes l))

@@ -67,7 +67,7 @@ pub fn operand_place(sheet: &Sheet, bytes: &[u8], right: bool) -> Option<(usize,
     Record::new(sheet, bytes).ok()?.operand(right)
 }
 
-// The same for callers that take a part; for the time of the move.
+// The same as C gets it.
 pub fn operand_part(sheet: &Sheet, bytes: &[u8], right: bool) -> Part
     ensures { OperandAt (operators_of sheet.now) right bytes.now result }
 {

@@ -10,7 +10,6 @@ ghost use Rattle.witness.specs.Explaining.{Explains};
 
 use expression::bytes;
 use expression::refusal::Refusal;
-use record::Answer;
 use relation::relations::Relations;
 use relation::{scan, words};
 use shapes::{Pair, Triple};

@@ -15,9 +15,11 @@ returns-then-out-length c = repair_short _ _ _ _ c.requires c.in_ok-tokens.ensur
 
 pub build_into-requires : goal.build_into-requires
 build_into-requires c =
-    let y = c.in_ok-tokens.ensures in
-    (repair_few _ _ c.args.out.now _ c.requires y refl,
-      repair_room _ _ _ _ c.requires y refl c.if-out-length.false, repair_buildable _ _ c.args.out.now _ c.requires y refl)
+    let y = c.in_ok-tokens.ensures in (
+      repair_few _ _ c.args.out.now _ c.requires y refl,
+      repair_room _ _ _ _ c.requires y refl c.if-out-length.false,
+      repair_buildable _ _ c.args.out.now _ c.requires y refl,
+    )
 
 pub returns : goal.returns
 returns c = repair_done _ _ _ _ c.requires c.in_ok-tokens.ensures refl c.if-out-length.false c.build_into.ensures

@@ -36,7 +36,7 @@ operand_end-expression_end-requires t c = let inside = token_inside _ _ _ (sym c
 pub operand_end-returns-in_err-next-in-Opening : goal.operand_end-returns-in_err-next-in-Opening
 operand_end-returns-in_err-next-in-Opening t c =
     rw c.from_residual-in_err-next-in-Opening.ensures (λ p. inner_refused _ _ _
-        (here_is _ _ _ c.in_ok-token_at.ensures c.in-Opening.is) c.in_err-next-in-Opening.ensures)
+    (here_is _ _ _ c.in_ok-token_at.ensures c.in-Opening.is) c.in_err-next-in-Opening.ensures)
 
 pub operand_end-returns-in-Reading : goal.operand_end-returns-in-Reading
 operand_end-returns-in-Reading t c = operand_reading _ _ _ (here_is _ _ _ c.in_ok-token_at.ensures c.in-Reading.is)
@@ -50,7 +50,7 @@ pub operand_end-returns-else-eq : goal.operand_end-returns-else-eq
 operand_end-returns-else-eq t c =
     let unclosed : c.token_at-in-Opening.result ≡ Some Closing → ⊥ = search rules in
     λ p. operand_unclosed _ _ _ (here_is _ _ _ c.in_ok-token_at.ensures c.in-Opening.is) c.in_ok-next-in-Opening.ensures
-        (λ q. unclosed (c.token_at-in-Opening.ensures ∙ q))
+    (λ q. unclosed (c.token_at-in-Opening.ensures ∙ q))
 
 pub operand_end-returns-in_default : goal.operand_end-returns-in_default
 operand_end-returns-in_default t c = other_read _ _ _ c.in_ok-token_at.ensures c.in_default.not-Reading c.in_default.not-Opening
