@@ -1,11 +1,11 @@
 -- What each way through `shortest_row` gives. Assumes nothing.
-use Prim.Native.Nat.{ℕ, ◌+◌, ◌-◌, ◌%◌, ◌≤◌, ◌<◌}
+use Prim.Native.Nat.{ℕ, ◌≤◌, ◌<◌}
 use native.Mathlib.Omega.{arith}
 use mathlib.Core.Path.{◌≡◌, refl, ap, sym, subst, ◌∙◌}
 use mathlib.Core.Bool.{Bool, true}
 use mathlib.Core.List.{List, [], ◌∷◌, ◌++◌}
-use lib.ListN.{length, take, drop, length-append}
-use lib.Seq.{sets, sets-eq, take_at, drop-append_seam}
+use lib.ListN.{length, drop}
+use lib.Seq.{drop-append_seam}
 use borrow.Author.Rules.{rules}
 use borrow.Author.Tests.{ne_eqb}
 use Rattle.expression.specs.Limits.{most_tokens, most_record_bytes}
@@ -30,7 +30,7 @@ use Rattle.parser.specs.Answers.{AnswersRepair}
 use Rattle.parser.proofs.BuildLaws.{BuiltTree, built_tree}
 use Rattle.parser.proofs.RepairWays.{Accepted, accepted_record}
 use Rattle.brackets.specs.Shortest.{shortened, shortest_of, shortest_number, AnswersShortest}
-use Rattle.brackets.specs.Edges.{base, Marked, Fills}
+use Rattle.brackets.specs.Edges.{Marked, Fills}
 use Rattle.brackets.specs.Walk.{row_under, StandsWithRoom, Shortens}
 use Rattle.brackets.specs.declared.walk.Side.TheVariants.{Right}
 use Rattle.std.specs.Prelude.{None}
@@ -114,52 +114,36 @@ module _ (sheet bytes out zeros : List ℕ) {whole : List ℕ} {y : Answer} (roo
     pub front_fills : Fills sheet whole y.length
     front_fills = record { tree = tree; stands = fills; within = size_fits }
 
-    pub front_stands : {marks : List Bool} → Marked sheet whole marks 0 y.length → StandsWithRoom sheet whole marks 0 None Right 0
-    front_stands m = record { tree = tree; to = y.length; stands = fills; within = size_fits; marked = m; sided = refl; room = omega (arith, fits) }
+    pub front_stands : {marks : List Bool} {none : List ℕ} → Marked sheet whole marks 0 y.length → none ≡ [] → StandsWithRoom sheet whole marks 0 None Right none
+    front_stands m empty =
+        record { tree = tree; to = y.length; stands = fills; within = size_fits; marked = m; sided = refl; room = omega (arith, fits, ap length empty) }
 
-    -- the walk wrote it to the front of a buffer with room for every row
-    module _ (blank : List ℕ) {written : List ℕ} {w : ℕ} (walked : Shortens sheet whole 0 None Right blank 0 written w) where
-      length_is : w % base ≡ length (shortest_of sheet bytes)
-      length_is = (walked.wrote tree (length (record_of tree)) at_front (omega (arith, fits))).1 ∙ omega (arith, ap length answer_is)
+    -- the walk wrote it
+    module _ {written tokens : List ℕ} {end : ℕ} {none : List ℕ} (empty : none ≡ []) (walked : Shortens sheet whole 0 None Right none written end) (lent : tokens ≡ written) where
+      tokens_are : tokens ≡ shortest_of sheet bytes
+      tokens_are = lent ∙ (walked.wrote tree (length (record_of tree)) at_front).1 ∙ ap (λ d. d ++ row_under sheet None true tree) empty ∙ sym answer_is
 
-      pub shortest_short : length out < w % base → AnswersShortest sheet bytes out out (record { number = short; length = 0 })
+      pub shortest_short : length out < length tokens → AnswersShortest sheet bytes out out (record { number = short; length = 0 })
       unfolding record_number shortest_number
       shortest_short l =
           record {
             numbered =
                 sym (first_short (record_checks ops bytes) (length (shortest_of sheet bytes)) (length out) (sym number_is ∙ zero) (record_numbered ops bytes)
-                (omega (arith, length_is)));
+                (omega (arith, ap length tokens_are)));
             measured = refl;
             output = refl;
           }
 
-      module _ (long : most_tokens ≤ length blank) where
-        written_is : written ≡ shortest_of sheet bytes ++ drop (0 + length (shortest_of sheet bytes)) blank
-        written_is =
-            (walked.wrote tree (length (record_of tree)) at_front (omega (arith, fits))).2 ∙ ap (sets blank 0) (sym answer_is)
-            ∙ sets-eq (shortest_of sheet bytes) blank 0 (omega (arith, fits, ap length answer_is))
+      pub shortest_done : {after : List ℕ} → length tokens ≤ length out → after ≡ tokens ++ drop (length tokens) out
+          → AnswersShortest sheet bytes out after (record { number = accepted; length = length tokens })
+      unfolding record_number shortest_number
+      shortest_done enough copied =
+          record {
+            numbered =
+                sym (first_roomy (record_checks ops bytes) (length (shortest_of sheet bytes)) (length out) (sym number_is ∙ zero) (record_numbered ops bytes)
+                (omega (arith, ap length tokens_are)));
+            measured = ap length tokens_are;
+            output = copied ∙ ap (λ d. d ++ drop (length d) out) tokens_are;
+          }
 
-        pub row_holds : w % base ≤ length written
-        row_holds =
-            omega (arith, length_is, ap length written_is, length-append (shortest_of sheet bytes) (drop (0 + length (shortest_of sheet bytes)) blank))
-
-        front_is : take (w % base - 0) (drop 0 written) ≡ shortest_of sheet bytes
-        front_is =
-            ap (take (w % base - 0)) written_is
-            ∙ take_at (shortest_of sheet bytes) (drop (0 + length (shortest_of sheet bytes)) blank) (w % base - 0) (omega (arith, length_is))
-
-        pub shortest_done : {after : List ℕ} → w % base ≤ length out
-            → after ≡ take (w % base - 0) (drop 0 written) ++ drop (length (take (w % base - 0) (drop 0 written))) out
-            → AnswersShortest sheet bytes out after (record { number = accepted; length = w % base })
-        unfolding record_number shortest_number
-        shortest_done enough copied =
-            record {
-              numbered =
-                  sym (first_roomy (record_checks ops bytes) (length (shortest_of sheet bytes)) (length out) (sym number_is ∙ zero) (record_numbered ops bytes)
-                  (omega (arith, length_is)));
-              measured = length_is;
-              output =
-                  copied ∙ ap (λ d. d ++ drop (length d) out) front_is;
-            }
-
-pub ruleset shortest_ways = (shortest_refused, front_fills, front_stands, shortest_short, row_holds, shortest_done, rules)
+pub ruleset shortest_ways = (shortest_refused, front_fills, front_stands, shortest_short, shortest_done, rules)

@@ -1,14 +1,10 @@
--- What the ways through `write_operand` give for a reading, a bracket and a prefix operator, and where there is no node. Assumes nothing.
-use Prim.Native.Nat.{ℕ, ◌+◌, ◌*◌, ◌<◌}
-use native.Mathlib.Numerals.{add-one}
+-- What the ways through `write_operand` give for a reading, a bracket and a prefix operator. Assumes nothing.
+use Prim.Native.Nat.{ℕ, ◌+◌, ◌<◌}
 use native.Mathlib.Omega.{arith}
 use mathlib.Core.Path.{◌≡◌, refl, ap, sym, ◌∙◌}
 use mathlib.Core.Bool.{Bool, true}
-use mathlib.Core.List.{List, [], ◌∷◌}
-use lib.ListN.{length, set}
-use lib.Seq.{sets}
-use mir.Syntax.{w64}
-use mir.Val.{Fits}
+use mathlib.Core.List.{List, [], ◌∷◌, ◌++◌, append_assoc}
+use lib.ListN.{length}
 use Rattle.expression.specs.Limits.{most_tokens}
 use Rattle.expression.specs.Tree.{Tree}
 use Rattle.sheet.specs.Layout.{operators_of}
@@ -21,104 +17,83 @@ use Rattle.brackets.specs.Walk.{is_right, row_under, side_of, StandsWithRoom, Sh
 use Rattle.brackets.specs.declared.walk.Side.{Side}
 use Rattle.brackets.specs.declared.walk.Side.TheVariants.{Shown, Right}
 use Rattle.brackets.proofs.OperandRows.{leaf_row, prefix_row}
-use Rattle.brackets.proofs.Walking.{marked_within, due, inside, sided_as}
-use Rattle.brackets.specs.Edges.{base}
+use Rattle.brackets.proofs.Walking.{Leads, one_more, marked_within, inside, sided_as}
 use Rattle.std.specs.Prelude.{Option, Some}
 
-module _ (sheet bytes : List ℕ) (marks : List Bool) (from : ℕ) (above : Option ℕ) (side : Side) (at : ℕ) (h : StandsWithRoom sheet bytes marks from above side at) {x : Node} (found : Some x ≡ node_at (operators_of sheet) bytes from) where
+module _ {sheet bytes : List ℕ} {marks : List Bool} {from : ℕ} {above : Option ℕ} {side : Side} {before : List ℕ} {at : ℕ} {above_it : Option ℕ} {side_it : Side} {row : List ℕ}
+    (lead : Leads sheet bytes marks from above side before at above_it side_it row) {x : Node} (found : Some x ≡ node_at (operators_of sheet) bytes at) where
+  abbrev h : StandsWithRoom sheet bytes marks at above_it side_it row
+  h = lead.here
+
   -- a reading
-  pub leaf_room : {a : ℕ} → x ≡ node.Reading a → at < most_tokens
+  pub leaf_room : {a : ℕ} → x ≡ node.Reading a → length row < most_tokens
   leaf_room {a} is =
-      let (e, _) = a_reading (operators_of sheet) bytes from found is h.tree h.stands in
-      omega (arith, h.room, ap (λ t. length (row_under sheet above (is_right side) t)) e, ap length (leaf_row sheet above (is_right side) a))
+      let (e, _) = a_reading (operators_of sheet) bytes at found is h.tree h.stands in
+      omega (arith, h.room, ap (λ t. length (row_under sheet above_it (is_right side_it) t)) e, ap length (leaf_row sheet above_it (is_right side_it) a))
 
-  pub answer_fits : {a : ℕ} → x ≡ node.Reading a → Fits w64 ((from + 1) * base + (at + 1))
-  answer_fits is = let d = inside sheet bytes marks from above side at h in let l = leaf_room is in omega arith
-
-  pub a_leaf : {a : ℕ} (before : List ℕ) → x ≡ node.Reading a → Shortens sheet bytes from above side before at (set before at a) ((from + 1) * base + (at + 1))
-  a_leaf {a} before is =
-      let low = leaf_room is in
-      record {
-        wrote = λ t to k room.
-            let (e, f) = a_reading (operators_of sheet) bytes from found is t k in
-            let row : row_under sheet above (is_right side) t ≡ a ∷ [] = ap (row_under sheet above (is_right side)) e ∙ leaf_row sheet above (is_right side) a in
-            (omega (arith, f), omega (arith, ap length row), ap (sets before at) (sym row));
-      }
+  pub a_leaf : {a : ℕ} {next : List ℕ} → x ≡ node.Reading a → next ≡ row ++ a ∷ [] → Shortens sheet bytes from above side before next (at + 1)
+  a_leaf {a} is put =
+      lead.on (record {
+        wrote = λ t to k.
+            let (e, f) = a_reading (operators_of sheet) bytes at found is t k in
+            let row_is : row_under sheet above_it (is_right side_it) t ≡ a ∷ [] = ap (row_under sheet above_it (is_right side_it)) e ∙ leaf_row sheet above_it (is_right side_it) a in
+            (sym f, put ∙ ap (λ v. row ++ v) (sym row_is));
+      })
 
   -- a bracket
-  pub inner_stands : x ≡ node.Bracket → StandsWithRoom sheet bytes marks (from + 1) above side at
-  inner_stands is =
-      let (u, e, y) = a_bracket (operators_of sheet) bytes from found is h.tree h.stands in
+  pub a_bracketed : x ≡ node.Bracket → Leads sheet bytes marks from above side before (at + 1) above_it side_it row
+  a_bracketed is =
+      let (u, e, y) = a_bracket (operators_of sheet) bytes at found is h.tree h.stands in
       record {
-        tree = u;
-        to = h.to;
-        stands = y;
-        within = h.within;
-        marked = marked_within h.marked (from + 1) h.to (omega arith) (omega arith);
-        sided = h.sided ∙ ap (side_of sheet above (is_right side)) e;
-        room = rw e at h.room;
-      }
-
-  pub inner_falls : {t : ℕ} → due from above ≡ t → due (from + 1) above < t
-  inner_falls e = let d = inside sheet bytes marks from above side at h in omega arith
-
-  pub a_bracketed : {before after : List ℕ} {r : ℕ} → x ≡ node.Bracket → Shortens sheet bytes (from + 1) above side before at after r → Shortens sheet bytes from above side before at after r
-  a_bracketed is g =
-      record {
-        wrote = λ t to k room.
-            let (u, e, y) = a_bracket (operators_of sheet) bytes from found is t k in
-            rw e (g.wrote u to y (rw e at room));
-      }
-
-  -- a prefix operator
-  module _ (unshown : side ≡ Shown → ⊥) {p : ℕ} (is : x ≡ node.Prefix p) where
-    prefixed_row : (t : Tree) (to : ℕ) → TreeAt (operators_of sheet) bytes from t to
-        → (u : Tree) × TreeAt (operators_of sheet) bytes (from + 1) u to × (row_under sheet above (is_right side) t ≡ p ∷ row_under sheet (Some p) true u)
-    prefixed_row t to k =
-        let (u, e, y) = a_prefix (operators_of sheet) bytes from found is t k in
-        (u, y, ap (row_under sheet above (is_right side)) e ∙ prefix_row sheet above side unshown p u (sided_as sheet bytes marks from above side at h t to k ∙ ap (side_of sheet above (is_right side)) e))
-
-    pub prefix_room : at < most_tokens
-    prefix_room = let (u, y, row) = prefixed_row h.tree h.to h.stands in omega (arith, h.room, ap length row)
-
-    pub prefix_fits : Fits w64 (at + 1)
-    prefix_fits = let d = prefix_room in omega arith
-
-    pub prefix_falls : {t : ℕ} → due from above ≡ t → due (from + 1) (Some p) < t
-    prefix_falls e = let d = inside sheet bytes marks from above side at h in omega arith
-
-    pub prefix_stands : StandsWithRoom sheet bytes marks (from + 1) (Some p) Right (at + 1)
-    prefix_stands =
-        let (u, y, row) = prefixed_row h.tree h.to h.stands in
-        record {
+        forward = let d = inside lead in omega (arith, lead.forward);
+        here = record {
           tree = u;
           to = h.to;
           stands = y;
           within = h.within;
-          marked = marked_within h.marked (from + 1) h.to (omega arith) (omega arith);
-          sided = refl;
-          room = omega (arith, h.room, ap length row);
-        }
+          marked = marked_within h.marked (at + 1) h.to (omega arith) (omega arith);
+          sided = h.sided ∙ ap (side_of sheet above_it (is_right side_it)) e;
+          room = rw e at h.room;
+        };
+        on = λ g. lead.on (record {
+          wrote = λ t to k.
+              let (u, e, y) = a_bracket (operators_of sheet) bytes at found is t k in
+              rw e (g.wrote u to y);
+        });
+      }
 
-    pub a_prefixed : (before : List ℕ) {after : List ℕ} {r : ℕ} → Shortens sheet bytes (from + 1) (Some p) Right (set before at p) (at + 1) after r → Shortens sheet bytes from above side before at after r
-    a_prefixed before g =
+  -- a prefix operator
+  module _ (unshown : side_it ≡ Shown → ⊥) {p : ℕ} (is : x ≡ node.Prefix p) where
+    prefixed_row : (t : Tree) (to : ℕ) → TreeAt (operators_of sheet) bytes at t to
+        → (u : Tree) × TreeAt (operators_of sheet) bytes (at + 1) u to × (row_under sheet above_it (is_right side_it) t ≡ p ∷ row_under sheet (Some p) true u)
+    prefixed_row t to k =
+        let (u, e, y) = a_prefix (operators_of sheet) bytes at found is t k in
+        (u, y, ap (row_under sheet above_it (is_right side_it)) e ∙ prefix_row sheet above_it side_it unshown p u (sided_as lead t to k ∙ ap (side_of sheet above_it (is_right side_it)) e))
+
+    pub prefix_room : length row < most_tokens
+    prefix_room = let (u, y, row_is) = prefixed_row h.tree h.to h.stands in omega (arith, h.room, ap length row_is)
+
+    pub a_prefixed : {next : List ℕ} → next ≡ row ++ p ∷ [] → Leads sheet bytes marks from above side before (at + 1) (Some p) Right next
+    a_prefixed put =
+        let (u, y, row_is) = prefixed_row h.tree h.to h.stands in
         record {
-          wrote = λ t to k room.
-              let (u, y, row) = prefixed_row t to k in
-              let (a, b, c) = g.wrote u to y (omega (arith, ap length row)) in
-              (a, b ∙ omega (arith, ap length row), c ∙ ap (λ j. sets (set before at p) j (row_under sheet (Some p) true u)) (add-one at) ∙ ap (sets before at) (sym row));
+          forward = let d = inside lead in omega (arith, lead.forward);
+          here = record {
+            tree = u;
+            to = h.to;
+            stands = y;
+            within = h.within;
+            marked = marked_within h.marked (at + 1) h.to (omega arith) (omega arith);
+            sided = refl;
+            room = omega (arith, h.room, ap length row_is, ap length put, one_more row p);
+          };
+          on = λ g. lead.on (record {
+            wrote = λ t to k.
+                let (u, y, row_is) = prefixed_row t to k in
+                let (a, c) = g.wrote u to y in
+                let v = row_under sheet (Some p) true u in
+                (a, c ∙ ap (λ d. d ++ v) put ∙ append_assoc row (p ∷ []) v ∙ ap (λ d. row ++ d) (sym row_is));
+          });
         }
 
-pub ruleset node_ways = (
-  answer_fits,
-  leaf_room,
-  a_leaf,
-  inner_falls,
-  inner_stands,
-  a_bracketed,
-  prefix_room,
-  prefix_fits,
-  prefix_falls,
-  prefix_stands,
-  a_prefixed,
-)
+pub ruleset node_ways = (leaf_room, a_leaf, a_bracketed, prefix_room, a_prefixed)

@@ -1,7 +1,7 @@
 -- The marks of a record: which left operands show a conflict by a prefix operator on their right edge. Assumes nothing.
-use Rattle.std.specs.Prelude.{ℕ, ◌+◌, ◌≤◌, ◌<◌, ◌≡◌, Bool, false, cond, Option, Some, None, List, length, get_or}
+use Rattle.std.specs.Prelude.{ℕ, ◌≤◌, ◌<◌, ◌≡◌, Bool, false, cond, Option, Some, None, List, length, get_or}
 use Rattle.expression.specs.Lists.{any_holds}
-use Rattle.expression.specs.Limits.{most_tokens, most_record_bytes}
+use Rattle.expression.specs.Limits.{most_record_bytes}
 use Rattle.expression.specs.Tree.{Tree, binary}
 use Rattle.disambiguation.specs.Edges.{prefixes, shown_as_right_operand}
 use Rattle.sheet.specs.Layout.{operators_of}
@@ -10,10 +10,6 @@ use Rattle.record.specs.TreeAt.{TreeAt}
 use Rattle.record.specs.Counts.{sees_edge}
 use Rattle.brackets.specs.Enclosed.{around}
 use Rattle.brackets.specs.Shortest.{enclosed_in}
-
--- A walk answers two places in one word: the first times this base, and the second, which is below it.
-abbrev pub base : ℕ
-base = 1 + most_tokens
 
 -- An infix operator on top of a right or only operand shows a conflict with the operator above, if there is one.
 abbrev pub closes_under : List ℕ → Option ℕ → ℕ → Bool

@@ -1,6 +1,5 @@
 -- What the walk over a record writes: the row of an operand with just the brackets that it needs. Assumes nothing.
-use Rattle.std.specs.Prelude.{ℕ, ◌+◌, ◌/◌, ◌%◌, ◌≤◌, ◌≡◌, Bool, true, false, cond, Option, Some, None, List, length}
-use Rattle.std.proofs.lemmas.List.Edits.{sets}
+use Rattle.std.specs.Prelude.{ℕ, ◌+◌, ◌≤◌, ◌≡◌, Bool, true, false, cond, Option, List, ◌++◌, length}
 use Rattle.expression.specs.Lists.{any_holds}
 use Rattle.expression.specs.Limits.{most_tokens, most_record_bytes}
 use Rattle.expression.specs.Tree.{Tree, yield}
@@ -8,14 +7,13 @@ use Rattle.disambiguation.specs.Edges.{shown_as_left_operand, shown_as_right_ope
 use Rattle.sheet.specs.Layout.{operators_of}
 use Rattle.record.specs.Counts.{sees_edge}
 use Rattle.record.specs.TreeAt.{TreeAt}
-use Rattle.record.specs.declared.Node.{Node}
-use Rattle.record.specs.declared.Node.TheVariants as node
 use Rattle.brackets.specs.Enclosed.{around}
 use Rattle.brackets.specs.Shortest.{enclosed_in}
-use Rattle.brackets.specs.Edges.{base, closes_under, edge_shows, Marked}
+use Rattle.brackets.specs.Edges.{closes_under, edge_shows, Marked}
 use Rattle.brackets.specs.declared.walk.Side.{Side}
 use Rattle.brackets.specs.declared.walk.Side.TheVariants.{Left, Shown, Right}
 
+-- a right or only operand, or a tree with no operator above it
 abbrev pub is_right : Side → Bool
 is_right Left = false
 is_right Shown = false
@@ -25,14 +23,6 @@ is_right Right = true
 abbrev pub left_side : Bool → Side
 left_side true = Shown
 left_side false = Left
-
--- a reading's byte; 0 for any other node, and where there is none
-abbrev pub leaf_byte : Option Node → ℕ
-leaf_byte (Some (node.Reading a)) = a
-leaf_byte (Some node.Bracket) = 0
-leaf_byte (Some (node.Operator o)) = 0
-leaf_byte (Some (node.Prefix p)) = 0
-leaf_byte None = 0
 
 module _ (sheet : List ℕ) where
   -- An operand stands on the left or on the right of an operator, or has none above it, as in brackets and at the top.
@@ -53,17 +43,16 @@ module _ (sheet : List ℕ) where
   abbrev pub side_of : Option ℕ → Bool → Tree → Side
   side_of above right t = cond right Right (left_side (edge_shows sheet above (enclosed_in sheet t)))
 
-  -- A tree of that side stands at the place, within the bytes of a record, with its marks, and its row has room.
-  pub record StandsWithRoom (bytes : List ℕ) (marks : List Bool) (from : ℕ) (above : Option ℕ) (side : Side) (at : ℕ) : Type 0 where
+  -- A tree of that side stands at the place, within the bytes of a record, with its marks, and its row has room after those tokens.
+  pub record StandsWithRoom (bytes : List ℕ) (marks : List Bool) (from : ℕ) (above : Option ℕ) (side : Side) (before : List ℕ) : Type 0 where
     pub tree : Tree
     pub to : ℕ
     pub stands : TreeAt (operators_of sheet) bytes from tree to
     pub within : to ≤ most_record_bytes
     pub marked : Marked sheet bytes marks from to
     pub sided : side ≡ side_of above (is_right side) tree
-    pub room : at + length (row_under above (is_right side) tree) ≤ most_tokens
+    pub room : length before + length (row_under above (is_right side) tree) ≤ most_tokens
 
-  -- The row goes to the output from the place `at` on. The answer is the place after the tree times the base, and that after its row.
-  pub record Shortens (bytes : List ℕ) (from : ℕ) (above : Option ℕ) (side : Side) (before : List ℕ) (at : ℕ) (after : List ℕ) (r : ℕ) : Type 0 where
-    pub wrote : (t : Tree) (to : ℕ) → TreeAt (operators_of sheet) bytes from t to → at + length (row_under above (is_right side) t) ≤ most_tokens
-        → (r / base ≡ to) × (r % base ≡ at + length (row_under above (is_right side) t)) × (after ≡ sets before at (row_under above (is_right side) t))
+  -- The row is written after the tokens that were there. The answer is the place after the tree.
+  pub record Shortens (bytes : List ℕ) (from : ℕ) (above : Option ℕ) (side : Side) (before after : List ℕ) (end : ℕ) : Type 0 where
+    pub wrote : (t : Tree) (to : ℕ) → TreeAt (operators_of sheet) bytes from t to → (end ≡ to) × (after ≡ before ++ row_under above (is_right side) t)

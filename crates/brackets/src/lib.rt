@@ -6,13 +6,12 @@ ghost use Rattle.brackets.specs.Shortest.{AnswersShortest};
 
 use expression::refusal::Refusal;
 use expression::{bytes, limits};
+use record::tokens::Tokens;
 use sheet::Sheet;
 use walk::{Marked, Side};
-use words::BASE;
 
 mod edges;
 mod walk;
-mod words;
 
 // The shortest row that means the same as the record's, at the front of `out`, and its length. After a refusal `out` is as it was.
 #[tactic(auto, using(crate::proofs::Answering::shortest_ways))]
@@ -23,17 +22,17 @@ pub fn shortest_row(sheet: &Sheet, bytes: &[u8], out: &mut [u8]) -> Result<usize
     let size = parser::repair_record(sheet, bytes, &mut whole)?;
     let mut marks = [false; limits::MOST_RECORD_BYTES];
     edges::mark_record(sheet, &whole, size, &mut marks);
-    let mut row = [0u8; limits::MOST_TOKENS];
     let marked = Marked {
         sheet,
         whole: &whole,
         marks: &marks,
     };
-    let written = marked.write_operand(0, None, Side::Right, &mut row, 0);
-    let length = written % BASE;
-    if out.len() < length {
+    let mut row = Tokens::new();
+    marked.write_operand(0, None, Side::Right, &mut row);
+    let tokens = row.as_slice();
+    if out.len() < tokens.len() {
         return Err(Refusal::Short);
     }
-    bytes::copy(&row[0..length], out);
-    Ok(length)
+    bytes::copy(tokens, out);
+    Ok(tokens.len())
 }

@@ -13,12 +13,13 @@ returns-in_err-size c =
 pub mark_record-requires-clause-fills : goal.mark_record-requires-clause-fills
 mark_record-requires-clause-fills c = front_fills _ _ c.args.out.now _ (search rules) c.in_ok-size.ensures refl
 
-pub write_operand-written-requires : goal.write_operand-written-requires
-write_operand-written-requires c = front_stands _ _ c.args.out.now _ (search rules) c.in_ok-size.ensures refl c.mark_record.ensures
+pub write_operand-requires : goal.write_operand-requires
+write_operand-requires c = front_stands _ _ c.args.out.now _ (search rules) c.in_ok-size.ensures refl c.mark_record.ensures c.new-row.ensures
 
-pub returns-then-out-length : goal.returns-then-out-length
-returns-then-out-length c = shortest_short _ _ _ _ (search rules) c.in_ok-size.ensures refl _ c.write_operand-written.ensures c.if-out-length.true
+pub returns-then-out-tokens : goal.returns-then-out-tokens
+returns-then-out-tokens c =
+    shortest_short _ _ _ _ (search rules) c.in_ok-size.ensures refl c.new-row.ensures c.write_operand.ensures c.as_slice-tokens.ensures c.if-out-tokens.true
 
 pub returns : goal.returns
 returns c =
-    shortest_done _ _ _ _ (search rules) c.in_ok-size.ensures refl _ c.write_operand-written.ensures (search rules) c.if-out-length.false c.copy.ensures
+    shortest_done _ _ _ _ (search rules) c.in_ok-size.ensures refl c.new-row.ensures c.write_operand.ensures c.as_slice-tokens.ensures c.if-out-tokens.false c.copy.ensures

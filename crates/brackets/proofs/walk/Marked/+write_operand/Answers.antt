@@ -1,76 +1,90 @@
--- What the ways through `write_operand` give. Assumes nothing.
-use Rattle.std.proofs.Common.{rules}
-use Rattle.brackets.proofs.Walking.{inside}
-use Rattle.brackets.proofs.WalkingNodes.{inner_stands, prefix_stands}
-use Rattle.brackets.proofs.WalkingInfix.{leaf_stands, left_stands, ways}
+-- What the steps of `write_operand` give. Assumes nothing.
+use Rattle.brackets.proofs.Walking.{inside, by_edge, by_top, wrapped_stands, close_room, wrapped}
+use Rattle.brackets.proofs.WalkingNodes.{a_leaf, a_bracketed, a_prefixed}
+use Rattle.brackets.proofs.WalkingInfix.{left_leaf, left_walked, left_here, left_stands, seam_room, right_falls, an_infix, ways}
 use Rattle.brackets.proofs.walk.Marked.+write_operand.Goals as goal
+use Rattle.brackets.proofs.walk.Marked.+write_operand.Goals.{in-Reading-top_at, in_default-top_at}
 
-pub write_operand-inner-requires : goal.write_operand-inner-requires
-write_operand-inner-requires t c = search ways
+pub write_operand-end-requires : goal.write_operand-end-requires
+write_operand-end-requires t c = (search ways, wrapped_stands c.loop-side.invariant (by_edge c.loop-side.invariant c.in-Shown.is) c.put.ensures)
 
-pub bounds-out-inner : goal.bounds-out-inner
-bounds-out-inner t c = search ways
-
-pub overflow_add-result : goal.overflow_add-result
-overflow_add-result t c = search ways
+pub put-requires-in-Shown : goal.put-requires-in-Shown
+put-requires-in-Shown t c = close_room c.loop-side.invariant (by_edge c.loop-side.invariant c.in-Shown.is) c.put.ensures c.write_operand-end.ensures
 
 pub returns-in-Shown : goal.returns-in-Shown
-returns-in-Shown t c = search ways
-
-pub write_operand-inner-requires-then-shows : goal.write_operand-inner-requires-then-shows
-write_operand-inner-requires-then-shows t c = search ways
-
-pub bounds-out-inner-then-shows : goal.bounds-out-inner-then-shows
-bounds-out-inner-then-shows t c = search ways
-
-pub overflow_add-result-then-shows : goal.overflow_add-result-then-shows
-overflow_add-result-then-shows t c = search ways
-
-pub returns-then-shows : goal.returns-then-shows
-returns-then-shows t c = search ways
-
-pub set_two-requires-clause-next_lt_most_tokens : goal.set_two-requires-clause-next_lt_most_tokens
-set_two-requires-clause-next_lt_most_tokens t c = search ways
-
-pub returns-then-a-ne0 : goal.returns-then-a-ne0
-returns-then-a-ne0 t c = search ways
-
-pub bounds-out-seam : goal.bounds-out-seam
-bounds-out-seam t c = search ways
-
-pub write_operand-requires-in-Operator : goal.write_operand-requires-in-Operator
-write_operand-requires-in-Operator t c = search ways
+returns-in-Shown t c = wrapped c.loop-side.invariant (by_edge c.loop-side.invariant c.in-Shown.is) c.put.ensures c.write_operand-end.ensures c.put-in-Shown.ensures
 
 pub returns-in-Reading : goal.returns-in-Reading
-returns-in-Reading t c = search ways
+returns-in-Reading t c = a_leaf c.loop-side.invariant c.top_at.ensures c.in-Reading.is c.put-in-Reading.ensures
 
-pub returns-in-Bracket : goal.returns-in-Bracket
-returns-in-Bracket t c = search ways
+pub loop-side-preserved-in-Bracket : goal.loop-side-preserved-in-Bracket
+loop-side-preserved-in-Bracket t c = a_bracketed c.loop-side.invariant c.top_at.ensures c.in-Bracket.is
 
-pub returns-in-Prefix : goal.returns-in-Prefix
-returns-in-Prefix t c = search ways
+pub loop-side-smaller-in-Bracket : goal.loop-side-smaller-in-Bracket
+loop-side-smaller-in-Bracket t c = let d = inside c.loop-side.invariant in search ways
 
-pub returns-else-a-ne0 : goal.returns-else-a-ne0
-returns-else-a-ne0 t c = search ways
+pub loop-side-preserved-in-Prefix : goal.loop-side-preserved-in-Prefix
+loop-side-preserved-in-Prefix t c = a_prefixed c.loop-side.invariant c.top_at.ensures c.in_default.not-Shown c.in-Prefix.is c.put-in-Prefix.ensures
 
-pub write_operand-requires : goal.write_operand-requires
-write_operand-requires t c = (search ways, inner_stands _ _ _ _ _ _ _ c.requires c.top_at.ensures c.in-Bracket.is)
+pub loop-side-smaller-in-Prefix : goal.loop-side-smaller-in-Prefix
+loop-side-smaller-in-Prefix t c = let d = inside c.loop-side.invariant in search ways
 
-pub write_operand-requires-in-Prefix : goal.write_operand-requires-in-Prefix
-write_operand-requires-in-Prefix t c = (search ways, prefix_stands _ _ _ _ _ _ _ c.requires c.top_at.ensures (search rules) c.in-Prefix.is)
+pub write_operand-end-requires-then-shows : goal.write_operand-end-requires-then-shows
+write_operand-end-requires-then-shows t c =
+    (search ways, wrapped_stands c.loop-side.invariant (by_top c.loop-side.invariant c.top_at.ensures c.in-Operator.is c.shows.ensures c.if-shows.true) c.put-then-shows.ensures)
 
-pub write_operand-requires-then-a-ne0 : goal.write_operand-requires-then-a-ne0
-write_operand-requires-then-a-ne0 t c = (
-  search ways,
-  leaf_stands _ _ _ _ _ _ _ c.requires c.top_at.ensures c.in-Operator.is (search rules) c.shows.ensures c.if-shows.false c.leaf_at-a.ensures
-      c.if-a-ne0.true,
-)
+pub put-requires-then-shows-2 : goal.put-requires-then-shows-2
+put-requires-then-shows-2 t c =
+    close_room c.loop-side.invariant (by_top c.loop-side.invariant c.top_at.ensures c.in-Operator.is c.shows.ensures c.if-shows.true) c.put-then-shows.ensures
+    c.write_operand-end-then-shows.ensures
+
+pub returns-then-shows : goal.returns-then-shows
+returns-then-shows t c =
+    wrapped c.loop-side.invariant (by_top c.loop-side.invariant c.top_at.ensures c.in-Operator.is c.shows.ensures c.if-shows.true) c.put-then-shows.ensures
+    c.write_operand-end-then-shows.ensures c.put-then-shows-2.ensures
+
+pub top_at-requires-in-Operator : goal.top_at-requires-in-Operator
+top_at-requires-in-Operator t c = left_here c.loop-side.invariant c.top_at.ensures c.in-Operator.is c.in_default.not-Shown c.shows.ensures c.if-shows.false
 
 pub bounds-self-at : goal.bounds-self-at
-bounds-self-at t c = inside _ _ _ _ _ _ _ c.requires
+bounds-self-at t c = inside c.loop-side.invariant
 
-pub write_operand-left-requires : goal.write_operand-left-requires
-write_operand-left-requires t c = (
-  search ways,
-  left_stands _ _ _ _ _ _ _ c.requires c.top_at.ensures c.in-Operator.is (search rules) c.shows.ensures c.if-shows.false c.left_side.ensures,
-)
+pub write_operand-at-requires : goal.write_operand-at-requires
+write_operand-at-requires t c =
+    (search ways, left_stands c.loop-side.invariant c.top_at.ensures c.in-Operator.is c.in_default.not-Shown c.shows.ensures c.if-shows.false c.left_side.ensures)
+
+pub put-requires-in-Operator : goal.put-requires-in-Operator
+put-requires-in-Operator t c =
+    elim c.match-top_at-2.branch [
+      | in-Reading-top_at w ↦
+          let h = left_leaf c.in-Operator.o c.top_at-in-Operator.ensures w.in-Reading-top_at.is w.put-in-Reading-top_at.ensures in
+          seam_room c.loop-side.invariant c.top_at.ensures c.in-Operator.is c.in_default.not-Shown c.shows.ensures c.if-shows.false {mid = c.match-top_at-2.at}
+          (rw (w.row-is, w.at-is) h)
+      | in_default-top_at w ↦
+          seam_room c.loop-side.invariant c.top_at.ensures c.in-Operator.is c.in_default.not-Shown c.shows.ensures c.if-shows.false {mid = c.match-top_at-2.at}
+          (rw (w.row-is, w.at-is) (left_walked _ w.left_side.ensures w.write_operand-at.ensures))
+    ]
+
+pub loop-side-smaller : goal.loop-side-smaller
+loop-side-smaller t c =
+    elim c.match-top_at-2.branch [
+      | in-Reading-top_at w ↦
+          let h = left_leaf c.in-Operator.o c.top_at-in-Operator.ensures w.in-Reading-top_at.is w.put-in-Reading-top_at.ensures in
+          right_falls c.loop-side.invariant c.top_at.ensures c.in-Operator.is c.in_default.not-Shown c.shows.ensures c.if-shows.false {middle = c.match-top_at-2.row} {mid = c.match-top_at-2.at}
+          (rw (w.row-is, w.at-is) h) (search ways)
+      | in_default-top_at w ↦
+          right_falls c.loop-side.invariant c.top_at.ensures c.in-Operator.is c.in_default.not-Shown c.shows.ensures c.if-shows.false {middle = c.match-top_at-2.row} {mid = c.match-top_at-2.at}
+          (rw (w.row-is, w.at-is) (left_walked _ w.left_side.ensures w.write_operand-at.ensures)) (search ways)
+    ]
+
+pub loop-side-preserved : goal.loop-side-preserved
+loop-side-preserved t c =
+    elim c.match-top_at-2.branch [
+      | in-Reading-top_at w ↦
+          let h = left_leaf c.in-Operator.o c.top_at-in-Operator.ensures w.in-Reading-top_at.is w.put-in-Reading-top_at.ensures in
+          an_infix c.loop-side.invariant c.top_at.ensures c.in-Operator.is c.in_default.not-Shown c.shows.ensures c.if-shows.false {mid = c.match-top_at-2.at}
+          (rw (w.row-is, w.at-is) h) c.put-in-Operator.ensures
+      | in_default-top_at w ↦
+          an_infix c.loop-side.invariant c.top_at.ensures c.in-Operator.is c.in_default.not-Shown c.shows.ensures c.if-shows.false {mid = c.match-top_at-2.at}
+          (rw (w.row-is, w.at-is) (left_walked _ w.left_side.ensures w.write_operand-at.ensures)) c.put-in-Operator.ensures
+    ]
