@@ -48,7 +48,7 @@ pub fn evaluate(
     ensures { EvaluatesOn meanings.now readings.now sheet.now (records_in places.now) place (evaluation_of result) }
 {
     let place = Place::try_from(place)?;
-    let bytes = places.held_record(place);
+    let bytes = places.held_record(place.at);
     if bytes.is_empty() {
         return Err(Refusal::Empty);
     }

@@ -5,7 +5,7 @@ ghost use Rattle.evaluator.specs.Walk.{Evaluable, Values, IsValue};
 
 use crate::lent::Lent;
 use expression::token;
-use meanings::{Meaning, PrefixMeaning};
+use meanings::PrefixMeaning;
 
 impl Lent<'_> {
     // The value of the tree at the place, which moves past it. This is compiled into the walk below, so a reading takes no call.
@@ -44,10 +44,7 @@ impl Lent<'_> {
         }
         let left = self.value_at(at);
         let right = self.value_at(at);
-        match Meaning::try_from(number) {
-            Ok(meaning) => meaning.apply(left, right),
-            Err(_) => 0,
-        }
+        meanings::apply(number, left, right)
     }
 
     // The value of the tree that the whole record is of.

@@ -27,12 +27,20 @@ pub fn write_reply(number: u8, answer: &[u8], out: &mut [u8]) -> usize
     from + hexadecimal::encode(answer, &mut out[from..to]).unwrap()
 }
 
+// A number alone.
+pub fn write_number(number: u8, out: &mut [u8]) -> usize
+    requires { most_reply ≤ length out.old }
+    ensures { Writes number [] out.old out.new result }
+{
+    write_reply(number, &[], out)
+}
+
 // A refusal's number alone.
 pub fn write_refusal(refusal: Refusal, out: &mut [u8]) -> usize
     requires { most_reply ≤ length out.old }
     ensures { Writes (number_of refusal) [] out.old out.new result }
 {
-    write_reply(refusal.number(), &[], out)
+    write_number(refusal.number(), out)
 }
 
 // The reply to a line on a panel that is lent in its three parts, at the front of `out`; how many characters it has.

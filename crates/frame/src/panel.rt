@@ -11,7 +11,7 @@ use crate::kind::Kind;
 use crate::limits::{
     MOST_ANSWER, MOST_CHARACTERS, MOST_FRAME, MOST_REPLY, SHORT_FRAME, SHORT_LINE,
 };
-use crate::{write_refusal, write_reply};
+use crate::{write_number, write_refusal, write_reply};
 use expression::refusal::{ACCEPTED, Refusal};
 use places::Store;
 use sheet::Sheet;
@@ -108,7 +108,7 @@ impl Panel<'_> {
         };
         match self.run_frame(&frame[0..to], &mut answer) {
             Ok(length) => write_reply(ACCEPTED, &answer[0..length], out),
-            Err(refusal) => write_refusal(refusal, out),
+            Err(refusal) => write_number(refusal.number(), out),
         }
     }
 

@@ -27,9 +27,11 @@ use Rattle.meanings.specs.declared.Meaning.TheVariants as code
 abbrev read : ℤ → ℤ
 read z = to_z w32 (of_z w32 z)
 
-as_truth : (t : Bool) → pos (bool_byte t) ≡ truth t
+pub as_truth : (t : Bool) → pos (bool_byte t) ≡ truth t
 as_truth true = refl
 as_truth false = refl
+
+pub ruleset truth_ways = (as_truth, rules)
 
 -- arithmetic that stops at the ends
 pub saturated : (z : ℤ) → saturate_signed w32 z ≡ at_ends z
@@ -62,21 +64,21 @@ module _ (a b : ℤ) (fa : SFits w32 a) (fb : SFits w32 b) where
   both_read : {A : Type 0} (f : ℤ → ℤ → A) → f (read a) (read b) ≡ f a b
   both_read f = ap₂ f (to_z-of_z fa) (to_z-of_z fb)
 
-  pub one_of_two : {p q : Bool} → p ≡ is_true (read a) → q ≡ is_true (read b) → {r : ℤ} → r ≡ pos (bool_byte (p || q)) → r ≡ applied Or a b
-  one_of_two {p} {q} e g h = h ∙ as_truth (p || q) ∙ ap truth (ap₂ ◌||◌ e g) ∙ both_read (applied Or)
+  pub one_of_two : {p q : Bool} → p ≡ is_true (read a) → q ≡ is_true (read b) → {r : ℤ} → r ≡ truth (p || q) → r ≡ applied Or a b
+  one_of_two {p} {q} e g h = h ∙ ap truth (ap₂ ◌||◌ e g) ∙ both_read (applied Or)
 
-  pub two_of_two : {p q : Bool} → p ≡ is_true (read a) → q ≡ is_true (read b) → {r : ℤ} → r ≡ pos (bool_byte (p && q)) → r ≡ applied And a b
-  two_of_two {p} {q} e g h = h ∙ as_truth (p && q) ∙ ap truth (ap₂ ◌&&◌ e g) ∙ both_read (applied And)
+  pub two_of_two : {p q : Bool} → p ≡ is_true (read a) → q ≡ is_true (read b) → {r : ℤ} → r ≡ truth (p && q) → r ≡ applied And a b
+  two_of_two {p} {q} e g h = h ∙ ap truth (ap₂ ◌&&◌ e g) ∙ both_read (applied And)
 
   module _ {r : ℤ} where
-    pub less_read : r ≡ pos (bool_byte (lt_z (read a) (read b))) → r ≡ applied Less a b
-    less_read h = h ∙ as_truth (lt_z (read a) (read b)) ∙ both_read (applied Less)
+    pub less_read : r ≡ truth (lt_z (read a) (read b)) → r ≡ applied Less a b
+    less_read h = h ∙ both_read (applied Less)
 
-    pub at_most_read : r ≡ pos (bool_byte (le_z (read a) (read b))) → r ≡ applied AtMost a b
-    at_most_read h = h ∙ as_truth (le_z (read a) (read b)) ∙ both_read (applied AtMost)
+    pub at_most_read : r ≡ truth (le_z (read a) (read b)) → r ≡ applied AtMost a b
+    at_most_read h = h ∙ both_read (applied AtMost)
 
-    pub equal_read : r ≡ pos (bool_byte (eqb (of_z w32 a) (of_z w32 b))) → r ≡ applied Equal a b
-    equal_read h = h ∙ as_truth (eqb (of_z w32 a) (of_z w32 b)) ∙ ap truth (same_bits a b fa fb)
+    pub equal_read : r ≡ truth (eqb (of_z w32 a) (of_z w32 b)) → r ≡ applied Equal a b
+    equal_read h = h ∙ ap truth (same_bits a b fa fb)
 
     pub sum_read : r ≡ saturate_signed w32 (read a +ℤ read b) → r ≡ applied Sum a b
     sum_read h = h ∙ saturated (read a +ℤ read b) ∙ both_read (applied Sum)

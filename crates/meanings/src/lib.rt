@@ -2,7 +2,7 @@
 #![tactic(auto)]
 
 ghost use Rattle.std.specs.Prelude.{◌≡◌};
-ghost use Rattle.meanings.specs.Meanings.{is_true, applied, applied_to, meant, prefix_meant, is_missing};
+ghost use Rattle.meanings.specs.Meanings.{is_true, truth, applied, applied_to, meant, prefix_meant, worked, worked_on, is_missing};
 ghost use Rattle.meanings.specs.Enums.{said, prefix_said};
 
 use expression::refusal::Refusal;
@@ -27,6 +27,9 @@ pub enum PrefixMeaning {
     Not = 10,
     Minus,
 }
+
+// The first of their numbers: an infix operator's is below it.
+pub const NOT: u8 = PrefixMeaning::Not as u8;
 
 impl TryFrom<u8> for Meaning {
     type Error = Refusal;
@@ -73,6 +76,14 @@ fn is_true(a: i32) -> bool
     a != 0
 }
 
+// A truth answer.
+#[tactic(auto, using(crate::proofs::Applying::truth_ways))]
+fn truth(holds: bool) -> i32
+    ensures { result ≡ truth holds }
+{
+    i32::from(holds)
+}
+
 impl Meaning {
     // What it makes of the values of the left and of the right operand. All are worked out and one is picked, since which one it will
     // be cannot be foreseen.
@@ -80,11 +91,11 @@ impl Meaning {
         ensures { result ≡ applied (said self) a b }
     {
         let made = [
-            i32::from(is_true(a) | is_true(b)),
-            i32::from(is_true(a) & is_true(b)),
-            i32::from(a < b),
-            i32::from(a <= b),
-            i32::from(a == b),
+            truth(is_true(a) | is_true(b)),
+            truth(is_true(a) & is_true(b)),
+            truth(a < b),
+            truth(a <= b),
+            truth(a == b),
             a.saturating_add(b),
             a.saturating_sub(b),
             a.min(b),
@@ -100,9 +111,29 @@ impl PrefixMeaning {
         ensures { result ≡ applied_to (prefix_said self) a }
     {
         match self {
-            PrefixMeaning::Not => i32::from(!is_true(a)),
+            PrefixMeaning::Not => truth(!is_true(a)),
             PrefixMeaning::Minus => 0i32.saturating_sub(a),
         }
+    }
+}
+
+// What the meaning with that number makes of the values of the left and of the right operand; 0 where there is none.
+pub fn apply(number: u8, a: i32, b: i32) -> i32
+    ensures { result ≡ worked (meant number) a b }
+{
+    let Ok(meaning) = Meaning::try_from(number) else {
+        return 0;
+    };
+    meaning.apply(a, b)
+}
+
+// What the meaning with that number makes of the value of the only operand; 0 where there is none.
+pub fn apply_prefix(number: u8, a: i32) -> i32
+    ensures { result ≡ worked_on (prefix_meant number) a }
+{
+    match PrefixMeaning::try_from(number) {
+        Ok(meaning) => meaning.apply(a),
+        Err(_) => 0,
     }
 }
 

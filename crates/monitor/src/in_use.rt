@@ -43,7 +43,7 @@ fn uses_set(set: u32, bytes: &[u8]) -> bool
 fn place_uses(n: u8, set: u32, places: &Store, place: Place) -> bool
     ensures { result ≡ uses_by n set (held (records_in places.now) place.at) }
 {
-    let bytes = places.held_record(place);
+    let bytes = places.held_record(place.at);
     if uses_beyond(n, bytes) {
         return true;
     }

@@ -52,7 +52,7 @@ pub fn put_row(sheet: &Sheet, places: &mut Store, place: u32, row: &[u8]) -> Res
     let place = Place::try_from(place)?;
     let mut buffer = [0u8; MOST_RECORD_BYTES];
     let length = parser::build_row(sheet, row, &mut buffer)?;
-    places.put(place, &buffer[..length]);
+    places.put(place.at, &buffer[..length]);
     Ok(())
 }
 
@@ -68,7 +68,7 @@ pub fn put_record(
     let place = Place::try_from(place)?;
     let mut buffer = [0u8; MOST_RECORD_BYTES];
     let length = parser::repair_record(sheet, bytes, &mut buffer)?;
-    places.put(place, &buffer[..length]);
+    places.put(place.at, &buffer[..length]);
     Ok(())
 }
 
@@ -84,7 +84,7 @@ pub fn put_claim(
 {
     let place = Place::try_from(place)?;
     claims::check_claim(sheet, row, bytes)?;
-    places.put(place, bytes);
+    places.put(place.at, bytes);
     Ok(())
 }
 
@@ -93,10 +93,10 @@ pub fn drop_place(places: &mut Store, place: u32) -> Result<(), Refusal>
     ensures { Drops places.old place (number_in result) places.new }
 {
     let place = Place::try_from(place)?;
-    if places.held_record(place).is_empty() {
+    if places.held_record(place.at).is_empty() {
         return Err(Refusal::Empty);
     }
-    places.clear(place);
+    places.clear(place.at);
     Ok(())
 }
 
@@ -105,7 +105,7 @@ pub fn fetch_record(places: &Store, place: u32, out: &mut [u8]) -> Result<usize,
     ensures { AnswersFrom places.now (fetch_record place out.old) (answer_of result) out.new }
 {
     let place = Place::try_from(place)?;
-    let bytes = places.held_record(place);
+    let bytes = places.held_record(place.at);
     if bytes.is_empty() {
         return Err(Refusal::Empty);
     }
@@ -126,7 +126,7 @@ pub fn fetch_row(
     ensures { AnswersOn sheet.now places.now (fetch_row place out.old) (answer_of result) out.new }
 {
     let place = Place::try_from(place)?;
-    let bytes = places.held_record(place);
+    let bytes = places.held_record(place.at);
     if bytes.is_empty() {
         return Err(Refusal::Empty);
     }
@@ -141,7 +141,7 @@ pub fn image(places: &Store, place: u32, out: &mut [u8]) -> Result<usize, Refusa
     if out.len() < IMAGE_BYTES {
         return Err(Refusal::Short);
     }
-    places.draw(place, out);
+    places.draw(place.at, out);
     Ok(IMAGE_BYTES)
 }
 

@@ -15,8 +15,8 @@ fn one(sheet: &Sheet, places: &mut Store, place: Place)
     ensures { records_in places.new ≡ rebuilt_at sheet.now (records_in places.old) place.at }
 {
     let mut buffer = [0u8; MOST_RECORD_BYTES];
-    if let Ok(length) = parser::repair_record(sheet, places.held_record(place), &mut buffer) {
-        places.put(place, &buffer[..length]);
+    if let Ok(length) = parser::repair_record(sheet, places.held_record(place.at), &mut buffer) {
+        places.put(place.at, &buffer[..length]);
     }
 }
 

@@ -16,7 +16,7 @@ use Rattle.run.specs.Places.{place_count, held}
 use Rattle.run.proofs.Images.{length_image, image_empty}
 use Rattle.places.specs.Store.{slot_bytes, store_bytes, slot_at, record_in, records_in, written, Enters, drawn, fresh}
 use Rattle.places.proofs.Slots.{record_in_slot, at_slot, written_in_slot}
-use Rattle.places.proofs.Laws.{held_at, held_length, written_long, records_written}
+use Rattle.places.proofs.Laws.{held_at, held_over, held_length, written_over, written_long, stored_over, records_written}
 
 -- ---- fresh
 pub zeros_fresh : replicate store_bytes 0 ≡ fresh
@@ -27,9 +27,10 @@ pub ruleset fresh_ways = (zeros_fresh, rules)
 
 -- ---- held_record
 module _ (store : List ℕ) (place : ℕ) where
-  pub part_held : {bytes : List ℕ} {at : ℕ} → bytes ≡ store → place < place_count → at ≡ slot_at place → get_or bytes at 0 < slot_bytes
+  pub part_held : {bytes : List ℕ} {at p : ℕ} → bytes ≡ store → place < place_count → p ≡ place → at ≡ slot_at p → get_or bytes at 0 < slot_bytes
       → mid_of (at + 1) (at + 1 + get_or bytes at 0 - (at + 1)) bytes ≡ held (records_in store) place
-  part_held {bytes} {at} v h e few' =
+  part_held {bytes} {at} {p} v h q e' few' =
+      let e : at ≡ slot_at place = e' ∙ ap slot_at q in
       let n : ℕ = get_or store at 0 in
       let few : n < slot_bytes = rw (sym (ap (λ (b : List ℕ). get_or b at 0) v)) few' in
       ap (λ (b : List ℕ). mid_of (at + 1) (at + 1 + get_or b at 0 - (at + 1)) b) v ∙ (
@@ -41,17 +42,31 @@ module _ (store : List ℕ) (place : ℕ) where
       ∙ ap (λ (k : ℕ). record_in (take slot_bytes (drop k store))) e
       ∙ sym (held_at store place ∙ at_slot store place h))
 
-pub ruleset held_ways = (part_held, rules)
+  -- A place over 15 holds nothing.
+  pub none_held : {r : List ℕ} → r ≡ [] → place_count ≤ place → r ≡ held (records_in store) place
+  none_held e h = e ∙ sym (held_over store place h)
+
+pub ruleset held_ways = (part_held, none_held, rules)
 
 -- ---- put and clear
 module _ (store : List ℕ) (place : ℕ) where
+  -- A place over 15 is no place to write at.
+  pub put_over : (bytes : List ℕ) {later : List ℕ} → later ≡ store → place_count ≤ place → Enters store place bytes later
+  put_over bytes v h =
+      record {
+        bytewise = v ∙ sym (written_over store place bytes h);
+        holds = λ _. ap records_in v ∙ sym (stored_over store place bytes h);
+      }
+
   pub put_long : (bytes : List ℕ) {later : List ℕ} → later ≡ store → most_record_bytes < length bytes → Enters store place bytes later
   put_long bytes v h = record { bytewise = v ∙ sym (written_long store place bytes h); holds = λ k. absurd (omega arith) }
 
   -- the image of a record is written in the place's slot
-  pub put_done : {at : ℕ} {image whole : List ℕ} (bytes : List ℕ) → whole ≡ store → place < place_count → length bytes ≤ most_record_bytes → at ≡ slot_at place
+  pub put_done : {at p : ℕ} {image whole : List ℕ} (bytes : List ℕ) → whole ≡ store → place < place_count → length bytes ≤ most_record_bytes
+      → p ≡ place → at ≡ slot_at p
       → length whole ≡ store_bytes → image ≡ image_of bytes → Enters store place bytes (put_mid at (at + slot_bytes - at) whole image)
-  put_done {at} {image} {whole} bytes v h k e size' w =
+  put_done {at} {p} {image} {whole} bytes v h k q e' size' w =
+      let e : at ≡ slot_at place = e' ∙ ap slot_at q in
       let size : length store ≡ store_bytes = ap length (sym v) ∙ size' in
       let long : length (image_of bytes) ≡ slot_bytes = length_image bytes k in
       let is : put_mid at (at + slot_bytes - at) whole image ≡ written store place bytes =
@@ -62,15 +77,15 @@ module _ (store : List ℕ) (place : ℕ) where
       ∙ sym (written_in_slot store place bytes h k) in
       record { bytewise = is; holds = λ _. ap records_in is ∙ records_written store place bytes h k size }
 
-  pub clear_done : {at : ℕ} {zeros whole : List ℕ} → whole ≡ store → place < place_count → at ≡ slot_at place → length whole ≡ store_bytes
+  pub clear_done : {at p : ℕ} {zeros whole : List ℕ} → whole ≡ store → place < place_count → p ≡ place → at ≡ slot_at p → length whole ≡ store_bytes
       → zeros ≡ replicate (length (mid_of at (at + slot_bytes - at) whole)) 0 → Enters store place [] (put_mid at (at + slot_bytes - at) whole zeros)
-  clear_done {at} {zeros} {whole} v h e size w =
+  clear_done {at} {p} {zeros} {whole} v h q e size w =
       let long : length (mid_of at (at + slot_bytes - at) whole) ≡ slot_bytes = mid_len at (at + slot_bytes) whole (omega arith) ∙ omega arith in
-      put_done [] v h (omega arith) e size (w ∙ ap (λ (k : ℕ). replicate k 0) long ∙ sym image_empty)
+      put_done [] v h (omega arith) q e size (w ∙ ap (λ (k : ℕ). replicate k 0) long ∙ sym image_empty)
 
-pub ruleset put_ways = (put_long, put_done, rules)
+pub ruleset put_ways = (put_over, put_long, put_done, rules)
 
-pub ruleset clear_ways = (clear_done, rules)
+pub ruleset clear_ways = (put_over, clear_done, rules)
 
 -- ---- draw
 module _ (store : List ℕ) (place : ℕ) (out : List ℕ) where

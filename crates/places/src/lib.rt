@@ -7,7 +7,7 @@ ghost use Rattle.run.specs.Places.{held};
 ghost use Rattle.places.specs.Store.{records_in, Enters, drawn, fresh};
 
 use expression::limits::MOST_RECORD_BYTES;
-use limits::{SLOT_BYTES, STORE_BYTES};
+use limits::{PLACE_COUNT, SLOT_BYTES, STORE_BYTES};
 pub use place::Place;
 use std::marker::Model;
 
@@ -18,7 +18,7 @@ mod write;
 
 // A lent store: the places one after the other; all zero is the one whose places are empty.
 #[repr(C)]
-#[derive(Drop)]
+#[derive(Clone, Copy, Debug, PartialEq, Eq)]
 pub struct Store {
     bytes: [u8; STORE_BYTES],
 }
@@ -31,7 +31,23 @@ impl Model for Store {
     ghost inverse = { λ bytes. record { bytes = bytes } };
 }
 
+// Any bytes are a store's, as those that a caller has kept.
+impl From<[u8; STORE_BYTES]> for Store {
+    ghost from_gives = { λ bytes store. store ≡ bytes };
+
+    fn from(bytes: [u8; STORE_BYTES]) -> Store {
+        Store { bytes }
+    }
+}
+
 impl Store {
+    // The bytes, for a caller that keeps or compares them.
+    pub fn bytes(&self) -> &[u8; STORE_BYTES]
+        ensures { result.now ≡ self.now }
+    {
+        &self.bytes
+    }
+
     // Every place is empty.
     #[tactic(auto, using(crate::proofs::Ways::fresh_ways))]
     pub fn fresh() -> Self
@@ -42,38 +58,47 @@ impl Store {
         }
     }
 
-    // The record at a place, as that part of the store. No `Option`: an empty place holds the empty list in the specification, and the tests of
-    // held trees take it so.
-    pub fn held_record(&self, place: Place) -> &[u8]
-        ensures { result.now ≡ held (records_in self.now) place.at }
+    // The record at a place, as that part of the store; empty where the place is empty or over 15. No `Option`: such a place holds the empty list in
+    // the specification, and the tests of held trees take it so.
+    pub fn held_record(&self, place: u8) -> &[u8]
+        ensures { result.now ≡ held (records_in self.now) place }
     {
-        let at = layout::slot_at(place);
+        if PLACE_COUNT <= place {
+            return &self.bytes[..0];
+        }
+        let at = layout::slot_at(Place::new(place));
         let from = at + 1;
         &self.bytes[from..from + self.bytes[at] as usize]
     }
 
-    // The place holds the record of these bytes. A record over 255 bytes changes nothing.
-    pub fn put(&mut self, place: Place, bytes: &[u8])
-        ensures { Enters self.old place.at bytes.now self.new }
+    // The place holds the record of these bytes. A place over 15, or a record over 255 bytes, changes nothing.
+    pub fn put(&mut self, place: u8, bytes: &[u8])
+        ensures { Enters self.old place bytes.now self.new }
     {
+        if PLACE_COUNT <= place {
+            return;
+        }
         if MOST_RECORD_BYTES < bytes.len() {
             return;
         }
-        let from = layout::slot_at(place);
+        let from = layout::slot_at(Place::new(place));
         write::image(&mut self.bytes[from..from + SLOT_BYTES], bytes);
     }
 
-    // The place is empty.
-    pub fn clear(&mut self, place: Place)
-        ensures { Enters self.old place.at [] self.new }
+    // The place is empty. A place over 15 changes nothing.
+    pub fn clear(&mut self, place: u8)
+        ensures { Enters self.old place [] self.new }
     {
-        let from = layout::slot_at(place);
+        if PLACE_COUNT <= place {
+            return;
+        }
+        let from = layout::slot_at(Place::new(place));
         self.bytes[from..from + SLOT_BYTES].fill(0);
     }
 
-    // The image of a place goes to the front of the output, where there is room for it.
-    pub fn draw(&self, place: Place, out: &mut [u8])
-        ensures { out.new ≡ drawn (image_of (held (records_in self.now) place.at)) out.old }
+    // The image of a place, of an empty one where the place is over 15, goes to the front of the output, where there is room for it.
+    pub fn draw(&self, place: u8, out: &mut [u8])
+        ensures { out.new ≡ drawn (image_of (held (records_in self.now) place)) out.old }
     {
         if out.len() < limits::IMAGE_BYTES {
             return;

@@ -24,7 +24,7 @@ pub mod powers;
 
 // A lent sheet: the words of the relation, and others whose layout is known here alone; all zero is the fresh one.
 #[repr(C)]
-#[derive(Clone, Copy)]
+#[derive(Clone, Copy, Debug, PartialEq, Eq)]
 pub struct Sheet {
     pub(crate) words: [u32; SHEET_WORDS],
 }
@@ -37,7 +37,23 @@ impl Model for Sheet {
     ghost inverse = { λ words. record { words = words } };
 }
 
+// Any words are a sheet's, as those that a caller has kept.
+impl From<[u32; SHEET_WORDS]> for Sheet {
+    ghost from_gives = { λ words sheet. sheet ≡ words };
+
+    fn from(words: [u32; SHEET_WORDS]) -> Sheet {
+        Sheet { words }
+    }
+}
+
 impl Sheet {
+    // The words, for a caller that keeps or compares them.
+    pub fn words(&self) -> &[u32; SHEET_WORDS]
+        ensures { result.now ≡ self.now }
+    {
+        &self.words
+    }
+
     // No sheet was loaded into it.
     pub fn fresh() -> Self
         ensures { result ≡ fresh }

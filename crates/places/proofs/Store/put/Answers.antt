@@ -7,3 +7,6 @@ returns-then-bytes-gt-MOST_RECORD_BYTES c = search put_ways
 
 pub returns : goal.returns
 returns c = search put_ways
+
+pub returns-then-place-ge-PLACE_COUNT : goal.returns-then-place-ge-PLACE_COUNT
+returns-then-place-ge-PLACE_COUNT c = search put_ways

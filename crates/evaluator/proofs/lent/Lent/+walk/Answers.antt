@@ -1,5 +1,4 @@
 -- The answers of the walk of `evaluator::lent::Lent`. Assumes nothing.
-use native.Mathlib.Omega.{arith}
 use mathlib.Core.Path.{refl}
 use borrow.Author.Rules.{rules}
 use Rattle.evaluator.proofs.Walking.{walk_ways, operand_evaluable, prefix_value, left_evaluable, right_falls, right_evaluable, infix_value}
@@ -41,9 +40,7 @@ node_value-value_at-left-requires t c = (search walk_ways, left_evaluable c.requ
 pub node_value-value_at-right-requires : goal.node_value-value_at-right-requires
 node_value-value_at-right-requires t c = (search (right_falls c.requires.evaluable c.requires.at_bound c.if-byte-eq-OPENING.false c.in_default.ensures.0, rules), search (right_evaluable c.requires.evaluable c.requires.at_bound c.if-byte-eq-OPENING.false c.in_default.ensures.0, rules))
 
-pub node_value-returns-in-Ok-try_from : goal.node_value-returns-in-Ok-try_from
-node_value-returns-in-Ok-try_from t c = search (infix_value c.requires.evaluable c.requires.at_bound c.if-byte-eq-OPENING.false c.in_default.ensures.0, c.in-Ok-try_from.ensures, rules)
-
-pub node_value-returns-in-Err : goal.node_value-returns-in-Err
-node_value-returns-in-Err t c = infix_value c.requires.evaluable c.requires.at_bound c.if-byte-eq-OPENING.false c.in_default.ensures.0 c.value_at-left.ensures c.value_at-right.ensures
-    (search rules) (search rules) (record { sfits = omega arith }) c.in-Err.ensures.0 refl
+pub node_value-returns : goal.node_value-returns
+node_value-returns t c =
+    infix_value c.requires.evaluable c.requires.at_bound c.if-byte-eq-OPENING.false c.in_default.ensures.0 c.value_at-left.ensures c.value_at-right.ensures
+    (search rules) (search rules) (search rules) refl c.apply-2.ensures

@@ -21,6 +21,6 @@ returns-in-Ok-run_frame g c =
 pub returns-in-Err : goal.returns-in-Err
 returns-in-Err g c =
     record {
-      replied = line_run _ _ _ _ c.decode.ensures (omega arith) (omega (arith, length-replicate {A = ℕ} g.row.N 0)) c.in-Err.ensures.told c.write_refusal-in-Err.ensures c.in-Ok.is;
+      replied = line_run _ _ _ _ c.decode.ensures (omega arith) (omega (arith, length-replicate {A = ℕ} g.row.N 0)) c.in-Err.ensures.told (rw c.number.ensures at c.write_number.ensures) c.in-Ok.is;
       same = c.run_frame.ensures.same;
     }
