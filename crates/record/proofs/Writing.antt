@@ -1,5 +1,5 @@
 -- What each step of `write_row` gives. Assumes nothing.
-use Prim.Native.Nat.{ℕ, suc, ◌+◌, ◌-◌, ◌≤◌}
+use Prim.Native.Nat.{ℕ, suc, ◌+◌, ◌-◌, ◌<◌, ◌≤◌}
 use native.Mathlib.Omega.{arith}
 use Rattle.std.specs.Prelude.{Option, Some, None}
 use mathlib.Core.Path.{◌≡◌, refl, ap, sym, ◌∙◌}
@@ -127,18 +127,33 @@ left_leaf {ops} {bytes} at {row} {left} next leaf room e =
     let two : at + 1 + 1 ≡ at + 2 = omega arith in
     rw two at (a_leaf (starts ops bytes (at + 1) row) next leaf room e)
 
+-- the two tokens of a left operand that is a reading and of the operator behind it
+module _ (row : List ℕ) (a o : ℕ) {next : List ℕ} (e : next ≡ row ++ a ∷ o ∷ []) where
+  pub two_on : next ≡ (row ++ a ∷ []) ++ o ∷ []
+  two_on = e ∙ sym (append_assoc row (a ∷ []) (o ∷ []))
+
+  pub one_fits : length next ≤ most_tokens → length (row ++ a ∷ []) ≤ most_tokens
+  one_fits h = omega (arith, ap length two_on, one_more (row ++ a ∷ []) o)
+
 -- The left operand is written within a byte less.
 module _ (ops : Operators) (size : ℕ) (whole : List ℕ) {from : ℕ} {before : List ℕ} {at : ℕ} {row : List ℕ} (lead : Leads ops (front size whole) from before at row) {x : Node}
-    (found : Some x ≡ node_at ops (front size whole) at) {o : ℕ} (is : x ≡ node.Operator o) {left : List ℕ} where
-  pub left_refused : Writes ops (front (size - 1) whole) (at + 1) row left None → Writes ops (front size whole) from before left None
-  left_refused h =
+    (found : Some x ≡ node_at ops (front size whole) at) {o : ℕ} (is : x ≡ node.Operator o) where
+  -- no room for a left operand and the operator
+  pub two_full : most_tokens < length row + 2 → Writes ops (front size whole) from before row None
+  two_full over =
+      lead.on row None (none_here row row λ t to k room.
+      let (l, r, mid, q, a, b) = operands_in ops size whole at found is t k in
+      omega (arith, operator_tokens o l r, ap (λ v. length (yield v)) q, yield_positive l, yield_positive r))
+
+  pub left_refused : {left : List ℕ} → Writes ops (front (size - 1) whole) (at + 1) row left None → Writes ops (front size whole) from before left None
+  left_refused {left} h =
       lead.on left None (none_here row left λ t to k room.
       let (l, r, mid, q, a, b) = operands_in ops size whole at found is t k in
       let m = ap (λ v. length (yield v)) q in
       let z : None ≡ Some mid = (h.wrote l mid a (omega (arith, operator_tokens o l r))).0 in
       cc)
 
-  module _ {mid : ℕ} (h : Writes ops (front (size - 1) whole) (at + 1) row left (Some mid)) where
+  module _ {left : List ℕ} {mid : ℕ} (h : Writes ops (front (size - 1) whole) (at + 1) row left (Some mid)) where
     pub left_full : most_tokens ≤ length left → Writes ops (front size whole) from before left None
     left_full over =
         lead.on left None (none_here row left λ t to k room.

@@ -7,7 +7,7 @@ use mathlib.Core.List.{List, [], ◌∷◌, ◌++◌}
 use lib.ListN.{length, drop}
 use borrow.Author.Rules.{rules}
 use borrow.Author.Tests.{lt-ltb, le-ltb, ne_eqb}
-use Rattle.expression.specs.Limits.{most_record_bytes}
+use Rattle.expression.specs.Limits.{most_tokens, most_record_bytes}
 use Rattle.expression.specs.Refusal.{Check, accepted, short}
 use Rattle.expression.specs.Outcome.{number_of}
 use Rattle.expression.specs.Token.{Operators, class}
@@ -19,6 +19,7 @@ use Rattle.expression.specs.declared.refusal.Refusal.TheVariants.{Oversize}
 use Rattle.expression.proofs.Classes.{brackets}
 use Rattle.expression.proofs.Lengths.{row_length_of_record}
 use Rattle.expression.proofs.Numbers.{first_append, first_refused}
+use Rattle.record.specs.Checks.{row_length}
 use Rattle.record.specs.Front.{front}
 use Rattle.record.specs.Rows.{Writes}
 use Rattle.record.specs.Answers.{Yields}
@@ -43,6 +44,12 @@ module _ (ops : Operators) (bytes before : List ℕ) where
 
   pub too_long : {r : Refusal} → (r ≡ Oversize) × (most_record_bytes < length bytes) → Yields ops bytes before before (record { number = number_of r; length = 0 })
   too_long (e, h) = rw e (refused (numbering.too_long ops bytes h) (λ z. omega arith))
+
+  pub row_over : {v : ℕ} → v ≡ row_length bytes → most_tokens < v → record_number ops bytes ≡ accepted → ⊥
+  row_over v l e = let (t, a) = accepted_tree ops bytes e in omega (arith, a.row_fits, a.row_is)
+
+  pub row_too_long : {v n : ℕ} → v ≡ row_length bytes → most_tokens < v → n ≡ record_number ops bytes → Yields ops bytes before before (record { number = n; length = 0 })
+  row_too_long v l e = refused e (λ z. row_over v l (sym e ∙ z))
 
   module _ {r : Option ℕ} {row : List ℕ} (h : Writes ops (front (length bytes) bytes) 0 [] row r) where
     on_bytes : Writes ops bytes 0 [] row r
@@ -88,4 +95,4 @@ module _ (ops : Operators) (bytes before : List ℕ) where
             output = rw a.read (output ∙ ap (λ d. d ++ drop (length d) before) e);
           }
 
-pub ruleset yield_row_ways = (too_long, not_accepted, flawed, too_short, yielded, rules)
+pub ruleset yield_row_ways = (too_long, row_over, row_too_long, not_accepted, flawed, too_short, yielded, rules)

@@ -36,11 +36,14 @@ pub enum Node {
     Prefix(u8),
 }
 
-// The node of a byte, under the sheet's operators; none where it begins no tree.
+// The node of a byte, under the sheet's operators; none where it begins no tree. Readings come first, since half of a record's bytes are such.
 #[tactic(auto, using(crate::proofs::Nodes::node_of_ways))]
 pub fn node_of(sheet: &Sheet, byte: u8) -> Option<Node>
     ensures { result ≡ node_of (class (operators_of sheet.now) byte) byte }
 {
+    if token::FIRST_READING <= byte {
+        return Some(Node::Reading(byte));
+    }
     if byte < token::OPENING {
         if sheet.operator_count() <= byte {
             return None;
@@ -52,7 +55,6 @@ pub fn node_of(sheet: &Sheet, byte: u8) -> Option<Node>
     }
     match byte {
         token::OPENING => Some(Node::Bracket),
-        token::FIRST_READING.. => Some(Node::Reading(byte)),
         _ => None,
     }
 }
@@ -105,6 +107,10 @@ pub fn yield_row(sheet: &Sheet, bytes: &[u8], out: &mut [u8]) -> Result<usize, R
     ensures { Yields (operators_of sheet.now) bytes.now out.old out.new (answer_of result) }
 {
     let record = Record::new(sheet, bytes)?;
+    // A row that is too long is not walked: so no walk goes deeper than an accepted record leads.
+    if limits::MOST_TOKENS < record.row_length() {
+        return Err(record.flaw());
+    }
     let mut row = Tokens::new();
     if record.write_row(bytes.len(), 0, &mut row) != Some(bytes.len()) {
         return Err(record.flaw());

@@ -18,9 +18,11 @@ impl Record<'_> {
         ensures writes { Writes (operators_of self.now.sheet.now) (front size self.now.bytes.now) from row.old row.new result }
         ensures onward { IfSome result (λ to. from < to) }
     {
+        // A copy, so that the loop reads through no reference but the bytes'.
+        let record = *self;
         let mut at = from;
         loop {
-            match self.node(size, at)? {
+            match record.node(size, at)? {
                 Node::Reading(a) => {
                     row.push(a)?;
                     return Some(at + 1);
@@ -35,16 +37,16 @@ impl Record<'_> {
                     row.push(p)?;
                     at += 1;
                 }
-                Node::Operator(o) => {
-                    at = match self.node(size - 1, at + 1) {
-                        Some(Node::Reading(a)) => {
-                            row.push(a)?;
-                            at + 2
-                        }
-                        _ => self.write_row(size - 1, at + 1, row)?,
-                    };
-                    row.push(o)?;
-                }
+                Node::Operator(o) => match record.node(size - 1, at + 1) {
+                    Some(Node::Reading(a)) => {
+                        row.push_two(a, o)?;
+                        at += 2;
+                    }
+                    _ => {
+                        at = self.write_row(size - 1, at + 1, row)?;
+                        row.push(o)?;
+                    }
+                },
             }
         }
     }

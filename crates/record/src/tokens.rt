@@ -1,5 +1,5 @@
 // A row that a walk writes: as many tokens as a row has at most.
-ghost use Rattle.std.specs.Prelude.{◌≡◌, ◌≤◌, ℕ, List, [], ◌∷◌, ◌++◌, length, take, MatchOption};
+ghost use Rattle.std.specs.Prelude.{◌≡◌, ◌<◌, ◌≤◌, ◌+◌, ℕ, List, [], ◌∷◌, ◌++◌, length, take, MatchOption};
 ghost use Rattle.expression.specs.Limits.{most_tokens};
 
 use expression::limits::MOST_TOKENS;
@@ -35,11 +35,27 @@ impl Tokens {
         ensures { MatchOption result ((most_tokens ≤ length self.old) × (self.new ≡ self.old))
             (λ _. (length self.new ≤ most_tokens) × (self.new ≡ self.old ++ token ∷ [])) }
     {
-        if MOST_TOKENS <= self.length {
+        let at = self.length;
+        if MOST_TOKENS <= at {
             return None;
         }
-        self.bytes[self.length] = token;
-        self.length += 1;
+        self.bytes[at] = token;
+        self.length = at + 1;
+        Some(())
+    }
+
+    // Two more tokens, if there is room for both.
+    pub fn push_two(&mut self, first: u8, second: u8) -> Option<()>
+        ensures { MatchOption result ((most_tokens < length self.old + 2) × (self.new ≡ self.old))
+            (λ _. (length self.new ≤ most_tokens) × (self.new ≡ self.old ++ first ∷ second ∷ [])) }
+    {
+        let at = self.length;
+        if MOST_TOKENS - 1 <= at {
+            return None;
+        }
+        self.bytes[at] = first;
+        self.bytes[at + 1] = second;
+        self.length = at + 2;
         Some(())
     }
 
