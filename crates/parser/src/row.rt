@@ -90,11 +90,13 @@ impl<'a> Row<'a> {
         let mut next = at;
         'parts: loop {
             let from = self.pairs_end(next);
-            if self.token_at(from) == Some(Token::Prefix) {
+            let Some(end) = self.operand_end(from) else {
+                if self.token_at(from) != Some(Token::Prefix) {
+                    return None;
+                }
                 next = from + 1;
                 continue;
-            }
-            let end = self.operand_end(from)?;
+            };
             if self.token_at(end) != Some(Token::Operator) {
                 return Some(end);
             }

@@ -5,21 +5,21 @@ use Rattle.parser.proofs.ReaderWays.{token_inside, here_is, none_read, other_rea
 use Rattle.parser.proofs.ReaderWays.{led, prefix_led, operator_led}
 use Rattle.parser.proofs.row.Row.+readers.Goals as goal
 
-pub expression_end-parts-smaller-then-eq : goal.expression_end-parts-smaller-then-eq
-expression_end-parts-smaller-then-eq t c =
+pub expression_end-parts-smaller-in_default : goal.expression_end-parts-smaller-in_default
+expression_end-parts-smaller-in_default t c =
     let prefix_token : c.token_at.result ≡ Some Prefix = search rules in
     let inside = token_inside _ _ _ (sym c.token_at.ensures ∙ prefix_token) in
     search rules
 
-pub expression_end-parts-preserved-then-eq : goal.expression_end-parts-preserved-then-eq
-expression_end-parts-preserved-then-eq t c =
+pub expression_end-parts-preserved-in_default : goal.expression_end-parts-preserved-in_default
+expression_end-parts-preserved-in_default t c =
     let prefix_token : c.token_at.result ≡ Some Prefix = search rules in
     led _ _ c.parts.invariant (prefix_led _ _ c.pairs_end-from.ensures (sym c.token_at.ensures ∙ prefix_token))
 
 pub expression_end-parts-preserved : goal.expression_end-parts-preserved
 expression_end-parts-preserved t c =
     let operator : c.token_at-in-parts.result ≡ Some Operator = search rules in
-    led _ _ c.parts.invariant (operator_led _ _ c.pairs_end-from.ensures c.in_ok-end.ensures (sym c.token_at-in-parts.ensures ∙ operator))
+    led _ _ c.parts.invariant (operator_led _ _ c.pairs_end-from.ensures c.in-Some.ensures (sym c.token_at-in-parts.ensures ∙ operator))
 
 pub operand_end-returns-in_err-token_at : goal.operand_end-returns-in_err-token_at
 operand_end-returns-in_err-token_at t c = rw c.from_residual.ensures (none_read _ _ _ c.in_err-token_at.ensures)
